@@ -1,0 +1,6 @@
+pub mod StateLaws
+pub mod GrowthLaws
+pub mod DurableLaws
+pub mod FreshLaws
+pub mod MomentLaws
+pub mod CallLaws

@@ -1,0 +1,8 @@
+//! The outside: both devices, the streams, and the one clock over them.
+//!
+//! `Devices` is an NVM of lines and a disk of blocks; `World` adds the settings, the script and the output.
+#![tactic(auto)]
+
+mod traits;
+
+pub use traits::{Devices, Failed, World};
