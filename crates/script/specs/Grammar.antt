@@ -1,0 +1,21 @@
+-- The forms of a line of a script.
+use Rattle.std.specs.Prelude.{codes, ℕ, List, [], ◌∷◌, ◌++◌, map, decimal, Option}
+use Rattle.script.specs.Lines.{lines}
+use Rattle.script.specs.Fields.{space}
+use Rattle.script.specs.Shapes.{key_value, one_key}
+use Rattle.script.specs.Forms.{read_by}
+use Rattle.script.specs.declared.command.Command.{Command}
+use Rattle.script.specs.declared.command.Command.TheVariants.{Put, Get}
+
+-- how a command is written
+abbrev pub spelling : Command → List ℕ
+spelling (Put k v) = codes "put " ++ (decimal k ++ space ∷ v)
+spelling (Get k) = codes "get " ++ decimal k
+
+-- the command that a line is, where it is of a form and has at most 1,024 bytes
+abbrev pub command_of : List ℕ → Option Command
+command_of line = read_by ((codes "put", key_value Put) ∷ (codes "get", one_key Get) ∷ []) line
+
+-- the commands of a script: of each line that is not silent, in order
+abbrev pub commands : List ℕ → List (Option Command)
+commands bytes = map command_of (lines bytes)
