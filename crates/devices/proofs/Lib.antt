@@ -4,3 +4,4 @@ pub mod DurableLaws
 pub mod FreshLaws
 pub mod MomentLaws
 pub mod CallLaws
+pub mod WorldLaws

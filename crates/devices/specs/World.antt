@@ -164,3 +164,11 @@ pub record Sends {E : Type 0} (old new : Standing) (bytes : List ℕ) (result : 
   pub ok : IsTrue old.told → IfOk result (λ n. sent new ≡ sent old ++ take n bytes)
   pub within : IsTrue old.told → IfOk result (λ n. MomentsSent old new (λ s out. (k : ℕ) × (k ≤ n) × (out ≡ sent old ++ take k bytes)))
   pub err : IsTrue old.told → OnErr result (MomentsSent old new (λ s out. out ≡ sent old))
+
+-- no count of faults rose
+pub record NoFault (old new : Standing) : Type 0 where
+  pub nvm : new.nvm_faults ≡ old.nvm_faults
+  pub ssd : new.ssd_faults ≡ old.ssd_faults
+  pub settings : new.outside.settings_faults ≡ old.outside.settings_faults
+  pub source : new.outside.source_faults ≡ old.outside.source_faults
+  pub sink : new.outside.sink_faults ≡ old.outside.sink_faults
