@@ -2,7 +2,14 @@
 #![tactic(auto)]
 
 mod command;
+mod laws;
+mod numbers;
+mod read;
+mod reply;
 mod value;
 
 pub use command::{Command, Reason, Reply};
+pub use laws::one_grammar;
+pub use read::{is_silent, read_line};
+pub use reply::reply_text;
 pub use value::Value;

@@ -1,0 +1,6 @@
+pub mod NumbersLaws
+pub mod FieldsLaws
+pub mod ShapesLaws
+pub mod GrammarLaws
+pub mod RunsLaws
+pub mod OutputLaws
