@@ -1,6 +1,6 @@
 -- What was acknowledged, and what strip leaves, as the output grows.
-use Rattle.std.proofs.Common.{◌≡◌, ℕ, ◌+◌, ◌≤◌, Bool, true, false, cond, List, [], ◌∷◌, ◌++◌, zero-add, refl, ap, sym, ◌∙◌, arith, append_assoc, inl, inr}
-use Rattle.std.proofs.lemmas.List.{append-nil}
+use Rattle.std.proofs.Common.{◌≡◌, ℕ, ◌+◌, ◌≤◌, Bool, true, false, cond, List, [], ◌∷◌, ◌++◌, zero-add, refl, ap, sym, ◌∙◌, arith, append_assoc, inl, inr, subst, take, drop}
+use Rattle.std.proofs.lemmas.List.{append-nil, take-append-drop}
 use Rattle.std.proofs.lemmas.List.Elements.{filter-append}
 use Rattle.std.proofs.lemmas.Bool.{cases_Bool, eqb-true, ne_eqb}
 use Rattle.std.specs.Prelude.{codes, not, ◌==◌, ◌&&◌, ◌||◌, nat_eq, filter, flat_map, count_by}
@@ -8,7 +8,7 @@ use Rattle.std.specs.List.{onto_first, starts_with}
 use Rattle.std.proofs.lemmas.List.Sums.{sum_by-append}
 use Rattle.std.proofs.lemmas.List.Concat.{flat_map-append}
 use Rattle.script.specs.Lines.{line_feed, has_line_feed}
-use Rattle.script.specs.Output.{pieces, is_aside, strip, acknowledges, acked}
+use Rattle.script.specs.Output.{IsWhole, no_line, whole_lines, pieces, is_aside, strip, acknowledges, acked}
 
 abbrev pub IsPrefix : List ℕ → List ℕ → Type 0
 IsPrefix xs ys = (more : List ℕ) × (xs ++ more ≡ ys)
@@ -199,3 +199,28 @@ count-filter (p ∷ ps) =
 -- so the replies alone acknowledge what the output does
 pub acked-strip : (xs : List ℕ) → acked (strip xs) ≡ acked xs
 acked-strip xs = ap (λ ps. count_by acknowledges ps) (pieces-strip xs) ∙ count-filter (pieces xs)
+
+-- ---- whole lines
+
+pub IsWhole-empty : IsWhole []
+IsWhole-empty = no_line
+
+pub IsWhole-line : (bytes : List ℕ) → IsWhole (bytes ++ line_feed ∷ [])
+IsWhole-line bytes = whole_lines bytes refl
+
+pub IsWhole-append : {xs ys : List ℕ} → IsWhole xs → IsWhole ys → IsWhole (xs ++ ys)
+IsWhole-append {xs = xs} x no_line = subst IsWhole (sym (append-nil xs)) x
+IsWhole-append {xs = xs} x (whole_lines front e) = whole_lines (xs ++ front) (ap (λ l. xs ++ l) e ∙ sym (append_assoc xs front (line_feed ∷ [])))
+
+-- behind whole lines the acknowledgements are counted anew
+pub acked-whole : {xs : List ℕ} (ys : List ℕ) → IsWhole xs → acked (xs ++ ys) ≡ acked xs + acked ys
+acked-whole ys no_line = sym (zero-add (acked ys))
+acked-whole ys (whole_lines front e) = rw e (acked-append front ys)
+
+pub strip-whole : {xs : List ℕ} (ys : List ℕ) → IsWhole xs → strip (xs ++ ys) ≡ strip xs ++ strip ys
+strip-whole ys no_line = refl
+strip-whole ys (whole_lines front e) = rw e (strip-append front ys)
+
+-- the first bytes of the output acknowledge no more than the whole
+pub acked-take : (k : ℕ) (bytes : List ℕ) → acked (take k bytes) ≤ acked bytes
+acked-take k bytes = subst (λ (all : List ℕ). acked (take k bytes) ≤ acked all) (take-append-drop k bytes) (acked_prefix (take k bytes) (drop k bytes))

@@ -10,8 +10,8 @@ pieces (b ∷ bs) = if b == line_feed then (b ∷ []) ∷ pieces bs else onto_fi
 
 -- Nothing, or lines of which the last one has its line feed.
 pub data IsWhole : List ℕ → Type 0 where
-  nothing : IsWhole []
-  whole : {bytes : List ℕ} (front : List ℕ) → bytes ≡ front ++ line_feed ∷ [] → IsWhole bytes
+  no_line : IsWhole []
+  whole_lines : {bytes : List ℕ} (front : List ℕ) → bytes ≡ front ++ line_feed ∷ [] → IsWhole bytes
 
 -- a line of the trace, of the tally or of damage
 abbrev pub is_aside : List ℕ → Bool
