@@ -9,6 +9,7 @@ use Rattle.std.proofs.lemmas.List.Elements.{filter-append}
 use Rattle.std.specs.Prelude.{nat_lt, not, ◌==◌, map, filter}
 use Rattle.std.specs.List.{slice_split, onto_first, position, position_or_len}
 use Rattle.script.specs.Lines.{line_feed, has_line_feed, IsOneLine, parts, is_silent, lines}
+use Rattle.script.specs.Output.{IsWhole, no_line, whole_lines}
 use Rattle.script.specs.Forms.{longest_line}
 use Rattle.script.specs.Grammar.{command_of}
 use Rattle.script.specs.Grammar.{commands}
@@ -63,6 +64,11 @@ commands-ended xs = ap (λ ls. map command_of ls) (lines-ended xs)
 pub commands-append_ended : (xs ys : List ℕ) → commands ((xs ++ line_feed ∷ []) ++ ys) ≡ commands (xs ++ line_feed ∷ []) ++ commands ys
 commands-append_ended xs ys =
     ap commands (append_assoc xs (line_feed ∷ []) ys) ∙ commands-append xs ys ∙ ap (λ cs. cs ++ commands ys) (sym (commands-ended xs))
+
+-- whole lines, and what follows them
+pub commands-whole : {xs : List ℕ} (ys : List ℕ) → IsWhole xs → commands (xs ++ ys) ≡ commands xs ++ commands ys
+commands-whole ys no_line = refl
+commands-whole ys (whole_lines front e) = rw e (commands-append_ended front ys)
 
 -- ---- one line
 

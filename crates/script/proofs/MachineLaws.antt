@@ -1,10 +1,11 @@
 -- The plain machine: what its steps keep, and what they reply.
-use Rattle.std.proofs.Common.{◌≡◌, ℕ, ◌+◌, Bool, true, false, cond, List, [], ◌∷◌, ◌++◌, length, zero-add, add-zero, refl, ap, sym, ◌∙◌, arith, length-append, Option, Some, None}
+use Rattle.std.proofs.Common.{◌≡◌, ℕ, ◌+◌, ◌<◌, ◌≤◌, Bool, true, false, cond, List, [], ◌∷◌, ◌++◌, length, zero-add, add-zero, refl, ap, sym, ◌∙◌, arith, length-append, Option, Some, None}
+use Rattle.std.proofs.lemmas.Bool.{le-leb, lt-leb}
 use Rattle.std.proofs.lemmas.List.Sums.{sum_by-append}
 use Rattle.std.specs.Prelude.{nat_le, ◌==◌, ◌||◌, count_by, IfSome}
 use Rattle.std.specs.List.{list_any, AllByRecursion}
 use Rattle.script.specs.Names.{IsValue}
-use Rattle.script.specs.Grammar.{IsCommand, commands}
+use Rattle.script.specs.Grammar.{IsCommand, command_of, commands}
 use Rattle.script.specs.Replies.{IsReply, text, is_committed}
 use Rattle.script.specs.Output.{acked}
 use Rattle.script.specs.Runs as run
@@ -15,7 +16,8 @@ use Rattle.script.specs.declared.command.Command.TheVariants.{Put, Get}
 use Rattle.script.specs.declared.command.Reply.{Reply}
 use Rattle.script.specs.declared.command.Reply.TheVariants.{Committed, Refused}
 use Rattle.script.specs.declared.command.Reason.TheVariants.{Full}
-use Rattle.script.proofs.GrammarLaws.{IsCommand-script}
+use Rattle.script.proofs.RunsLaws.{after_so_far, after_next}
+use Rattle.script.proofs.GrammarLaws.{IsCommand-read, IsCommand-script}
 use Rattle.script.proofs.RepliesLaws.{acked-text}
 
 -- ---- a step
@@ -58,6 +60,14 @@ pub step_length : (s : State) (c : Option Command) → length (step s c).0.rows 
 step_length s None = sym (add-zero (length s.rows))
 step_length s (Some (Put k v)) = by_put (λ r. length r.0.rows ≡ length s.rows + cond (tells r) 1 0) s k v (sym (add-zero (length s.rows))) (length-append s.rows ((k, v) ∷ []))
 step_length s (Some (Get k)) = rw (get_untold s k) (sym (add-zero (length s.rows)))
+
+-- a put where there is room, and where there is none
+pub step_room : (s : State) (k : ℕ) (v : List ℕ) → length s.rows < most_rows →
+    step s (Some (Put k v)) ≡ (record { rows = s.rows ++ (k, v) ∷ []; puts = s.puts + 1 }, Committed (s.puts + 1) ∷ [])
+step_room s k v h = rw (lt-leb most_rows (length s.rows) h) refl
+
+pub step_full : (s : State) (k : ℕ) (v : List ℕ) → most_rows ≤ length s.rows → step s (Some (Put k v)) ≡ (s, Refused Full ∷ [])
+step_full s k v h = rw (le-leb most_rows (length s.rows) h) refl
 
 -- ---- rows and replies that can be written
 
@@ -150,7 +160,28 @@ count_commits s (c ∷ cs) =
     ∙ elim (tells (step s c)) as (λ b. cond b 1 0 + count_by is_committed (run.replies machine after cs) ≡ length (cond b (after.rows ∷ run.versions machine after cs) (run.versions machine after cs)))
     [ true ↦ let ih = count_commits after cs in omega (arith, ih) | false ↦ zero-add _ ∙ count_commits after cs ]
 
+-- what one step says acknowledges its commit
+pub acked-step : (s : State) (c : Option Command) → AreRows s.rows → acked (text (step s c).1) ≡ cond (tells (step s c)) 1 0
+acked-step s c h = acked-text (step s c).1 (IsReply-step s c h) ∙ one_commit s c
+
+-- ---- lines
+
+-- a line of a script keeps the rows such as can be written
+pub AreRows-line : (s : State) (line : List ℕ) → AreRows s.rows → AreRows (step s (command_of line)).0.rows
+AreRows-line s line h = AreRows-step s (command_of line) h (IsCommand-read line)
+
 -- ---- scripts
+
+-- after the commits so far the rows that are reached stand, whatever follows
+pub rows_so_far : (rows : Rows) (xs ys : List (Option Command)) →
+    run.after machine (opening rows) (xs ++ ys) (run.commits machine (opening rows) xs) ≡ (run.state_after machine (opening rows) xs).rows
+rows_so_far rows xs ys = after_so_far machine step_keeps (opening rows) xs ys
+
+-- and after one commit more those that the step leaves which tells of it
+pub rows_next : (rows : Rows) (xs : List (Option Command)) (c : Option Command) (ys : List (Option Command)) →
+    tells (step (run.state_after machine (opening rows) xs) c) ≡ true →
+    run.after machine (opening rows) (xs ++ c ∷ ys) (run.commits machine (opening rows) xs + 1) ≡ (step (run.state_after machine (opening rows) xs) c).0.rows
+rows_next rows xs c ys h = after_next machine step_keeps (opening rows) xs c ys h
 
 pub IsReply-script : (rows : Rows) (script : List ℕ) → AreRows rows → AllByRecursion IsReply (replies rows script)
 IsReply-script rows script h = IsReply-run (opening rows) (commands script) h (IsCommand-script script)

@@ -88,6 +88,9 @@ pub IsWhole-text : (rs : List Reply) → IsWhole (text rs)
 IsWhole-text [] = IsWhole-empty
 IsWhole-text (r ∷ rs) = IsWhole-append (IsWhole-reply r) (IsWhole-text rs)
 
+pub text_one : (r : Reply) → text (r ∷ []) ≡ reply_text r
+text_one r = append-nil (reply_text r)
+
 -- one reply acknowledges one commit where it tells of it, and else none
 pub acked-reply : (r : Reply) → IsReply r → acked (reply_text r) ≡ (if is_committed r then 1 else 0)
 acked-reply r h =

@@ -8,6 +8,9 @@ mod read;
 mod reply;
 mod value;
 
+#[cfg(test)]
+mod tests;
+
 pub use command::{Command, Reason, Reply};
 pub use laws::one_grammar;
 pub use read::{is_silent, read_line};
