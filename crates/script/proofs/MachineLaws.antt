@@ -7,7 +7,7 @@ use Rattle.std.specs.List.{list_any, AllByRecursion}
 use Rattle.script.specs.Names.{IsValue}
 use Rattle.script.specs.Grammar.{IsCommand, command_of, commands}
 use Rattle.script.specs.Replies.{IsReply, text, is_committed}
-use Rattle.script.specs.Output.{acked}
+use Rattle.script.specs.Output.{strip, acked}
 use Rattle.script.specs.Runs as run
 use Rattle.script.specs.Machine.{Rows, AreRows, State, opening, either, last_value, found, most_rows, step, machine}
 use Rattle.script.specs.Script.{replies, commits}
@@ -18,7 +18,7 @@ use Rattle.script.specs.declared.command.Reply.TheVariants.{Committed, Refused}
 use Rattle.script.specs.declared.command.Reason.TheVariants.{Full}
 use Rattle.script.proofs.RunsLaws.{after_so_far, after_next}
 use Rattle.script.proofs.GrammarLaws.{IsCommand-read, IsCommand-script}
-use Rattle.script.proofs.RepliesLaws.{acked-text}
+use Rattle.script.proofs.RepliesLaws.{strip-text, acked-text}
 
 -- ---- a step
 
@@ -189,3 +189,7 @@ IsReply-script rows script h = IsReply-run (opening rows) (commands script) h (I
 -- the text of the replies acknowledges every commit
 pub acked-replies : (rows : Rows) (script : List ℕ) → AreRows rows → acked (text (replies rows script)) ≡ commits rows script
 acked-replies rows script h = acked-text (replies rows script) (IsReply-script rows script h) ∙ count_commits (opening rows) (commands script)
+
+-- and none of it stands aside
+pub strip-replies : (rows : Rows) (script : List ℕ) → AreRows rows → strip (text (replies rows script)) ≡ text (replies rows script)
+strip-replies rows script h = strip-text (replies rows script) (IsReply-script rows script h)

@@ -69,7 +69,12 @@ fn is_text(reply: &Reply, text: &[u8]) -> bool {
 fn writes_replies(rt: HostRuntime) {
     assert!(rt; is_text(&Reply::Absent, b"none\n"));
     assert!(rt; is_text(&Reply::Committed(1), b"committed 1\n"));
-    assert!(rt; is_text(&Reply::Committed(18446744073709551615), b"committed 18446744073709551615\n"));
+    assert!(rt;
+        is_text(
+            &Reply::Committed(18446744073709551615),
+            b"committed 18446744073709551615\n"
+        )
+    );
     assert!(rt; is_text(&Reply::Refused(Reason::Form), b"refused line\n"));
     assert!(rt; is_text(&Reply::Refused(Reason::Full), b"refused full\n"));
     match Value::from_bytes(b"x ") {
