@@ -10,3 +10,4 @@ pub mod Runs
 pub mod Machine
 pub mod Script
 pub mod Output
+pub mod Laws

@@ -1,5 +1,5 @@
 -- What was written to the output, as lines.
-use Rattle.std.specs.Prelude.{codes, ℕ, Bool, false, not, ◌&&◌, ◌||◌, ◌==◌, nat_eq, List, [], ◌∷◌, flat_map, filter, count_by, if◌then◌else◌}
+use Rattle.std.specs.Prelude.{◌≡◌, codes, ℕ, Bool, false, not, ◌&&◌, ◌||◌, ◌==◌, nat_eq, List, [], ◌∷◌, ◌++◌, flat_map, filter, count_by, if◌then◌else◌}
 use Rattle.script.specs.Lines.{line_feed}
 use Rattle.std.specs.List.{onto_first, starts_with, list_any}
 
@@ -7,6 +7,11 @@ use Rattle.std.specs.List.{onto_first, starts_with, list_any}
 abbrev pub pieces : List ℕ → List (List ℕ)
 pieces [] = []
 pieces (b ∷ bs) = if b == line_feed then (b ∷ []) ∷ pieces bs else onto_first b (pieces bs)
+
+-- Nothing, or lines of which the last one has its line feed.
+pub data IsWhole : List ℕ → Type 0 where
+  no_line : IsWhole []
+  whole_lines : {bytes : List ℕ} (front : List ℕ) → bytes ≡ front ++ line_feed ∷ [] → IsWhole bytes
 
 -- a line of the trace, of the tally or of damage
 abbrev pub is_aside : List ℕ → Bool

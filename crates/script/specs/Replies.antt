@@ -1,10 +1,16 @@
 -- The texts of replies.
 use Rattle.std.specs.Prelude.{codes, ℕ, Bool, true, false, List, ◌++◌, flat_map, decimal}
+use Rattle.script.specs.Names.{IsValue}
 use Rattle.script.specs.Lines.{ended}
 use Rattle.script.specs.declared.command.Reply.{Reply}
 use Rattle.script.specs.declared.command.Reply.TheVariants.{Found, Absent, Committed, Refused}
 use Rattle.script.specs.declared.command.Reason.{Reason}
 use Rattle.script.specs.declared.command.Reason.TheVariants.{Form, Full}
+
+-- a value in a reply is one
+abbrev pub IsReply : Reply → Type 0
+IsReply (Found v) = IsValue v
+IsReply _ = Unit {0}
 
 -- the word of a refusal
 abbrev pub reason_word : Reason → List ℕ
