@@ -1,5 +1,5 @@
 -- Laws of the entries of written blocks.
-use Rattle.std.proofs.Common.{◌≡◌, ◌≢◌, ℕ, ◌+◌, ◌≤◌, ◌<◌, true, false, Option, Some, None, List, refl, sym, ap, ◌∙◌, subst, inl, inr, arith, ltb, eqb, cond, IsTrue, Result, Ok, Err}
+use Rattle.std.proofs.Common.{◌≡◌, ℕ, ◌+◌, ◌≤◌, false, Option, Some, None, List, refl, sym, ap, ◌∙◌, subst, inl, inr, arith, ltb, IsTrue, Result, Ok, Err}
 use mathlib.Core.Path.{fun_ext}
 use Rattle.std.specs.Prelude.{OnOk, OnErr}
 use Rattle.std.specs.Option.{ForSome, option_map}
@@ -11,7 +11,7 @@ use Rattle.std.specs.Ordering.{nat_cmp}
 use Rattle.ssd_model.specs.declared.choice.BlockChoice.{BlockChoice}
 use Rattle.ssd_model.specs.Choose.{chosen_bytes}
 use Rattle.ssd_model.specs.declared.sector.Sector.{Sector}
-use Rattle.ssd_model.specs.Block.{Block, Disk, zero_disk, settled_block, with_block, all_settled}
+use Rattle.ssd_model.specs.Block.{zero_disk, settled_block, with_block, all_settled}
 use Rattle.ssd_model.specs.Sectors.{block_in, synced_in, disk_in, synced_disk_in, restarted, IsWritten, Writes, SameSectors, AreUpTo, AreRestarted}
 
 -- what both outcomes give
