@@ -1,2 +1,3 @@
 pub mod Layout
 pub mod InOrder
+pub mod Record

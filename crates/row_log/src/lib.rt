@@ -1,2 +1,7 @@
-//! A log of rows in NVM: a record of eight lines is durable before the gate counts it.
+//! A log of rows in NVM.
 #![tactic(auto)]
+
+mod errors;
+mod record;
+
+pub use errors::{FormatError, OpenError};
