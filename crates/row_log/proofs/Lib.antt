@@ -1,1 +1,3 @@
 pub mod RecordLaws
+pub mod StepLaws
+pub mod LayoutLaws

@@ -1,3 +1,4 @@
 pub mod Layout
 pub mod InOrder
 pub mod Record
+pub mod Steps

@@ -3,5 +3,6 @@
 
 mod errors;
 mod record;
+mod staging;
 
 pub use errors::{FormatError, OpenError};

@@ -2,6 +2,7 @@
 //! `j % 8` of word `2 + j / 8`, little-endian. Bytes behind the value are 0.
 ghost use Rattle.std.specs.Prelude.{◌≡◌, ◌+◌, ◌-◌, ◌*◌, ◌<◌, ◌≤◌, ◌++◌, length, take, drop, replicate};
 ghost use Rattle.row_log.specs.Record.{IsRecord, row_in};
+ghost use Rattle.row_log.specs.Steps.{line_in};
 
 use byteorder::{ByteOrder, LittleEndian};
 use nvm_model::Line;
@@ -90,7 +91,7 @@ pub fn row_of(words: &[u64; 64]) -> Option<Row>
 /// One of the eight lines of a record.
 pub fn line_of(words: &[u64; 64], place: usize) -> Line
     requires { place < 8 }
-    ensures { result.words ≡ take 8 (drop (8 * place) words.now) }
+    ensures { result ≡ line_in words.now place }
 {
     let mut line = Line {
         words: [0; 8],
