@@ -66,7 +66,8 @@ pub rows_of-same : (a b : Words) → a 0 0 ≡ b 0 0 → gate a ≡ gate b → S
 rows_of-same a b m g same =
     let sound : are_rows a (gate a) ≡ are_rows b (gate b) = are_rows-same a b (gate a) same ∙ ap (are_rows b) g in
     let rows : rows_below a (gate a) ≡ rows_below b (gate b) = rows_below-same a b (gate a) same ∙ ap (rows_below b) g in
-    rows_of-is a ∙ cc ∙ sym (rows_of-is b)
+    let middle : log_from (a 0 0) (gate a) (are_rows a (gate a)) (rows_below a (gate a)) ≡ log_from (b 0 0) (gate b) (are_rows b (gate b)) (rows_below b (gate b)) = cc in
+    rows_of-is a ∙ middle ∙ sym (rows_of-is b)
 
 -- What it says that words stand for rows.
 pub record IsLog (words : Words) (rows : Rows) : Type 0 where
@@ -75,7 +76,7 @@ pub record IsLog (words : Words) (rows : Rows) : Type 0 where
   pub sound : are_rows words (gate words) ≡ true
   pub are : rows ≡ rows_below words (gate words)
 
-both_true : (a b : Bool) → a && b ≡ true → (a ≡ true) × (b ≡ true)
+pub both_true : (a b : Bool) → a && b ≡ true → (a ≡ true) × (b ≡ true)
 both_true true true e = (refl, refl)
 both_true true false e = cc
 both_true false b e = cc
@@ -113,7 +114,7 @@ AreRows-below words zero e = tt
 AreRows-below words (suc n) e =
     let parts = both_true (are_rows words n) (is_row words n) e in
     let value = both_true (nat_le (record_word words n 1) 480) (is_value (value_at words n)) parts.1 in
-    AreRows-push (rows_below words n) (row_at words n) (AreRows-below words n parts.0) (rw value.1 tt)
+    AreRows-push (rows_below words n) (row_at words n) (AreRows-below words n parts.0) (rw value.1 refl)
 
 -- the rows of a log are rows, and not more than it takes
 pub rows_of-are : (words : Words) (rows : Rows) → rows_of words ≡ Some rows → AreRows rows × (length rows ≤ 256)
@@ -124,11 +125,13 @@ rows_of-are words rows e =
 -- one record more
 pub rows_of-more : (a b : Words) (rows : Rows) (row : ℕ × List ℕ) → IsLog a rows → gate a < 256 → b 0 0 ≡ a 0 0 → gate b ≡ gate a + 1 → SameRecords b a (gate a) → is_row b (gate a) ≡ true → row_at b (gate a) ≡ row
     → rows_of b ≡ Some (rows ++ row ∷ [])
-rows_of-more a b rows row is low m g same sound is_row =
-    let next : gate b ≡ suc (gate a) = g ∙ add-one in
+rows_of-more a b rows row is low m g same passes found =
+    let next : gate b ≡ suc (gate a) = g ∙ add-one (gate a) in
     rows_of-from b (rows ++ row ∷ []) record {
       magic_word = m ∙ is.magic_word;
       few = omega arith;
-      sound = ap (are_rows b) next ∙ rw (are_rows-same b a (gate a) same ∙ is.sound, sound) refl;
-      are = ?;
+      sound = ap (are_rows b) next ∙ rw (are_rows-same b a (gate a) same ∙ is.sound, passes) refl;
+      are = let front = rows_below-same b a (gate a) same in let was = is.are in
+        let whole : rows_below b (suc (gate a)) ≡ rows_below b (gate a) ++ row_at b (gate a) ∷ [] = refl in
+        ap (λ (xs : Rows). xs ++ row ∷ []) (was ∙ sym front) ∙ ap (λ (x : ℕ × List ℕ). rows_below b (gate a) ++ x ∷ []) (sym found) ∙ sym (ap (rows_below b) next ∙ whole);
     }

@@ -1,3 +1,6 @@
 pub mod RecordLaws
 pub mod StepLaws
 pub mod LayoutLaws
+pub mod RecordAtLaws
+pub mod OrderLaws
+pub mod PutLaws
