@@ -105,7 +105,7 @@ length-rows_below words (suc n) = length_push (rows_below words n) (row_at words
 pub gate_counts : (words : Words) (rows : Rows) → IsLog words rows → gate words ≡ length rows
 gate_counts words rows is = sym (ap (λ (xs : Rows). length xs) is.are ∙ length-rows_below words (gate words))
 
-AreRows-push : (rows : Rows) (row : ℕ × List ℕ) → AreRows rows → IsValue row.1 → AreRows (rows ++ row ∷ [])
+pub AreRows-push : (rows : Rows) (row : ℕ × List ℕ) → AreRows rows → IsValue row.1 → AreRows (rows ++ row ∷ [])
 AreRows-push [] row h v = (v, tt)
 AreRows-push (x ∷ xs) row h v = (h.0, AreRows-push xs row h.1 v)
 

@@ -4,3 +4,4 @@ pub mod LayoutLaws
 pub mod RecordAtLaws
 pub mod OrderLaws
 pub mod PutLaws
+pub mod GetLaws

@@ -64,10 +64,10 @@ module _ (s : State) (ws : List ℕ) (n : ℕ) where
   moved_records : (m : ℕ) → SameRecords (words_in (moved s ws n)) (words_in (staged s ws n)) m
   moved_records m = record { records = λ i less. record { words = λ k low. moved_newest (record_line i + k / 8) (k % 8) (λ e. omega arith) } }
 
-  new_record : (row : ℕ × List ℕ) → length ws ≡ 64 → IsRecord ws row → IsValue row.1 → StandsAt (words_in (staged s ws n)) n row
-  new_record row size is value = stands_at (words_in (staged s ws n)) n ws row size (λ k less. ap (λ (x : Word). x.newest) (staged_record k less)) is value
+  new_record : (row : ℕ × List ℕ) → IsRecord ws row → IsValue row.1 → StandsAt (words_in (staged s ws n)) n row
+  new_record row is value = stands_at (words_in (staged s ws n)) n ws row (λ k less. ap (λ (x : Word). x.newest) (staged_record k less)) is value
 
-  module _ (rows : Rows) (row : ℕ × List ℕ) (counts : n ≡ length rows) (room : n < 256) (size : length ws ≡ 64) (is : IsRecord ws row) (value : IsValue row.1) where
+  module _ (rows : Rows) (row : ℕ × List ℕ) (counts : n ≡ length rows) (room : n < 256) (is : IsRecord ws row) (value : IsValue row.1) where
     -- the rows stand on while the record is staged
     staged_rows : rows_of (words_in s) ≡ Some rows → rows_of (words_in (staged s ws n)) ≡ Some rows
     staged_rows stands =
@@ -82,7 +82,7 @@ module _ (s : State) (ws : List ℕ) (n : ℕ) where
         let a = words_in (staged s ws n) in
         let log = rows_of-parts a rows (staged_rows stands) in
         let at : gate a ≡ n = gate_counts a rows log ∙ sym counts in
-        let last = new_record row size is value in
+        let last = new_record row is value in
         let same_last : SameRecord b a n = same.records n (omega arith) in
         let fewer : SameRecords b a (gate a) = record { records = λ i less. same.records i (omega arith) } in
         rows_of-more a b rows row log (omega arith) m (omega arith) fewer
@@ -140,10 +140,10 @@ module _ (s : State) (ws : List ℕ) (n : ℕ) where
           }
 
 -- A put over a device: from old the record is staged, from mid the gate is moved.
-module _ (rows : Rows) (row : ℕ × List ℕ) (ws : List ℕ) (n : ℕ) (old mid : Standing) (counts : n ≡ length rows) (room : n < 256) (size : length ws ≡ 64) (is : IsRecord ws row) (value : IsValue row.1) where
+module _ (rows : Rows) (row : ℕ × List ℕ) (ws : List ℕ) (n : ℕ) (old mid : Standing) (counts : n ≡ length rows) (room : n < 256) (is : IsRecord ws row) (value : IsValue row.1) where
   module _ (order : InOrder (now old) rows) (grows : Moments old mid (Grows (in_record (2 + 8 * n)) no_write (now old))) where
     staging : Moments old mid (HasOrMore rows row)
-    staging = Moments-map (λ s more i leaves. inl (staging_image (now old) ws n rows row counts room size is value order s i more leaves)) grows
+    staging = Moments-map (λ s more i leaves. inl (staging_image (now old) ws n rows row counts room is value order s i more leaves)) grows
 
     pub put_stopped : {T E : Type 0} (r : Result T E) → IsErr r → Puts rows row old mid r
     put_stopped r failed = record { moments = staging; ok = IfOk-from_err r _ failed }
@@ -151,13 +151,13 @@ module _ (rows : Rows) (row : ℕ × List ℕ) (ws : List ℕ) (n : ℕ) (old mi
     pub put_done : {T E : Type 0} (new : Standing) (r : Result T E) → Goes mid new → IsTrue mid.told → now mid ≡ record_stored (2 + 8 * n) ws (now old) → MakesAll (gate_calls 1 0 (n + 1)) mid new r → Puts rows row old new r
     put_done new r goes told stored makes = record {
       moments = Moments-trans goes staging
-          (Moments-map (λ s more i leaves. gate_image (now old) ws n rows row counts room size is value order s i (subst (λ (x : State). Grows (at_gate 1 0 (n + 1)) no_write x s) stored more) leaves)
+          (Moments-map (λ s more i leaves. gate_image (now old) ws n rows row counts room is value order s i (subst (λ (x : State). Grows (at_gate 1 0 (n + 1)) no_write x s) stored more) leaves)
           (gate_grows {r = r} 1 0 (n + 1) told makes));
-      ok = on_ok_weaker r (λ made. subst (λ (x : State). InOrder x (rows ++ row ∷ [])) (sym (made ∙ ap (λ (x : State). gate_moved 1 0 (n + 1) x) stored)) (moved_order (now old) ws n rows row counts room size is value order)) (makes.whole told);
+      ok = on_ok_weaker r (λ made. subst (λ (x : State). InOrder x (rows ++ row ∷ [])) (sym (made ∙ ap (λ (x : State). gate_moved 1 0 (n + 1) x) stored)) (moved_order (now old) ws n rows row counts room is value order)) (makes.whole told);
     }
 
   -- whatever versions stood
-  pub put_holding : {T E : Type 0} (new : Standing) (r : Result T E) → Holds (now old) rows → IsTrue mid.told → now mid ≡ record_stored (2 + 8 * n) ws (now old) → MakesAll (gate_calls 1 0 (n + 1)) mid new r
+  pub put_holding : {T E : Type 0} (new : Standing) (r : Result T E) → Goes old mid → Holds (now old) rows → IsTrue mid.told → now mid ≡ record_stored (2 + 8 * n) ws (now old) → MakesAll (gate_calls 1 0 (n + 1)) mid new r
       → OnOk r (Holds (now new) (rows ++ row ∷ []))
-  put_holding new r holds told stored makes =
-      on_ok_weaker r (λ made. subst (λ (x : State). Holds x (rows ++ row ∷ [])) (sym (made ∙ ap (λ (x : State). gate_moved 1 0 (n + 1) x) stored)) (put_holds (now old) ws n rows row counts room size is value holds)) (makes.whole told)
+  put_holding new r goes holds told stored makes =
+      on_ok_weaker r (λ made. subst (λ (x : State). Holds x (rows ++ row ∷ [])) (sym (made ∙ ap (λ (x : State). gate_moved 1 0 (n + 1) x) stored)) (put_holds (now old) ws n rows row counts room is value holds)) (makes.whole told)

@@ -75,9 +75,9 @@ pub record StandsAt (words : Words) (i : ℕ) (row : ℕ × List ℕ) : Type 0 w
   pub found : row_at words i ≡ row
   pub sound : is_row words i ≡ true
 
-pub stands_at : (words : Words) (i : ℕ) (ws : List ℕ) (row : ℕ × List ℕ) → length ws ≡ 64 → ((k : ℕ) → k < 64 → record_word words i k ≡ slice_index ws k) → IsRecord ws row → IsValue row.1 → StandsAt words i row
-stands_at words i ws row size same is value =
-    let at : record_words words i ≡ ws = record_words-are words ws i size same in
+pub stands_at : (words : Words) (i : ℕ) (ws : List ℕ) (row : ℕ × List ℕ) → ((k : ℕ) → k < 64 → record_word words i k ≡ slice_index ws k) → IsRecord ws row → IsValue row.1 → StandsAt words i row
+stands_at words i ws row same is value =
+    let at : record_words words i ≡ ws = record_words-are words ws i is.whole same in
     let key : record_word words i 0 ≡ row.0 = same 0 (omega arith) ∙ is.key in
     let counts : record_word words i 1 ≡ length row.1 = same 1 (omega arith) ∙ is.size in
     let bytes : value_at words i ≡ row.1 = sym (value_in-words words i) ∙ ap value_in at ∙ record_value ws row is in

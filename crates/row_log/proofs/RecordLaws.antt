@@ -54,6 +54,7 @@ record_is key value padded words is short small size reads =
     let long : length padded ≡ 496 = ap length is ∙ length-append value (replicate (496 - length value) 0) ∙ ap (λ (n : ℕ). length value + n) (length-replicate (496 - length value) 0) ∙ omega arith in
     let below : (i : ℕ) → slice_index padded i < 256 = (λ i. subst (λ (xs : List ℕ). slice_index xs i < 256) (sym is) (append_below value (replicate (496 - length value) 0) small (zeros_below (496 - length value)) i)) in
     record {
+      whole = let behind = ap length (append-nil words) in omega (arith, behind);
       key = refl;
       size = refl;
       bytes = ap (λ (xs : List ℕ). flat_map (to_le_bytes w64) xs) (append-nil words) ∙ read_back words padded (long ∙ omega arith) below reads ∙ is;

@@ -2,3 +2,4 @@ pub mod Layout
 pub mod InOrder
 pub mod Record
 pub mod Steps
+pub mod Kept

@@ -18,8 +18,9 @@ record_words words i = numbers_from (record_word words i) 0 64
 unfoldable pub bytes_of : List ℕ → List ℕ
 bytes_of ws = flat_map (to_le_bytes w64) ws
 
--- The words are those of a row: its key, its length and its bytes, with zeros behind them.
+-- The 64 words are those of a row: its key, its length and its bytes, with zeros behind them.
 pub record IsRecord (ws : List ℕ) (row : ℕ × List ℕ) : Type 0 where
+  pub whole : length ws ≡ 64
   pub key : slice_index ws 0 ≡ row.0
   pub size : slice_index ws 1 ≡ length row.1
   pub bytes : drop 16 (bytes_of ws) ≡ row.1 ++ replicate (496 - length row.1) 0

@@ -3,6 +3,8 @@
 
 mod errors;
 mod record;
+mod rows;
 mod staging;
 
 pub use errors::{FormatError, OpenError};
+pub use rows::RowLog;

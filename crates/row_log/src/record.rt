@@ -1,6 +1,7 @@
 //! The 64 words of a record: word 0 is the key, word 1 the length of the value, and byte j of the value is byte
 //! `j % 8` of word `2 + j / 8`, little-endian. Bytes behind the value are 0.
 ghost use Rattle.std.specs.Prelude.{◌≡◌, ◌+◌, ◌-◌, ◌*◌, ◌<◌, ◌≤◌, ◌++◌, length, take, drop, replicate};
+ghost use Rattle.script.specs.Names.{IsValue};
 ghost use Rattle.row_log.specs.Record.{IsRecord, row_in};
 ghost use Rattle.row_log.specs.Steps.{line_in};
 
@@ -52,7 +53,8 @@ impl Row {
 
 /// The words of a row.
 pub fn words_of(key: u64, value: &Value) -> [u64; 64]
-    ensures { IsRecord result (key, value.now) }
+    ensures words { IsRecord result (key, value.now) }
+    ensures valid { IsValue value.now }
 {
     let bytes = value.bytes();
     let mut words = [0; 64];
