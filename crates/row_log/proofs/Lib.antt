@@ -5,3 +5,4 @@ pub mod RecordAtLaws
 pub mod OrderLaws
 pub mod PutLaws
 pub mod GetLaws
+pub mod FormatLaws

@@ -3,3 +3,4 @@ pub mod InOrder
 pub mod Record
 pub mod Steps
 pub mod Kept
+pub mod Causes
