@@ -1,18 +1,17 @@
 -- A format: no magic word while the gate is made 0, and then the magic word.
-use Rattle.std.proofs.Common.{◌≡◌, ◌≢◌, ◌⊎◌, inl, inr, ℕ, ◌+◌, ◌*◌, ◌/◌, ◌%◌, ◌<◌, ◌≤◌, List, [], ◌∷◌, refl, sym, ap, ◌∙◌, subst, arith, Option, Some, IsTrue, Result, OnOk}
+use Rattle.std.proofs.Common.{◌≡◌, ◌≢◌, inl, inr, ℕ, [], refl, sym, ap, ◌∙◌, subst, arith, Some, IsTrue, Result}
 use Rattle.std.proofs.lemmas.Result.{IfOk-from_err, on_ok_weaker}
 use Rattle.std.specs.Prelude.{IsErr}
-use Rattle.nvm_model.specs.Word.{Word, IsSingle, IsVersion, single, trimmed}
-use Rattle.devices.specs.State.{State, Image, Leaves, fresh, current}
+use Rattle.nvm_model.specs.Word.{Word, single, trimmed}
+use Rattle.devices.specs.State.{State, current}
 use Rattle.devices.specs.World.{Standing, Goes, Moments, MakesAll, now}
 use Rattle.devices.specs.Growth.{Grows, no_write}
 use Rattle.devices.proofs.StateLaws.{single_version}
-use Rattle.devices.proofs.MomentLaws.{Moments-trans, Moments-map, Goes-trans}
-use Rattle.script.specs.Machine.{Rows}
+use Rattle.devices.proofs.MomentLaws.{Moments-trans, Moments-map}
 use Rattle.row_log.specs.Layout.{Words, magic, gate, rows_of, are_rows, rows_below}
 use Rattle.row_log.specs.InOrder.{InOrder, Formats, MayFormat}
 use Rattle.row_log.specs.Steps.{gate_moved}
-use Rattle.row_log.proofs.LayoutLaws.{IsLog, rows_of-from}
+use Rattle.row_log.proofs.LayoutLaws.{rows_of-from}
 use Rattle.row_log.proofs.StepLaws.{gate_made, gate_other, at_gate, gate_calls, gate_grows}
 use Rattle.row_log.proofs.OrderLaws.{fresh_in_order, image_word}
 

@@ -6,3 +6,4 @@ pub mod OrderLaws
 pub mod PutLaws
 pub mod GetLaws
 pub mod FormatLaws
+pub mod OpenLaws

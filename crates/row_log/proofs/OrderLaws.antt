@@ -1,14 +1,14 @@
 -- A store in order: its images are in order, and it holds its rows.
-use Rattle.std.proofs.Common.{◌≡◌, ◌⊎◌, inl, inr, ℕ, zero, suc, ◌+◌, ◌*◌, ◌/◌, ◌%◌, ◌<◌, ◌≤◌, List, [], ◌∷◌, refl, sym, ap, ◌∙◌, subst, arith, Option, Some}
-use Rattle.nvm_model.specs.Word.{Word, IsSingle}
+use Rattle.std.proofs.Common.{◌≡◌, ℕ, ◌+◌, ◌*◌, ◌/◌, ◌%◌, ◌<◌, ◌≤◌, refl, sym, ◌∙◌, subst, arith, Some}
+use Rattle.nvm_model.specs.Word.{IsSingle}
 use Rattle.devices.specs.State.{State, Image, Leaves, fresh, current}
 use Rattle.devices.specs.Growth.{Grows, no_write}
 use Rattle.devices.proofs.StateLaws.{single_version}
 use Rattle.devices.proofs.GrowthLaws.{Grows-version, Grows-refl}
 use Rattle.script.specs.Machine.{Rows}
-use Rattle.row_log.specs.Layout.{Words, magic, gate, record_line, record_word, rows_of}
+use Rattle.row_log.specs.Layout.{gate, record_line, rows_of}
 use Rattle.row_log.specs.InOrder.{InOrder, Holds}
-use Rattle.row_log.proofs.LayoutLaws.{SameRecord, SameRecords, rows_of-same}
+use Rattle.row_log.proofs.LayoutLaws.{SameRecords, rows_of-same}
 
 pub holds_of : (s : State) (rows : Rows) → InOrder s rows → Holds s rows
 holds_of s rows order = record { stands = order.stands }

@@ -1,25 +1,24 @@
 -- A put: the record of the new row is durable before the gate counts it.
-use Rattle.std.proofs.Common.{◌≡◌, ◌≢◌, ◌⊎◌, inl, inr, ℕ, zero, suc, ◌+◌, ◌*◌, ◌/◌, ◌%◌, ◌<◌, ◌≤◌, List, [], ◌∷◌, ◌++◌, length, slice_index, refl, sym, ap, ◌∙◌, subst, arith, Option, Some, IsTrue, Result, OnOk}
+use Rattle.std.proofs.Common.{◌≡◌, ◌≢◌, ◌⊎◌, inl, inr, ℕ, ◌+◌, ◌*◌, ◌/◌, ◌%◌, ◌<◌, List, [], ◌∷◌, ◌++◌, length, slice_index, sym, ap, ◌∙◌, subst, arith, Some, IsTrue, Result, OnOk}
 use Rattle.std.proofs.lemmas.Bool.{cases_lt}
 use Rattle.std.proofs.lemmas.Result.{IfOk-from_err, on_ok_weaker}
 use Rattle.std.specs.Prelude.{IsErr}
-use Rattle.nvm_model.specs.Word.{Word, IsSingle, IsVersion, single, trimmed}
+use Rattle.nvm_model.specs.Word.{Word, IsSingle, single, trimmed}
 use Rattle.devices.specs.State.{State, Image, Leaves, fresh, current}
 use Rattle.devices.specs.World.{Standing, Goes, Moments, MakesAll, now}
 use Rattle.devices.specs.Growth.{Grows, no_write}
 use Rattle.devices.proofs.StateLaws.{single_version, IsSingle-trimmed}
-use Rattle.devices.proofs.GrowthLaws.{Grows-version}
 use Rattle.devices.proofs.MomentLaws.{Moments-trans, Moments-map}
 use Rattle.script.specs.Names.{IsValue}
 use Rattle.script.specs.Machine.{Rows}
-use Rattle.row_log.specs.Layout.{Words, magic, gate, record_line, record_word, rows_of, row_at, is_row}
+use Rattle.row_log.specs.Layout.{Words, gate, record_line, rows_of, row_at, is_row}
 use Rattle.row_log.specs.InOrder.{InOrder, Holds, Puts, HasOrMore}
 use Rattle.row_log.specs.Record.{IsRecord}
 use Rattle.row_log.specs.Steps.{in_record, record_stored, gate_moved}
-use Rattle.row_log.proofs.LayoutLaws.{SameRecord, SameRecords, IsLog, rows_of-same, rows_of-parts, rows_of-more, gate_counts, is_row-same, row_at-same}
+use Rattle.row_log.proofs.LayoutLaws.{SameRecord, SameRecords, rows_of-same, rows_of-parts, rows_of-more, gate_counts, is_row-same, row_at-same}
 use Rattle.row_log.proofs.RecordAtLaws.{StandsAt, stands_at}
 use Rattle.row_log.proofs.StepLaws.{record_made, record_other, gate_made, gate_other, at_gate, gate_calls, gate_grows}
-use Rattle.row_log.proofs.OrderLaws.{fresh_in_order, image_word, AreSingle, IsApart, image_records, image_same}
+use Rattle.row_log.proofs.OrderLaws.{fresh_in_order, image_word, AreSingle, image_records, image_same}
 
 -- what loads give
 abbrev words_in : State → Words

@@ -1,14 +1,13 @@
 -- What the calls that write leave, at each moment and in the end.
-use Rattle.std.proofs.Common.{◌≡◌, ◌≢◌, ◌⊎◌, inl, inr, ℕ, zero, suc, ◌+◌, ◌-◌, ◌*◌, ◌<◌, ◌≤◌, List, [], ◌∷◌, slice_index, refl, sym, ap, ◌∙◌, subst, arith, IsTrue, Result, OnOk, add-one}
+use Rattle.std.proofs.Common.{◌≡◌, ◌≢◌, ◌⊎◌, inl, inr, ℕ, zero, suc, ◌+◌, ◌*◌, ◌<◌, ◌≤◌, List, [], ◌∷◌, slice_index, refl, sym, ap, ◌∙◌, subst, arith, IsTrue, Result, add-one}
 use Rattle.std.proofs.lemmas.Bool.{cases_eq}
 use Rattle.std.proofs.lemmas.List.{get_or-take, get_or-drop}
-use Rattle.std.proofs.lemmas.Result.{on_ok_weaker}
 use Rattle.devices.specs.State.{State, Call, after_all, line_stored, word_stored, flushed, fenced}
 use Rattle.devices.specs.State.Call.{store_line, store_word, flush, fence}
 use Rattle.devices.specs.World.{Standing, Moments, Goes, MakesAll, Makes, now}
 use Rattle.devices.specs.Growth.{Grows, no_write}
 use Rattle.nvm_model.specs.declared.line.Line.{Line}
-use Rattle.nvm_model.specs.Word.{Word, trimmed, marked, stored, single}
+use Rattle.nvm_model.specs.Word.{trimmed, marked, single}
 use Rattle.devices.proofs.StateLaws.{line_stored_same, line_stored_other, word_stored_same, word_stored_other, flushed_same, flushed_other}
 use Rattle.devices.proofs.GrowthLaws.{Grows-refl, Grows-trans, Amid-grows, Part-grows}
 use Rattle.devices.proofs.MomentLaws.{Moments-trans, Moments-map}

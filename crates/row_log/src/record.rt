@@ -106,7 +106,8 @@ pub fn line_of(words: &[u64; 64], place: usize) -> Line
 /// Makes the words of one of the eight lines of a record those of a line.
 pub fn set_line(words: &mut [u64; 64], place: usize, line: &Line)
     requires { place < 8 }
-    ensures { words.new ≡ take (8 * place) words.old ++ (line.now.words ++ drop (8 * place + 8) words.old) }
+    ensures words { words.new ≡ take (8 * place) words.old ++ (line.now.words ++ drop (8 * place + 8) words.old) }
+    ensures size { length words.new ≡ 64 }
 {
     words[8 * place..8 * place + 8].copy_from_slice(&line.words);
 }

@@ -1,5 +1,4 @@
-use Rattle.std.proofs.Common.{◌≡◌, refl, sym, ap, ◌∙◌, ℕ, List, Option, Some, None}
-use Rattle.row_log.specs.Record.{row_in}
+use Rattle.std.proofs.Common.{refl, sym, ap, ◌∙◌, ℕ, List, Some}
 use Rattle.row_log.proofs.RecordLaws.{value_in-from, row_found, row_missed}
 use Rattle.row_log.proofs.record.row_of.Goals as goal
 

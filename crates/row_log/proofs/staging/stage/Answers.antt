@@ -1,5 +1,5 @@
 -- The lines, and a fence.
-use Rattle.std.proofs.Common.{rules, arith, IsTrue, subst, sym}
+use Rattle.std.proofs.Common.{IsTrue, subst, sym}
 use Rattle.std.proofs.lemmas.Result.{on_ok_weaker}
 use Rattle.row_log.specs.Steps.{in_record}
 use Rattle.row_log.proofs.StepLaws.{grows_then, fence_grows, record_done}

@@ -1,6 +1,5 @@
 -- From entry to now, one line more.
-use Rattle.std.proofs.Common.{rules, arith, IsTrue, subst, sym, refl, ◌+◌, ◌≤◌, ◌<◌, ◌∙◌}
-use Rattle.devices.specs.World.{now}
+use Rattle.std.proofs.Common.{rules, arith, IsTrue, subst, sym, refl, ◌+◌}
 use Rattle.devices.proofs.MomentLaws.{Goes-refl, Goes-trans}
 use Rattle.row_log.specs.Steps.{in_record}
 use Rattle.row_log.proofs.StepLaws.{grows_start, grows_then, line_grows, lines_none, lines_more}

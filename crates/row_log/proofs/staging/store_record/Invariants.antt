@@ -1,5 +1,5 @@
 use Rattle.std.proofs.Common.{◌≡◌, IsTrue}
-use Rattle.devices.specs.World.{Standing, Moments, Goes, now}
+use Rattle.devices.specs.World.{Moments, Goes, now}
 use Rattle.devices.specs.Growth.{Grows, no_write}
 use Rattle.row_log.specs.Steps.{in_record, lines_stored}
 use Rattle.row_log.proofs.staging.store_record.Given as goal

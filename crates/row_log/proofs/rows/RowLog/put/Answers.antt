@@ -1,6 +1,5 @@
-use Rattle.std.proofs.Common.{◌≡◌, ◌≤◌, ◌++◌, ◌∷◌, [], length, ap, ◌∙◌, sym, subst, arith, rules}
+use Rattle.std.proofs.Common.{length, ap, arith}
 use Rattle.std.proofs.lemmas.List.{length_push}
-use Rattle.script.specs.Machine.{AreRows}
 use Rattle.row_log.proofs.LayoutLaws.{AreRows-push}
 use Rattle.row_log.proofs.rows.RowLog.put.Goals as goal
 
