@@ -7,3 +7,4 @@ pub mod PutLaws
 pub mod GetLaws
 pub mod FormatLaws
 pub mod OpenLaws
+mod Examples
