@@ -6,14 +6,9 @@ ghost use Rattle.row_log.specs.InOrder.{Formats};
 ghost use Rattle.row_log.specs.Causes.{FormatCause};
 
 use crate::errors::FormatError;
+use crate::layout::{GATE_LINE, LEAST_LINES, MAGIC, MAGIC_LINE};
 use crate::staging::move_gate;
 use devices::{Devices, Failed};
-
-/// How many lines the NVM has to have.
-pub const LEAST_LINES: u64 = 2050;
-
-/// The magic word, whose bytes are `SPITFIR0`.
-pub const MAGIC: u64 = 0x3052_4946_5449_5053;
 
 /// Makes the log one of no rows. A crash within it leaves the old words, no log, or the log of no rows.
 pub fn format<D: Devices>(dev: &mut D) -> Result<(), FormatError>
@@ -38,7 +33,7 @@ fn make_empty<D: Devices>(dev: &mut D) -> Result<(), Failed>
     ensures cause { NvmCause (D.standing dev.old) (D.standing dev.new) result }
     ensures formats { IsTrue (D.standing dev.old).told → Formats (D.standing dev.old) (D.standing dev.new) result }
 {
-    move_gate(dev, 0, 0, 0)?;
-    move_gate(dev, 1, 0, 0)?;
-    move_gate(dev, 0, 0, MAGIC)
+    move_gate(dev, MAGIC_LINE, 0, 0)?;
+    move_gate(dev, GATE_LINE, 0, 0)?;
+    move_gate(dev, MAGIC_LINE, 0, MAGIC)
 }

@@ -7,6 +7,7 @@
 
 mod errors;
 mod formatting;
+mod layout;
 mod opening;
 mod record;
 mod rows;

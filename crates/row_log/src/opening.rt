@@ -9,9 +9,9 @@ ghost use Rattle.row_log.specs.Kept.{IsKept};
 ghost use Rattle.row_log.specs.Causes.{OpenCause, PartCause, is_headed, words_now};
 
 use crate::errors::OpenError;
-use crate::formatting::{LEAST_LINES, MAGIC};
+use crate::layout::{FIRST_RECORD, GATE_LINE, LEAST_LINES, MAGIC, MAGIC_LINE, MOST_ROWS};
 use crate::record::{Row, row_of, set_line};
-use crate::rows::{MOST_ROWS, RowLog};
+use crate::rows::RowLog;
 use devices::{Devices, Failed};
 use std::alloc::Global;
 
@@ -77,8 +77,8 @@ fn load_head<D: Devices>(dev: &mut D) -> Result<(u64, u64), Failed>
     ensures name { IsTrue (D.standing dev.old).told → IfOk result (λ head. head.0 ≡ words_now (D.standing dev.old) 0 0) }
     ensures count { IsTrue (D.standing dev.old).told → IfOk result (λ head. head.1 ≡ gate (words_now (D.standing dev.old))) }
 {
-    let name = load_word(dev, 0)?;
-    let count = load_word(dev, 1)?;
+    let name = load_word(dev, MAGIC_LINE)?;
+    let count = load_word(dev, GATE_LINE)?;
     Ok((name, count))
 }
 
@@ -149,7 +149,7 @@ fn load_record<D: Devices>(dev: &mut D, index: u64) -> Result<[u64; 64], Failed>
 {
     let mut words = [0; 64];
     for i in 0..8 {
-        let line = dev.load(2 + 8 * index + i as u64)?;
+        let line = dev.load(FIRST_RECORD + 8 * index + i as u64)?;
         set_line(&mut words, i, &line);
     }
     Ok(words)

@@ -7,14 +7,12 @@ ghost use Rattle.row_log.specs.Layout.{least_lines};
 ghost use Rattle.row_log.specs.InOrder.{Holds, InOrder, Puts};
 ghost use Rattle.row_log.specs.Kept.{IsKept};
 
+use crate::layout::{FIRST_RECORD, GATE_LINE, MOST_ROWS};
 use crate::record::{Row, words_of};
 use crate::staging::{move_gate, stage};
 use devices::{Devices, Failed};
 use script::Value;
 use std::marker::Model;
-
-/// How many rows a log takes.
-pub const MOST_ROWS: usize = 256;
 
 /// All rows of an opened log, in the order in which they were put. Contracts see the list of pairs.
 #[derive(Drop)]
@@ -103,8 +101,8 @@ fn put_record<D: Devices>(dev: &mut D, count: u64, key: u64, value: &Value) -> R
     ensures puts { (rows : Rows) → IsTrue (D.standing dev.old).told → count ≡ length rows → InOrder (now (D.standing dev.old)) rows → Puts rows (key, value.now) (D.standing dev.old) (D.standing dev.new) result }
 {
     let words = words_of(key, value);
-    stage(dev, 2 + 8 * count, &words)?;
-    move_gate(dev, 1, 0, count + 1)
+    stage(dev, FIRST_RECORD + 8 * count, &words)?;
+    move_gate(dev, GATE_LINE, 0, count + 1)
 }
 
 /// One row more, where there is room.
