@@ -27,12 +27,12 @@ first_may : (entry s : State) → Grows (at_gate 0 0 0) no_write entry s → May
 first_may entry s grows i leaves = elim (grows.words 0 0 (i.nvm 0 0) (leaves.words 0 0)) [
   | inr st ↦ inr (inl (zero_no_magic (i.nvm 0 0) st.2))
   | inl old ↦ inl record {
-      words = λ l w. elim (grows.words l w (i.nvm l w) (leaves.words l w)) [
-        | inl was ↦ was
-        | inr st ↦ rw (st.0, st.1) old
-      ];
-      blocks = λ b settled. elim (grows.blocks b) [ inl written ↦ absurd written | inr kept ↦ leaves.blocks b (kept.0 settled) ∙ kept.1 ];
-    }
+    words = λ l w. elim (grows.words l w (i.nvm l w) (leaves.words l w)) [
+      | inl was ↦ was
+      | inr st ↦ rw (st.0, st.1) old
+    ];
+    blocks = λ b settled. elim (grows.blocks b) [ inl written ↦ absurd written | inr kept ↦ leaves.blocks b (kept.0 settled) ∙ kept.1 ];
+  }
 ]
 
 -- then the gate is made 0

@@ -131,6 +131,6 @@ rows_of-more a b rows row is low m g same passes found =
       few = omega arith;
       sound = ap (are_rows b) next ∙ rw (are_rows-same b a (gate a) same ∙ is.sound, passes) refl;
       are = let front = rows_below-same b a (gate a) same in let was = is.are in
-        let whole : rows_below b (suc (gate a)) ≡ rows_below b (gate a) ++ row_at b (gate a) ∷ [] = refl in
-        ap (λ (xs : Rows). xs ++ row ∷ []) (was ∙ sym front) ∙ ap (λ (x : ℕ × List ℕ). rows_below b (gate a) ++ x ∷ []) (sym found) ∙ sym (ap (rows_below b) next ∙ whole);
+          let whole : rows_below b (suc (gate a)) ≡ rows_below b (gate a) ++ row_at b (gate a) ∷ [] = refl in
+          ap (λ (xs : Rows). xs ++ row ∷ []) (was ∙ sym front) ∙ ap (λ (x : ℕ × List ℕ). rows_below b (gate a) ++ x ∷ []) (sym found) ∙ sym (ap (rows_below b) next ∙ whole);
     }

@@ -12,6 +12,7 @@ use Rattle.script.specs.Machine.{Rows, most_rows}
 use Rattle.row_log.specs.declared.errors.OpenError.{OpenError}
 use Rattle.row_log.specs.declared.errors.OpenError.TheVariants.{TooSmall, Nvm, NotAStore, NoMemory}
 use Rattle.row_log.specs.Layout.{Words, magic, gate, record_word, is_row, are_rows, row_at, rows_below, rows_of}
+use Rattle.row_log.specs.InOrder.{InOrder, Holds}
 use Rattle.row_log.specs.Record.{numbers_from, record_words, value_in, row_in}
 use Rattle.row_log.specs.Causes.{NoFault, Refused, PartStops, PartCause, OpenStops, words_now, is_headed}
 use Rattle.row_log.proofs.LayoutLaws.{both_true}
@@ -187,9 +188,9 @@ module _ (a b c : Standing) (count : ℕ) (goes : Goes a b) (stays : Stays a b) 
   records_stop NotAStore stop = record {
     no_fault = no_more_faults head.no_fault stop.no_fault;
     told = λ told.
-      let w = words_now a in
-      let false_at : are_rows w (gate w) ≡ false = ap (are_rows w) (sym (counted told)) ∙ subst (λ (v : Words). are_rows v count ≡ false) (words_kept a b goes stays told) (stop.told (told_on a b goes told)) in
-      tests-are w ∙ no_sound (w 0 0 == magic) (nat_le (gate w) most_rows) (are_rows w (gate w)) (rows_below w (gate w)) false_at;
+        let w = words_now a in
+        let false_at : are_rows w (gate w) ≡ false = ap (are_rows w) (sym (counted told)) ∙ subst (λ (v : Words). are_rows v count ≡ false) (words_kept a b goes stays told) (stop.told (told_on a b goes told)) in
+        tests-are w ∙ no_sound (w 0 0 == magic) (nat_le (gate w) most_rows) (are_rows w (gate w)) (rows_below w (gate w)) false_at;
   }
   records_stop NoMemory stop = absurd stop
 
@@ -202,6 +203,20 @@ module _ (a b c : Standing) (count : ℕ) (goes : Goes a b) (stays : Stays a b) 
     told = λ told. subst (λ (o : Option Rows). IsSome o) (sym (records_found sound told)) refl;
   }
 
--- the first rows, and one more
-pub rows_more : (words : Words) (n : ℕ) (rows : Rows) (row : ℕ × List ℕ) → rows ≡ rows_below words n → row ≡ row_at words n → rows ++ row ∷ [] ≡ rows_below words (n + 1)
-rows_more words n rows row front last = rw (add-one n) (ap (λ (xs : Rows). xs ++ row ∷ []) front ∙ ap (λ (x : ℕ × List ℕ). rows_below words n ++ x ∷ []) last)
+-- the first rows, and one more that was read of the words at entry
+pub rows_more : (words seen : Words) (n : ℕ) (rows new : Rows) (row : ℕ × List ℕ) → seen ≡ words → rows ≡ rows_below words n → row ≡ row_at seen n → new ≡ rows ++ row ∷ [] → new ≡ rows_below words (n + 1)
+rows_more words seen n rows new row same front last made =
+    let there : row ≡ row_at words n = last ∙ ap (λ (w : Words). row_at w n) same in
+    rw (add-one n) (made ∙ ap (λ (xs : Rows). xs ++ row ∷ []) front ∙ ap (λ (x : ℕ × List ℕ). rows_below words n ++ x ∷ []) there)
+
+-- What an opening that answers ok leaves: the state is that at entry, and holds the rows that were read.
+pub opened_holds : {a b : Standing} {log : Rows} → Goes a b → Stays a b → IsTrue a.told → rows_of (words_now a) ≡ Some log → Holds (now b) log
+opened_holds {a} {b} {log} goes stays told found = record { stands = ap rows_of (words_kept a b goes stays told) ∙ found }
+
+-- if it was in order at entry, with whatever rows, those are the rows that were read
+pub opened_rows : {s : State} {rows log : Rows} → InOrder s rows → rows_of (current s).nvm ≡ Some log → rows ≡ log
+opened_rows {s} {rows} {log} order found = let same : Some rows ≡ Some log = sym order.stands ∙ found in cc
+
+pub opened_in_order : {a b : Standing} {rows log : Rows} → Goes a b → Stays a b → IsTrue a.told → InOrder (now a) rows → rows_of (words_now a) ≡ Some log → InOrder (now b) log
+opened_in_order {a} {b} {rows} {log} goes stays told order found =
+    subst (λ (s : State). InOrder s log) (sym (stays_now a b goes stays told)) (subst (λ (xs : Rows). InOrder (now a) xs) (opened_rows order found) order)

@@ -53,3 +53,9 @@ no_store l w v = ⊥
 pub image_in_order : {s : State} {i : Image} {rows : Rows} → InOrder s rows → Leaves s i → InOrder (fresh i) rows
 unfolding no_store
 image_in_order {s} {i} {rows} order leaves = image_same no_store s s i rows (Grows-refl no_store no_write s) leaves (λ v none. none) (λ v none. none) record { words = λ l w v low high none. none } order
+
+-- a state whose words loads give as those of another holds the same rows
+pub holds-same : {s t : State} {rows : Rows} → ((l w : ℕ) → (current t).nvm l w ≡ (current s).nvm l w) → Holds s rows → Holds t rows
+holds-same {s} {t} {rows} same holds = record {
+  stands = rows_of-same (current t).nvm (current s).nvm (same 0 0) (same 1 0) record { records = λ i less. record { words = λ k low. same (record_line i + k / 8) (k % 8) } } ∙ holds.stands;
+}

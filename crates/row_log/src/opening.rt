@@ -83,11 +83,7 @@ fn load_head<D: Devices>(dev: &mut D) -> Result<(u64, u64), Failed>
 }
 
 /// The rows of all records.
-fn read_rows<D: Devices>(
-    dev: &mut D,
-    count: u64,
-    mut rows: Vec<Row>,
-) -> Result<Vec<Row>, OpenError>
+fn read_rows<D: Devices>(dev: &mut D, count: u64, mut rows: Vec<Row>) -> Result<Vec<Row>, OpenError>
     requires few { count ≤ 256 }
     requires lines { least_lines ≤ (D.standing dev.old).lines }
     requires none { rows.items ≡ [] }

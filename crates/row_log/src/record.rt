@@ -30,10 +30,7 @@ impl Row {
     pub fn new(key: u64, value: Value) -> Row
         ensures { result ≡ (key, value) }
     {
-        Row {
-            key,
-            value,
-        }
+        Row { key, value }
     }
 
     /// Its key.
@@ -95,11 +92,8 @@ pub fn line_of(words: &[u64; 64], place: usize) -> Line
     requires { place < 8 }
     ensures { result ≡ line_in words.now place }
 {
-    let mut line = Line {
-        words: [0; 8],
-    };
-    line.words
-        .copy_from_slice(&words[8 * place..8 * place + 8]);
+    let mut line = Line { words: [0; 8] };
+    line.words.copy_from_slice(&words[8 * place..8 * place + 8]);
     line
 }
 

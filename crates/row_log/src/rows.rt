@@ -37,9 +37,7 @@ impl RowLog {
         requires { IsKept rows.items (vec_capacity rows) }
         ensures { result ≡ rows.items }
     {
-        RowLog {
-            rows,
-        }
+        RowLog { rows }
     }
 
     /// How many rows stand.

@@ -51,12 +51,7 @@ fn store_flushed<D: Devices>(dev: &mut D, line: u64, value: &Line) -> Result<(),
 }
 
 /// Makes one word durable.
-pub fn move_gate<D: Devices>(
-    dev: &mut D,
-    line: u64,
-    word: usize,
-    value: u64,
-) -> Result<(), Failed>
+pub fn move_gate<D: Devices>(dev: &mut D, line: u64, word: usize, value: u64) -> Result<(), Failed>
     requires line { line < (D.standing dev.old).lines }
     requires word { word < 8 }
     ensures goes { Goes (D.standing dev.old) (D.standing dev.new) }

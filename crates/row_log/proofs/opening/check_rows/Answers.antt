@@ -21,7 +21,7 @@ loop-i-preserved g c =
       no_fault = no_more_faults inv.no_fault step.cause.done.no_fault;
       reads = step.cause.reads ∙ inv.reads;
       sound = λ told. are_rows-more (words_now (g.D.Devices.standing c.args.dev.now)) c.loop-i.i (inv.sound told)
-        (subst (λ (w : Words). is_row w c.loop-i.i ≡ true) (words_kept _ _ inv.goes inv.stays told) (step.cause.done.told (subst (λ t. IsTrue t) (sym inv.goes.told) told)));
+          (subst (λ (w : Words). is_row w c.loop-i.i ≡ true) (words_kept _ _ inv.goes inv.stays told) (step.cause.done.told (subst (λ t. IsTrue t) (sym inv.goes.told) told)));
     }
 
 pub returns-in_err-_row-clause-cause : goal.returns-in_err-_row-clause-cause

@@ -19,7 +19,7 @@ loop-i-preserved g c =
       reads = step.cause.reads ∙ inv.reads;
       size = c.set_line.ensures.size;
       read = λ told. words_more _ _ c.args.index c.loop-i.i c.loop-i.words c.set_line.new.words c.in_ok-line.line
-        (stays_now _ _ inv.goes inv.stays told) inv.size c.loop-i-test.true (inv.read told) (step.value (subst (λ t. IsTrue t) (sym inv.goes.told) told)) c.set_line.ensures.words;
+          (stays_now _ _ inv.goes inv.stays told) inv.size c.loop-i-test.true (inv.read told) (step.value (subst (λ t. IsTrue t) (sym inv.goes.told) told)) c.set_line.ensures.words;
     }
 
 pub returns-clause-words : goal.returns-clause-words

@@ -5,7 +5,7 @@ use Rattle.std.proofs.lemmas.List.{length_push}
 use Rattle.devices.proofs.MomentLaws.{Goes-refl, Goes-trans}
 use Rattle.script.specs.Machine.{Rows, AreRows}
 use Rattle.row_log.specs.declared.errors.OpenError.{OpenError}
-use Rattle.row_log.specs.Layout.{Words, is_row, row_at}
+use Rattle.row_log.specs.Layout.{Words, is_row}
 use Rattle.row_log.specs.Causes.{words_now}
 use Rattle.row_log.proofs.LayoutLaws.{AreRows-push}
 use Rattle.row_log.proofs.OpenLaws.{stays_start, stays_then, words_kept, no_more_faults, are_rows-more, rows_more, part_stops, part_failed}
@@ -35,11 +35,11 @@ loop-i-preserved g c =
       no_fault = no_more_faults inv.no_fault step.cause.done.no_fault;
       reads = step.cause.reads ∙ inv.reads;
       sound = λ told. are_rows-more (words_now (g.D.Devices.standing c.args.dev.now)) c.loop-i.i (inv.sound told)
-        (subst (λ (w : Words). is_row w c.loop-i.i ≡ true) (words_kept _ _ inv.goes inv.stays told) (step.cause.done.told (subst (λ t. IsTrue t) (sym inv.goes.told) told)));
-      rows = λ told. pushed.items ∙ rows_more (words_now (g.D.Devices.standing c.args.dev.now)) c.loop-i.i c.loop-i.rows.items c.in_ok-row.row (inv.rows told)
-        (step.row (subst (λ t. IsTrue t) (sym inv.goes.told) told) ∙ ap (λ (w : Words). row_at w c.loop-i.i) (words_kept _ _ inv.goes inv.stays told));
+          (subst (λ (w : Words). is_row w c.loop-i.i ≡ true) (words_kept _ _ inv.goes inv.stays told) (step.cause.done.told (subst (λ t. IsTrue t) (sym inv.goes.told) told)));
+      rows = λ told. rows_more (words_now (g.D.Devices.standing c.args.dev.now)) (words_now (g.D.Devices.standing c.loop-i.dev)) c.loop-i.i c.loop-i.rows.items c.push_reserved.new.self.items c.in_ok-row.row
+          (words_kept _ _ inv.goes inv.stays told) (inv.rows told) (step.row (subst (λ t. IsTrue t) (sym inv.goes.told) told)) pushed.items;
       few = ap length pushed.items ∙ length_push c.loop-i.rows.items c.in_ok-row.row ∙ ap (λ (n : ℕ). n + 1) inv.few;
-      room = subst (λ (n : ℕ). 256 ≤ n) (sym pushed.capacity) inv.room;
+      room = subst (λ (n : ℕ). 256 ≤ n) (sym {A = ℕ} pushed.capacity) inv.room;
       are = subst (λ (rows : Rows). AreRows rows) (sym pushed.items) (AreRows-push c.loop-i.rows.items c.in_ok-row.row inv.are step.valid);
     }
 

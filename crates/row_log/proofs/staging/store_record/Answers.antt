@@ -18,7 +18,7 @@ loop-i-preserved g c =
       ssd_faults = search rules;
       reads = search rules;
       grows = λ told. grows_then inv.goes step.goes (inv.grows told)
-        (line_grows {r = c.store_flushed.result} (c.args.first + c.loop-i.i) c.args.first _ (omega arith) (omega arith) (subst (λ t. IsTrue t) (sym inv.goes.told) told) c.store_flushed.ensures.makes);
+          (line_grows {r = c.store_flushed.result} (c.args.first + c.loop-i.i) c.args.first _ (omega arith) (omega arith) (subst (λ t. IsTrue t) (sym inv.goes.told) told) c.store_flushed.ensures.makes);
       stored = λ told. lines_more c.args.first c.loop-i.i c.args.words.now c.line_of-line.result _ _ _ c.line_of-line.ensures (inv.stored told) (step.makes.whole (subst (λ t. IsTrue t) (sym inv.goes.told) told));
     }
 
