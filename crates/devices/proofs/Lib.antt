@@ -4,3 +4,5 @@ pub mod DurableLaws
 pub mod FreshLaws
 pub mod MomentLaws
 pub mod CallLaws
+pub mod PastLaws
+pub mod ContentLaws

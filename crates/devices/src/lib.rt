@@ -3,6 +3,12 @@
 //! `Devices` is an NVM of lines and a disk of blocks; `World` adds the settings, the script and the output.
 #![tactic(auto)]
 
+mod faults;
+mod images;
+mod past;
+mod step;
 mod traits;
 
+pub use faults::{Fault, FaultKind};
+pub use images::Images;
 pub use traits::{Devices, Failed, World};

@@ -1,0 +1,197 @@
+//! The calls that changed a device or the output, and what the devices hold after them.
+ghost use Rattle.std.specs.Prelude.{◌≡◌, ◌≢◌, ◌<◌, ℕ, [], length, slice_index, OnOk, OnErr, ◌∷◌, ◌++◌};
+ghost use Rattle.devices.specs.State.{line_at};
+ghost use Rattle.devices.specs.Past.{IsSound, Same, Kept, KeptPage, Sent, standing_state};
+ghost use Rattle.devices.specs.declared.step.Step.TheVariants.{StoreWord, StoreLine, Flush, Fence, Sync};
+
+use crate::images::Images;
+use crate::step::{Entry, Sending, Step};
+use nvm_model::{Line, NoMemory};
+use ssd_model::PageBuf;
+use std::alloc::Global;
+
+/// The calls so far, the devices before and after them, and the output.
+#[derive(Drop)]
+pub(crate) struct Past {
+    pub(crate) alloc: Global,
+    pub(crate) lines: u64,
+    /// What the devices held before the first call.
+    pub(crate) base: Images,
+    /// The last versions and the current bytes.
+    pub(crate) current: Images,
+    pub(crate) entries: Vec<Entry>,
+    pub(crate) sent: Vec<u8>,
+    pub(crate) sendings: Vec<Sending>,
+}
+
+/// Keeps one call more.
+fn note(entries: &mut Vec<Entry>, event: u64, step: Step) -> Result<(), NoMemory>
+    ensures ok { OnOk result (entries.new.items ≡ entries.old.items ++ record { event = event; step = step } ∷ []) }
+    ensures err { OnErr result (entries.new.items ≡ entries.old.items) }
+{
+    if entries.push(Entry { event, step }).is_err() {
+        return Err(NoMemory);
+    }
+    Ok(())
+}
+
+/// Sets one word of a line.
+fn set_word(line: &mut Line, word: usize, value: u64)
+    requires { word < 8 }
+    ensures this { slice_index line.new.words word ≡ value }
+    ensures others { (w : ℕ) → w ≢ word → slice_index line.new.words w ≡ slice_index line.old.words w }
+{
+    line.words[word] = value;
+}
+
+/// A copy, whose eight words are known.
+pub(crate) fn copy_of(line: &Line) -> Line
+    ensures same { result ≡ line.now }
+    ensures size { length result.words ≡ 8 }
+{
+    let words = line.words;
+    Line { words }
+}
+
+/// Makes one page the other.
+pub(crate) fn copy_page(from: &PageBuf, into: &mut PageBuf)
+    ensures { into.new ≡ from.now }
+{
+    let bytes = from.bytes();
+    for at in 0..into.bytes().len() {
+        into.set_byte(at, bytes[at]);
+    }
+}
+
+/// A copy of a page.
+pub(crate) fn page_of(from: &PageBuf) -> PageBuf
+    ensures { result ≡ from.now }
+{
+    let mut page = PageBuf::zero();
+    copy_page(from, &mut page);
+    page
+}
+
+impl Past {
+    /// The last version of each word of a line.
+    pub(crate) fn load(&self, line: u64) -> Line
+        requires sound { IsSound self.now }
+        requires line { line < self.now.lines }
+        ensures { result ≡ line_at (standing_state self.now) line }
+    {
+        copy_of(&self.current.nvm[line as usize])
+    }
+
+    /// Stores a word, or finds no memory and changes nothing.
+    pub(crate) fn store_word(
+        &mut self,
+        event: u64,
+        line: u64,
+        word: usize,
+        value: u64,
+    ) -> Result<(), NoMemory>
+        requires sound { IsSound self.old }
+        requires line { line < self.old.lines }
+        requires word { word < 8 }
+        ensures sound { IsSound self.new }
+        ensures ok { OnOk result (Kept event (StoreWord line word value) self.old self.new) }
+        ensures err { OnErr result (Same self.old self.new) }
+    {
+        note(&mut self.entries, event, Step::StoreWord { line, word, value })?;
+        set_word(&mut self.current.nvm[line as usize], word, value);
+        Ok(())
+    }
+
+    /// Stores a line, or finds no memory and changes nothing.
+    pub(crate) fn store_line(
+        &mut self,
+        event: u64,
+        line: u64,
+        value: &Line,
+    ) -> Result<(), NoMemory>
+        requires sound { IsSound self.old }
+        requires line { line < self.old.lines }
+        ensures sound { IsSound self.new }
+        ensures ok { OnOk result (Kept event (StoreLine line value.now) self.old self.new) }
+        ensures err { OnErr result (Same self.old self.new) }
+    {
+        let value = *value;
+        note(&mut self.entries, event, Step::StoreLine { line, value })?;
+        self.current.nvm[line as usize] = value;
+        Ok(())
+    }
+
+    /// Flushes a line, or finds no memory and changes nothing.
+    pub(crate) fn flush(&mut self, event: u64, line: u64) -> Result<(), NoMemory>
+        requires sound { IsSound self.old }
+        requires line { line < self.old.lines }
+        ensures sound { IsSound self.new }
+        ensures ok { OnOk result (Kept event (Flush line) self.old self.new) }
+        ensures err { OnErr result (Same self.old self.new) }
+    {
+        note(&mut self.entries, event, Step::Flush { line })?;
+        Ok(())
+    }
+
+    /// Fences, or finds no memory and changes nothing.
+    pub(crate) fn fence(&mut self, event: u64) -> Result<(), NoMemory>
+        requires { IsSound self.old }
+        ensures sound { IsSound self.new }
+        ensures ok { OnOk result (Kept event Fence self.old self.new) }
+        ensures err { OnErr result (Same self.old self.new) }
+    {
+        note(&mut self.entries, event, Step::Fence)?;
+        Ok(())
+    }
+
+    /// The current bytes of a block.
+    pub(crate) fn read_block(&self, block: u64, into: &mut PageBuf)
+        requires { IsSound self.now }
+        ensures { into.new ≡ ((standing_state self.now).ssd block).bytes }
+    {
+        match self.current.ssd.get(&block) {
+            Some(page) => copy_page(page, into),
+            None => *into = PageBuf::zero(),
+        }
+    }
+
+    /// Writes a block, or finds no memory and changes nothing.
+    pub(crate) fn write_block(
+        &mut self,
+        event: u64,
+        block: u64,
+        from: &PageBuf,
+    ) -> Result<(), NoMemory>
+        requires sound { IsSound self.old }
+        requires block { block < self.old.current.ssd_blocks }
+        ensures sound { IsSound self.new }
+        ensures ok { OnOk result (KeptPage event block from.now self.old self.new) }
+        ensures err { OnErr result (Same self.old self.new) }
+    {
+        if self.entries.reserve(1).is_err() {
+            return Err(NoMemory);
+        }
+        let Ok(page) = Box::new(self.alloc, page_of(from)) else {
+            return Err(NoMemory);
+        };
+        let Ok(_) = self.current.ssd.insert(block, page_of(from)) else {
+            return Err(NoMemory);
+        };
+        self.entries.push_reserved(Entry {
+            event,
+            step: Step::WriteBlock { block, page },
+        });
+        Ok(())
+    }
+
+    /// Settles all blocks, or finds no memory and changes nothing.
+    pub(crate) fn sync(&mut self, event: u64) -> Result<(), NoMemory>
+        requires { IsSound self.old }
+        ensures sound { IsSound self.new }
+        ensures ok { OnOk result (Kept event Sync self.old self.new) }
+        ensures err { OnErr result (Same self.old self.new) }
+    {
+        note(&mut self.entries, event, Step::Sync)?;
+        Ok(())
+    }
+}
