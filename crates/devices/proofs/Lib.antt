@@ -6,3 +6,5 @@ pub mod MomentLaws
 pub mod CallLaws
 pub mod PastLaws
 pub mod ContentLaws
+pub mod SentLaws
+pub mod WorldLaws

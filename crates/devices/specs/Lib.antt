@@ -4,3 +4,4 @@ pub mod Growth
 pub mod Faults
 pub mod Past
 pub mod Laws
+pub mod MemWorld

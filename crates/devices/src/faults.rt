@@ -1,5 +1,5 @@
 //! Which calls of a world in memory fail, and the counts of its calls.
-ghost use Rattle.std.specs.Prelude.{◌≡◌, ◌+◌, ◌↔◌, min, OnOk, OnErr, IsErr, IsTrue};
+ghost use Rattle.std.specs.Prelude.{◌≡◌, ◌≤◌, ◌+◌, ◌↔◌, min, OnOk, OnErr, IsErr, IsTrue};
 ghost use Rattle.devices.specs.World.{last_count};
 ghost use Rattle.devices.specs.Faults.{number_of, is_named};
 
@@ -69,6 +69,7 @@ pub(crate) fn begin(
     ensures named { IsErr result ↔ IsTrue (is_named plan.now kind tally.old.calls) }
     ensures ok { OnOk result (tally.new.faults ≡ tally.old.faults) }
     ensures err { OnErr result (tally.new.faults ≡ min (tally.old.faults + 1) last_count) }
+    ensures later { tally.old.faults ≤ tally.new.faults }
     ensures calls { tally.new.calls ≡ min (tally.old.calls + 1) last_count }
     ensures events { events.new ≡ min (events.old + 1) last_count }
 {
@@ -85,6 +86,7 @@ pub(crate) fn begin(
 /// What a call answers that found no memory.
 pub(crate) fn run_short(tally: &mut Tally, short: &mut u64) -> Failed
     ensures faults { tally.new.faults ≡ min (tally.old.faults + 1) last_count }
+    ensures later { tally.old.faults ≤ tally.new.faults }
     ensures calls { tally.new.calls ≡ tally.old.calls }
     ensures short { short.new ≡ min (short.old + 1) last_count }
 {

@@ -5,10 +5,13 @@
 
 mod faults;
 mod images;
+mod mem_world;
 mod past;
 mod step;
+mod stream;
 mod traits;
 
 pub use faults::{Fault, FaultKind};
 pub use images::Images;
+pub use mem_world::MemWorld;
 pub use traits::{Devices, Failed, World};

@@ -194,4 +194,28 @@ impl Past {
         note(&mut self.entries, event, Step::Sync)?;
         Ok(())
     }
+
+    /// Sends bytes, or finds no memory and changes nothing.
+    pub(crate) fn send(&mut self, event: u64, bytes: &[u8]) -> Result<(), NoMemory>
+        requires { IsSound self.old }
+        ensures sound { IsSound self.new }
+        ensures ok { OnOk result (Sent event bytes.now self.old self.new) }
+        ensures err { OnErr result (Same self.old self.new) }
+    {
+        if self.entries.reserve(1).is_err() || self.sendings.reserve(1).is_err() {
+            return Err(NoMemory);
+        }
+        let Ok(()) = self.sent.extend_from_slice(bytes) else {
+            return Err(NoMemory);
+        };
+        self.entries.push_reserved(Entry {
+            event,
+            step: Step::Send,
+        });
+        self.sendings.push_reserved(Sending {
+            moment: self.entries.len(),
+            upto: self.sent.len(),
+        });
+        Ok(())
+    }
 }
