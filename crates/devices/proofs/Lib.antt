@@ -8,3 +8,4 @@ pub mod PastLaws
 pub mod ContentLaws
 pub mod SentLaws
 pub mod WorldLaws
+pub mod WriteLaws

@@ -160,3 +160,72 @@ impl Devices for MemWorld {
         }
     }
 }
+
+impl World for MemWorld {
+    ghost use Rattle.std.specs.Prelude.{◌≡◌, ◌<◌, ◌≤◌, ℕ, true, false, length, IfOk};
+    ghost use Rattle.devices.specs.World.{ReadsNext, OnlyChanges, Sends, WorldCall, OwnCause};
+    ghost use Rattle.devices.specs.Faults.{is_named};
+    ghost use Rattle.devices.specs.Laws.{sent_later};
+    ghost use Rattle.devices.specs.MemWorld.{world, FailsExactly, FailsOnlyAt};
+    ghost use Rattle.devices.specs.declared.faults.FaultKind.TheVariants.{Settings, Source, Sink};
+
+    ghost timed = { λ w m le. sent_later w.past m w.sound le };
+
+    fn read_settings(&mut self, into: &mut [u8]) -> Result<usize, Failed>
+        requires { 0 < length into.old }
+        ensures call { WorldCall (world self.old) (world self.new) }
+        ensures bound { IfOk result (λ count. count ≤ length into.new) }
+        ensures cause { OwnCause (world self.old).outside.settings_faults (world self.new).outside.settings_faults result }
+        ensures reads { ReadsNext (world self.old).told (world self.old).outside.settings (world self.new).outside.settings result into.new }
+        ensures rest { OnlyChanges true false false (world self.old) (world self.new) }
+        ensures exactly { FailsOnlyAt (is_named self.old.plan.items Settings self.old.settings_reads.calls) self.old.short self.new.short result }
+    {
+        begin(
+            &self.plan,
+            FaultKind::Settings,
+            &mut self.settings_reads,
+            &mut self.events,
+        )?;
+        Ok(self.settings.take_next(into))
+    }
+
+    fn read(&mut self, into: &mut [u8]) -> Result<usize, Failed>
+        requires { 0 < length into.old }
+        ensures call { WorldCall (world self.old) (world self.new) }
+        ensures bound { IfOk result (λ count. count ≤ length into.new) }
+        ensures cause { OwnCause (world self.old).outside.source_faults (world self.new).outside.source_faults result }
+        ensures reads { ReadsNext (world self.old).told (world self.old).outside.input (world self.new).outside.input result into.new }
+        ensures rest { OnlyChanges false true false (world self.old) (world self.new) }
+        ensures exactly { FailsOnlyAt (is_named self.old.plan.items Source self.old.script_reads.calls) self.old.short self.new.short result }
+    {
+        begin(
+            &self.plan,
+            FaultKind::Source,
+            &mut self.script_reads,
+            &mut self.events,
+        )?;
+        Ok(self.script.take_next(into))
+    }
+
+    fn write(&mut self, bytes: &[u8]) -> Result<usize, Failed>
+        requires { 0 < length bytes.now }
+        ensures call { WorldCall (world self.old) (world self.new) }
+        ensures bound { IfOk result (λ count. (1 ≤ count) × (count ≤ length bytes.now)) }
+        ensures cause { OwnCause (world self.old).outside.sink_faults (world self.new).outside.sink_faults result }
+        ensures sends { Sends (world self.old) (world self.new) bytes.now result }
+        ensures rest { OnlyChanges false false true (world self.old) (world self.new) }
+        ensures exactly { FailsExactly (is_named self.old.plan.items Sink self.old.writes.calls) self.old.short self.new.short result }
+        ensures whole { IfOk result (λ count. count ≡ length bytes.now) }
+    {
+        begin(
+            &self.plan,
+            FaultKind::Sink,
+            &mut self.writes,
+            &mut self.events,
+        )?;
+        match self.past.send(self.events, bytes) {
+            Ok(()) => Ok(bytes.len()),
+            Err(_) => Err(run_short(&mut self.writes, &mut self.short)),
+        }
+    }
+}
