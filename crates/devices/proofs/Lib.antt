@@ -9,3 +9,4 @@ pub mod ContentLaws
 pub mod SentLaws
 pub mod WorldLaws
 pub mod WriteLaws
+pub mod StartLaws

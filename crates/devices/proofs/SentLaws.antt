@@ -1,5 +1,6 @@
 -- What is sent, as the calls go on.
-use Rattle.std.proofs.Common.{◌≡◌, ℕ, ◌+◌, ◌<◌, ◌≤◌, List, [], ◌∷◌, ◌++◌, length, take, refl, sym, ◌∙◌, ap, subst, arith, length-append}
+use Rattle.std.proofs.Common.{◌≡◌, ℕ, ◌+◌, ◌<◌, ◌≤◌, List, [], ◌∷◌, ◌++◌, length, take, drop, refl, sym, ◌∙◌, ap, subst, arith, length-append}
+use Rattle.std.proofs.lemmas.Grind.{common_steps}
 use Rattle.std.specs.Prelude.{Bool, nat_le, true, false, cond, ◌&&◌}
 use Rattle.std.specs.List.{list_all}
 use Rattle.std.proofs.lemmas.Bool.Decides.{nat_tests}
@@ -101,3 +102,12 @@ module _ {event : ℕ} {bytes : List ℕ} (p q : Past) (sound : IsSound p) (is :
           let first : nat_le (length p.entries.items + 1) (length q.entries.items) ≡ true = grind (arith, nat_tests, one_more) in
           let second : nat_le (length p.sent.items + length bytes) (length q.sent.items) ≡ true = grind (arith, nat_tests, more_sent) in
           rw (first, second) refl
+
+-- all changes were looked through
+pub upto_end : (sendings : List Sending) (sent : List ℕ) (moment upto index : ℕ) → upto ≤ length sent
+    → last_from [] (changes_of sendings sent) moment ≡ last_from (take upto sent) (changes_of (drop index sendings) sent) moment → length sendings ≤ index → upto ≡ length (sent_by (changes_of sendings sent) moment)
+unfolding sent_by
+upto_end sendings sent moment upto index within same end =
+    let none : drop index sendings ≡ [] = grind (arith, common_steps, end) in
+    let size : length (take upto sent) ≡ upto = grind (arith, common_steps, within) in
+    sym (ap length (same ∙ ap (λ (l : List Sending). last_from (take upto sent) (changes_of l sent) moment) none) ∙ size)

@@ -1,9 +1,15 @@
 -- What a world in memory stands for.
-use Rattle.std.specs.Prelude.{◌≡◌, ◌⊎◌, ℕ, ◌+◌, min, Bool, true, List, length, take, drop, IsTrue, IsErr, OnOk, Result}
+use Rattle.std.specs.Prelude.{◌≡◌, ◌⊎◌, ℕ, ◌+◌, min, Bool, true, List, [], nat_le, length, take, drop, IsTrue, IsErr, OnOk, Result}
+use Rattle.std.specs.List.{prefix_len}
 use Rattle.devices.specs.declared.past.Past.{Past}
 use Rattle.devices.specs.declared.stream.Stream.{Stream}
 use Rattle.devices.specs.declared.mem_world.MemWorld.{MemWorld}
-use Rattle.devices.specs.World.{Standing, Outside, last_count}
+use Rattle.devices.specs.World.{Standing, Outside, last_count, now, sent}
+use Rattle.devices.specs.State.{Image, fresh}
+use Rattle.devices.specs.declared.faults.Fault.{Fault}
+use Rattle.devices.specs.declared.faults.FaultKind.{FaultKind}
+use Rattle.devices.specs.declared.faults.FaultKind.TheVariants.{Nvm, Ssd, Settings, Source, Sink}
+use Rattle.devices.specs.declared.step.Entry.{Entry}
 use Rattle.devices.specs.Past.{image_of, replay, changes_of}
 
 -- what stands beside the devices
@@ -49,3 +55,44 @@ pub record FailsOnlyAt {T E : Type 0} (is_planned : Bool) (short_before short_af
   pub named : IsTrue is_planned → IsErr result
   pub failed : IsErr result → IsTrue is_planned
   pub short : short_after ≡ short_before
+
+-- A world before its first call: over these contents, with one version of each word and every block settled.
+pub record IsFresh (line_count block_count : ℕ) (image : Image) (settings script : List ℕ) (w : Standing) : Type 0 where
+  pub lines : w.lines ≡ line_count
+  pub blocks : w.blocks ≡ block_count
+  pub told : w.told ≡ true
+  pub honest : w.honest ≡ true
+  pub clock : w.clock ≡ 0
+  pub state : now w ≡ fresh image
+  pub settings_left : w.outside.settings ≡ settings
+  pub script_left : w.outside.input ≡ script
+  pub sent_none : sent w ≡ []
+  pub nvm_faults : w.nvm_faults ≡ 0
+  pub ssd_faults : w.ssd_faults ≡ 0
+  pub block_reads : w.block_reads ≡ 0
+  pub settings_faults : w.outside.settings_faults ≡ 0
+  pub source_faults : w.outside.source_faults ≡ 0
+  pub sink_faults : w.outside.sink_faults ≡ 0
+
+-- no call was made, and these faults are to come
+pub record IsUncalled (fail : List Fault) (w : MemWorld) : Type 0 where
+  pub plan : w.plan.items ≡ fail
+  pub nvm : w.nvm.calls ≡ 0
+  pub ssd : w.ssd.calls ≡ 0
+  pub settings_reads : w.settings_reads.calls ≡ 0
+  pub script_reads : w.script_reads.calls ≡ 0
+  pub writes : w.writes.calls ≡ 0
+  pub events : w.events ≡ 0
+  pub short : w.short ≡ 0
+
+-- the count of faults of a device or a stream
+abbrev pub faults_of : FaultKind → Standing → ℕ
+faults_of Nvm w = w.nvm_faults
+faults_of Ssd w = w.ssd_faults
+faults_of Settings w = w.outside.settings_faults
+faults_of Source w = w.outside.source_faults
+faults_of Sink w = w.outside.sink_faults
+
+-- the moment after so many events: so many calls were kept by then
+abbrev pub moment_after : List Entry → ℕ → ℕ
+moment_after entries events = prefix_len (λ entry. nat_le entry.event events) entries

@@ -81,6 +81,33 @@ pub record IsSound (p : Past) : Type 0 where
   pub sendings : list_all (is_past (length p.entries.items) (length p.sent.items)) p.sendings.items ≡ true
   pub all_sent : sent_by (changes_of p.sendings.items p.sent.items) (length p.entries.items) ≡ p.sent.items
 
+-- images with the same contents
+pub record Copies (from copy : Images) : Type 0 where
+  pub nvm : copy.nvm.items ≡ from.nvm.items
+  pub blocks : copy.ssd_blocks ≡ from.ssd_blocks
+  pub ssd : (b : ℕ) → get nat_cmp copy.ssd b ≡ get nat_cmp from.ssd b
+
+-- both devices hold zeros
+abbrev pub zero_image : Image
+zero_image = record { nvm = λ l w. 0; ssd = λ b. zero_page }
+
+-- devices of this size that hold the same as these images
+pub record Begins (lines : ℕ) (base current : Images) : Type 0 where
+  pub size : length current.nvm.items ≡ lines
+  pub base_size : length base.nvm.items ≤ lines
+  pub base_blocks : (b : ℕ) → IsSome (get nat_cmp base.ssd b) → b < current.ssd_blocks
+  pub words : (l w : ℕ) → l < lines → w < 8 → word_in current.nvm.items l w ≡ word_in base.nvm.items l w
+  pub pages : (b : ℕ) → page_in current.ssd b ≡ page_in base.ssd b
+
+-- no call was made yet, over devices that hold this
+pub record Starts (line_count block_count : ℕ) (image : Image) (p : Past) : Type 0 where
+  pub lines : p.lines ≡ line_count
+  pub blocks : p.current.ssd_blocks ≡ block_count
+  pub base : image_of p.base ≡ image
+  pub entries : p.entries.items ≡ []
+  pub sent : p.sent.items ≡ []
+  pub sendings : p.sendings.items ≡ []
+
 -- what no call changes
 pub record Stands (old new : Past) : Type 0 where
   pub lines : new.lines ≡ old.lines

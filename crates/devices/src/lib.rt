@@ -3,8 +3,10 @@
 //! `Devices` is an NVM of lines and a disk of blocks; `World` adds the settings, the script and the output.
 #![tactic(auto)]
 
+mod copies;
 mod faults;
 mod images;
+mod inspect;
 mod mem_world;
 mod past;
 mod step;

@@ -1,14 +1,19 @@
 //! The calls that changed a device or the output, and what the devices hold after them.
-ghost use Rattle.std.specs.Prelude.{◌≡◌, ◌≢◌, ◌<◌, ℕ, [], length, slice_index, OnOk, OnErr, ◌∷◌, ◌++◌};
+ghost use Rattle.std.specs.Prelude.{◌≡◌, ◌≢◌, ◌<◌, ℕ, [], length, slice_index, IfOk, IsSome, replicate, OnOk, OnErr, ◌∷◌, ◌++◌};
+ghost use Rattle.std.specs.Ordering.{nat_cmp};
+ghost use Rattle.std.specs.BTreeMap.{get};
 ghost use Rattle.devices.specs.State.{line_at};
-ghost use Rattle.devices.specs.Past.{IsSound, Same, Kept, KeptPage, Sent, standing_state};
+ghost use Rattle.devices.specs.World.{sent_by};
+ghost use Rattle.devices.specs.Past.{changes_of, IsSound, Same, Kept, KeptPage, Sent, standing_state, Begins, Starts, image_of, zero_image, zero_line};
 ghost use Rattle.devices.specs.declared.step.Step.TheVariants.{StoreWord, StoreLine, Flush, Fence, Sync};
 
+use crate::copies::{copy_images, copy_page, page_of};
 use crate::images::Images;
 use crate::step::{Entry, Sending, Step};
 use nvm_model::{Line, NoMemory};
 use ssd_model::PageBuf;
 use std::alloc::Global;
+use std::collections::BTreeMap;
 
 /// The calls so far, the devices before and after them, and the output.
 #[derive(Drop)]
@@ -53,26 +58,65 @@ pub(crate) fn copy_of(line: &Line) -> Line
     Line { words }
 }
 
-/// Makes one page the other.
-pub(crate) fn copy_page(from: &PageBuf, into: &mut PageBuf)
-    ensures { into.new ≡ from.now }
+/// Lines of zeros.
+#[tactic(auto, unfolding(crate::specs::Past::zero_line))]
+fn zero_lines(alloc: Global, lines: u64) -> Result<Vec<Line>, NoMemory>
+    ensures { IfOk result (λ made. made.items ≡ replicate lines zero_line) }
 {
-    let bytes = from.bytes();
-    for at in 0..into.bytes().len() {
-        into.set_byte(at, bytes[at]);
-    }
-}
-
-/// A copy of a page.
-pub(crate) fn page_of(from: &PageBuf) -> PageBuf
-    ensures { result ≡ from.now }
-{
-    let mut page = PageBuf::zero();
-    copy_page(from, &mut page);
-    page
+    let Ok(made) = vec![in alloc; Line { words: [0; 8] }; lines as usize] else {
+        return Err(NoMemory);
+    };
+    Ok(made)
 }
 
 impl Past {
+    /// No calls, over devices that hold this.
+    fn over(alloc: Global, lines: u64, base: Images, current: Images) -> Past
+        requires { Begins lines base current }
+        ensures sound { IsSound result }
+        ensures starts { Starts lines current.ssd_blocks (image_of base) result }
+    {
+        Past {
+            alloc,
+            lines,
+            base,
+            current,
+            entries: Vec::new(alloc),
+            sent: Vec::new(alloc),
+            sendings: Vec::new(alloc),
+        }
+    }
+
+    /// No calls, over devices of zeros.
+    pub(crate) fn zeros(alloc: Global, lines: u64, blocks: u64) -> Result<Past, NoMemory>
+        ensures sound { IfOk result (λ made. IsSound made) }
+        ensures starts { IfOk result (λ made. Starts lines blocks zero_image made) }
+    {
+        let base = Images {
+            nvm: Vec::new(alloc),
+            ssd_blocks: blocks,
+            ssd: BTreeMap::new(alloc),
+        };
+        let current = Images {
+            nvm: zero_lines(alloc, lines)?,
+            ssd_blocks: blocks,
+            ssd: BTreeMap::new(alloc),
+        };
+        Ok(Past::over(alloc, lines, base, current))
+    }
+
+    /// No calls, over devices with these contents.
+    pub(crate) fn of_images(alloc: Global, images: &Images) -> Result<Past, NoMemory>
+        requires { (b : ℕ) → IsSome (get nat_cmp images.now.ssd b) → b < images.now.ssd_blocks }
+        ensures sound { IfOk result (λ made. IsSound made) }
+        ensures starts { IfOk result (λ made. Starts (length images.now.nvm.items) images.now.ssd_blocks (image_of images.now) made) }
+    {
+        let base = copy_images(alloc, images)?;
+        let current = copy_images(alloc, images)?;
+        let lines = images.nvm.len() as u64;
+        Ok(Past::over(alloc, lines, base, current))
+    }
+
     /// The last version of each word of a line.
     pub(crate) fn load(&self, line: u64) -> Line
         requires sound { IsSound self.now }
@@ -217,5 +261,19 @@ impl Past {
             upto: self.sent.len(),
         });
         Ok(())
+    }
+
+    /// How many bytes were sent by a moment.
+    pub(crate) fn sent_by(&self, moment: usize) -> usize
+        requires { IsSound self.now }
+        ensures { result ≡ length (sent_by (changes_of self.now.sendings.items self.now.sent.items) moment) }
+    {
+        let mut upto = 0;
+        for sending in &self.sendings {
+            if sending.moment <= moment {
+                upto = sending.upto;
+            }
+        }
+        upto
     }
 }

@@ -1,5 +1,5 @@
 use Rattle.std.proofs.Common.{◌≡◌, ℕ, ◌<◌, length, slice_index}
-use Rattle.devices.proofs.past.copy_page.Given as goal
+use Rattle.devices.proofs.copies.copy_page.Given as goal
 
 -- the first bytes are copied
 abbrev pub invariant-loop-at : goal.invariant-loop-at
