@@ -10,3 +10,4 @@ pub mod SentLaws
 pub mod WorldLaws
 pub mod WriteLaws
 pub mod StartLaws
+pub mod CountLaws

@@ -72,6 +72,7 @@ pub(crate) fn begin(
     ensures later { tally.old.faults ≤ tally.new.faults }
     ensures calls { tally.new.calls ≡ min (tally.old.calls + 1) last_count }
     ensures events { events.new ≡ min (events.old + 1) last_count }
+    ensures more_events { events.old ≤ events.new }
 {
     let named = names(plan, kind, tally.calls);
     *events = events.saturating_add(1);

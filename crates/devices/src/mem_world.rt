@@ -1,6 +1,7 @@
 //! A world in memory, told and honest: it keeps each call that changed a device or the output, and so knows the state
 //! of both devices at each moment.
-ghost use Rattle.devices.specs.Past.{IsSound};
+ghost use Rattle.std.specs.Prelude.{◌≡◌, true};
+ghost use Rattle.devices.specs.Past.{IsSound, are_by};
 
 use crate::faults::{Fault, FaultKind, Tally, begin, run_short};
 use crate::past::Past;
@@ -25,6 +26,7 @@ pub struct MemWorld {
     pub(crate) block_reads: u64,
     pub(crate) short: u64,
     ghost sound: { IsSound past },
+    ghost counted: { are_by events past.entries.items ≡ true },
 }
 
 impl Devices for MemWorld {
