@@ -115,7 +115,8 @@ impl MemWorld {
 
     /// How many calls so far can fail.
     pub fn events(&self) -> u64
-        ensures { result ≡ self.now.events }
+        ensures count { result ≡ self.now.events }
+        ensures all { moment_after self.now.past.entries.items result ≡ (world self.now).clock }
     {
         self.events
     }
