@@ -1,16 +1,13 @@
 -- The numbers of the calls that were kept.
 use Rattle.std.proofs.Common.{◌≡◌, ℕ, ◌≤◌, List, [], ◌∷◌, ◌++◌, refl, ◌∙◌, ap, arith}
-use Rattle.std.specs.Prelude.{Bool, true, false, nat_le, ◌&&◌, ◌+◌, ◌<◌, min, length, suc, cond}
-use Rattle.std.specs.List.{prefix_len}
+use Rattle.std.specs.Prelude.{true, false, nat_le, ◌+◌, ◌<◌, min, length}
 use Rattle.devices.specs.World.{last_count}
 use Rattle.devices.specs.MemWorld.{moment_after, Marks}
-use Rattle.std.specs.List.{list_all}
 use Rattle.std.proofs.lemmas.Bool.Decides.{nat_tests}
 use Rattle.std.proofs.lemmas.List.Folds.{list_all-append}
 use Rattle.devices.specs.declared.step.Entry.{Entry}
 use Rattle.devices.specs.declared.step.Step.{Step}
-use Rattle.devices.specs.declared.past.Past.{Past}
-use Rattle.devices.specs.Past.{are_by, Same, Kept, Sent}
+use Rattle.devices.specs.Past.{are_by}
 use Rattle.devices.specs.Laws.{and_first, and_second}
 
 at_most : (event n : ℕ) → nat_le event n ≡ true → event ≤ n

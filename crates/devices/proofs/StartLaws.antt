@@ -1,6 +1,6 @@
 -- Devices at their start, and copies of what they hold.
-use Rattle.std.proofs.Common.{◌≡◌, ◌≢◌, ◌⊎◌, inl, inr, zero, suc, ℕ, ◌<◌, ◌≤◌, List, [], ◌∷◌, length, refl, sym, ◌∙◌, ap, subst, arith}
-use Rattle.std.specs.Prelude.{Bool, true, false, cond, nat_lt, slice_index, slice_index_or, Option, Some, None, IsSome, Result, Ok, Err, IfOk}
+use Rattle.std.proofs.Common.{◌≡◌, ◌≢◌, ◌⊎◌, inl, inr, zero, suc, ℕ, List, [], ◌∷◌, length, refl, sym, ◌∙◌, ap, subst, arith}
+use Rattle.std.specs.Prelude.{Bool, true, false, cond, nat_lt, slice_index, Option, Some, IsSome, Result, Ok, Err, IfOk}
 use Rattle.std.specs.Map.{lookup}
 use Rattle.std.specs.Option.{unwrap_or}
 use Rattle.std.specs.Ordering.{nat_cmp}
@@ -12,11 +12,10 @@ use Rattle.nvm_model.specs.declared.line.Line.{Line}
 use Rattle.ssd_model.specs.Page.{zero_page}
 use Rattle.devices.specs.declared.images.Images.{Images}
 use Rattle.devices.specs.declared.step.Entry.{Entry}
-use Rattle.devices.specs.declared.step.Sending.{Sending}
 use Rattle.devices.specs.declared.past.Past.{Past}
 use Rattle.devices.specs.State.{State, Image, fresh}
 use Rattle.devices.specs.World.{sent_by}
-use Rattle.devices.specs.Past.{image_of, zero_image, zero_line, word_in, page_in, replay, standing_state, IsSound, Begins, Copies, Starts}
+use Rattle.devices.specs.Past.{image_of, zero_image, zero_line, word_in, replay, standing_state, IsSound, Begins, Copies, Starts}
 use Rattle.devices.specs.declared.mem_world.MemWorld.{MemWorld}
 use Rattle.devices.specs.MemWorld.{standing_of, world, IsFresh}
 

@@ -55,8 +55,7 @@ pub(crate) struct Tally {
 fn names(plan: &[Fault], kind: FaultKind, nth: u64) -> bool
     ensures { result ≡ is_named plan.now kind nth }
 {
-    plan.iter()
-        .any(|fault| fault.kind.number() == kind.number() && fault.nth == nth)
+    plan.iter().any(|fault| fault.kind.number() == kind.number() && fault.nth == nth)
 }
 
 /// Counts one call more, which fails exactly where a fault names it.

@@ -141,18 +141,17 @@ impl Past {
         ensures ok { OnOk result (Kept event (StoreWord line word value) self.old self.new) }
         ensures err { OnErr result (Same self.old self.new) }
     {
-        note(&mut self.entries, event, Step::StoreWord { line, word, value })?;
+        note(
+            &mut self.entries,
+            event,
+            Step::StoreWord { line, word, value },
+        )?;
         set_word(&mut self.current.nvm[line as usize], word, value);
         Ok(())
     }
 
     /// Stores a line, or finds no memory and changes nothing.
-    pub(crate) fn store_line(
-        &mut self,
-        event: u64,
-        line: u64,
-        value: &Line,
-    ) -> Result<(), NoMemory>
+    pub(crate) fn store_line(&mut self, event: u64, line: u64, value: &Line) -> Result<(), NoMemory>
         requires sound { IsSound self.old }
         requires line { line < self.old.lines }
         ensures sound { IsSound self.new }
