@@ -11,3 +11,4 @@ pub mod WorldLaws
 pub mod WriteLaws
 pub mod StartLaws
 pub mod CountLaws
+pub mod ReplayLaws

@@ -14,7 +14,7 @@ use Rattle.devices.specs.World.{sent_by}
 use Rattle.devices.specs.Past.{image_of, word_in, page_in, made, replay_from, replay, standing_state, is_within, is_past, IsSound, Same, Kept}
 use Rattle.devices.specs.Laws.{and_first, and_second, past_moment, last_later}
 
-replay_from_push : (s : State) (entries : List Entry) (e : Entry) → replay_from s (entries ++ e ∷ []) ≡ made e.step (replay_from s entries)
+pub replay_from_push : (s : State) (entries : List Entry) (e : Entry) → replay_from s (entries ++ e ∷ []) ≡ made e.step (replay_from s entries)
 replay_from_push s [] e = refl
 replay_from_push s (first ∷ entries) e = replay_from_push (made first.step s) entries e
 

@@ -7,7 +7,7 @@ ghost use Rattle.devices.specs.World.{sent_by};
 ghost use Rattle.devices.specs.Past.{changes_of, IsSound, Same, Kept, KeptPage, Sent, standing_state, Begins, Starts, image_of, zero_image, zero_line};
 ghost use Rattle.devices.specs.declared.step.Step.TheVariants.{StoreWord, StoreLine, Flush, Fence, Sync};
 
-use crate::copies::{copy_images, copy_page, page_of};
+use crate::copies::copy_images;
 use crate::images::Images;
 use crate::step::{Entry, Sending, Step};
 use nvm_model::{Line, NoMemory};
@@ -193,7 +193,7 @@ impl Past {
         ensures { into.new ≡ ((standing_state self.now).ssd block).bytes }
     {
         match self.current.ssd.get(&block) {
-            Some(page) => copy_page(page, into),
+            Some(page) => into.copy_from(page),
             None => *into = PageBuf::zero(),
         }
     }
@@ -214,10 +214,10 @@ impl Past {
         if self.entries.reserve(1).is_err() {
             return Err(NoMemory);
         }
-        let Ok(page) = Box::new(self.alloc, page_of(from)) else {
+        let Ok(page) = Box::new(self.alloc, from.copy()) else {
             return Err(NoMemory);
         };
-        let Ok(_) = self.current.ssd.insert(block, page_of(from)) else {
+        let Ok(_) = self.current.ssd.insert(block, from.copy()) else {
             return Err(NoMemory);
         };
         self.entries.push_reserved(Entry {

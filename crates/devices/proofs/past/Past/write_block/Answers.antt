@@ -16,7 +16,7 @@ returns-clause-sound c =
     let sound = c.requires.sound in
     let page = c.in-Ok.page in
     let entry : Entry = record { event = c.args.event; step = WriteBlock c.args.block page } in
-    let bytes : c.page_of-2.result ≡ page.value = c.page_of-2.ensures ∙ sym c.page_of.ensures ∙ sym c.in-Ok.ensures.ok in
+    let bytes : c.copy-2.result ≡ page.value = c.copy-2.ensures.value ∙ sym c.copy.ensures.value ∙ sym c.in-Ok.ensures.ok in
     let updates : Updates nat_cmp old.current.ssd c.insert.new.self c.args.block (Some page.value) = subst (λ bs. Updates nat_cmp old.current.ssd c.insert.new.self c.args.block (Some bs)) bytes c.in-Ok-insert.ensures.updates in
     sound_kept old _ sound {step = WriteBlock c.args.block page}
     (record { stands = record { lines = refl; blocks = refl; base = refl }; entries = c.push_reserved.ensures.items ∙ ap (λ (es : List Entry). es ++ entry ∷ []) c.reserve.ensures.items; sent = refl; sendings = refl })
