@@ -4,4 +4,12 @@ pub mod DurableLaws
 pub mod FreshLaws
 pub mod MomentLaws
 pub mod CallLaws
+pub mod JoinLaws
+pub mod PastLaws
+pub mod ContentLaws
+pub mod SentLaws
 pub mod WorldLaws
+pub mod WriteLaws
+pub mod StartLaws
+pub mod CountLaws
+pub mod ReplayLaws

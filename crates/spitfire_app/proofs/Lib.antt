@@ -1,0 +1,7 @@
+pub mod WriteLaws
+pub mod EngineLaws
+pub mod RunLaws
+pub mod ByteLaws
+pub mod PromiseLaws
+pub mod CauseLaws
+pub mod FormatLaws
