@@ -12,3 +12,6 @@ mod words;
 
 pub use top::spitfire;
 pub use words::Words;
+
+#[cfg(test)]
+mod tests;
