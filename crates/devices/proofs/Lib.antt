@@ -12,3 +12,4 @@ pub mod WriteLaws
 pub mod StartLaws
 pub mod CountLaws
 pub mod ReplayLaws
+pub mod LeavingLaws
