@@ -1,8 +1,8 @@
 -- Laws of the words by line and place.
-use Rattle.std.proofs.Common.{◌≡◌, ◌≢◌, ℕ, zero, suc, ◌+◌, ◌*◌, ◌≤◌, ◌<◌, Bool, true, false, List, [], ◌∷◌, ◌++◌, map, length, get_or, set, replicate, refl, sym, ap, ◌∙◌, subst, inl, inr, arith, ltb, eqb, cond}
+use Rattle.std.proofs.Common.{◌≡◌, ◌≢◌, ◌⊎◌, ℕ, zero, suc, ◌+◌, ◌*◌, ◌≤◌, ◌<◌, Bool, true, false, List, [], ◌∷◌, ◌++◌, map, length, get_or, set, replicate, refl, sym, ap, ◌∙◌, subst, inl, inr, arith, ltb, eqb, cond}
 use mathlib.Core.Path.{fun_ext}
 use Rattle.std.proofs.lemmas.Bool.{cond-true, cond-false, lt-ltb, le-ltb, cases_lt, cases_eq, eq-eqb, ne_eqb}
-use Rattle.std.proofs.lemmas.List.{get_or-set_same, get_or-set_other, length-map, ext_get_or}
+use Rattle.std.proofs.lemmas.List.{get_or-set_same, get_or-set_other, length-map, get_or_past, ext_get_or}
 use Rattle.nvm_model.specs.declared.line.Line.{Line}
 use Rattle.nvm_model.specs.Word.{Word, stored, marked, trimmed, single, oldest}
 use Rattle.nvm_model.specs.Memory.{Memory, zeros, with_word, with_marks, fenced_memory}
@@ -13,7 +13,8 @@ use Rattle.nvm_model.specs.declared.versions.Versions.{Versions}
 use Rattle.nvm_model.specs.Held.{Held, held_of, helds_of, word_in, words_in, touched, blank, AreUpTo}
 use Rattle.std.proofs.lemmas.List.Elements.{All-from_get_or}
 use Rattle.nvm_model.specs.Progress.{Progress}
-use Rattle.nvm_model.specs.Contents.{memory_from}
+use Rattle.nvm_model.specs.Contents.{memory_from, memory_of, lines_of}
+use Rattle.nvm_model.specs.declared.state.NvmState.{NvmState}
 use Rattle.nvm_model.proofs.HeldLaws.{held_read, word_in-newest, word_in-touched, word_in-blank, word_in-restart, words_in-next}
 
 -- an element of a mapped list, also past its end
@@ -196,3 +197,14 @@ chosen_newest choice i line place word at test = sym (cond-false (takes_oldest c
 pub image_more : (choice : Choice) (memory : Memory) (line : ℕ) (lines : List Line) (left : Line) → lines ≡ image_of choice memory line → left ≡ chosen_line choice memory line
     → lines ++ left ∷ [] ≡ image_of choice memory (line + 1)
 image_more choice memory line lines left so_far is = rw (so_far, is) (sym (map-range_with_len_more (chosen_line choice memory) 0 line line (omega arith)))
+
+-- a word outside the size is 0, with one version
+pub memory_outside : (state : NvmState) (l w : ℕ) → (lines_of state ≤ l) ⊎ (8 ≤ w) → memory_of state l w ≡ single 0
+unfolding memory_of
+memory_outside state l w (inr past) = word_past (words_in state.interval (helds_of state.words.items)) l w past
+memory_outside state l w (inl past) = elim (cases_lt w 8) [
+  | inl low ↦ word_seen state.interval (helds_of state.words.items) l w low
+      ∙ ap (word_in state.interval) (get_or_past (helds_of state.words.items) (8 * l + w) blank (rw (length-map state.words.items held_of) (omega (arith, state.size))))
+      ∙ word_in-blank state.interval
+  | inr high ↦ word_past (words_in state.interval (helds_of state.words.items)) l w high
+]

@@ -1,5 +1,5 @@
 -- Laws of the entries of written blocks.
-use Rattle.std.proofs.Common.{◌≡◌, ◌≢◌, ℕ, ◌+◌, ◌≤◌, ◌<◌, true, false, Option, Some, None, List, refl, sym, ap, ◌∙◌, subst, inl, inr, arith, ltb, eqb, cond, IsTrue, Result, Ok, Err}
+use Rattle.std.proofs.Common.{◌≡◌, ℕ, ◌+◌, ◌≤◌, ◌<◌, false, Option, Some, None, List, refl, sym, ap, ◌∙◌, subst, inl, inr, arith, ltb, IsTrue, Result, Ok, Err}
 use mathlib.Core.Path.{fun_ext}
 use Rattle.std.specs.Prelude.{OnOk, OnErr}
 use Rattle.std.specs.Option.{ForSome, option_map}
@@ -11,8 +11,8 @@ use Rattle.std.specs.Ordering.{nat_cmp}
 use Rattle.ssd_model.specs.declared.choice.BlockChoice.{BlockChoice}
 use Rattle.ssd_model.specs.Choose.{chosen_bytes}
 use Rattle.ssd_model.specs.declared.sector.Sector.{Sector}
-use Rattle.ssd_model.specs.Block.{Block, Disk, zero_disk, settled_block, with_block, all_settled}
-use Rattle.ssd_model.specs.Sectors.{block_in, synced_in, disk_in, synced_disk_in, restarted, IsWritten, Writes, SameSectors, AreUpTo, AreRestarted}
+use Rattle.ssd_model.specs.Block.{zero_disk, settled_block, with_block, all_settled}
+use Rattle.ssd_model.specs.Sectors.{block_in, synced_in, disk_in, synced_disk_in, restarted, IsWritten, Writes, SameSectors, AreUpTo, AreWithin, AreRestarted}
 
 -- what both outcomes give
 pub on_both : {T E P Q X : Type 0} (r : Result T E) → OnOk r P → OnErr r Q → (P → X) → (Q → X) → X
@@ -79,6 +79,12 @@ module _ (old new : BTreeMap ℕ Sector) where
     | inr other ↦ up_to q x (sym (writes.others q other) ∙ found)
   ]
 
+  pub within_written : (i block blocks : ℕ) (bytes : List ℕ) → Writes i block bytes old new → block < blocks → AreWithin blocks old → AreWithin blocks new
+  within_written i block blocks bytes writes fits within q x found = elim (cases_eq q block) [
+    | inl same ↦ omega arith
+    | inr other ↦ within q x (sym (writes.others q other) ∙ found)
+  ]
+
   -- and where none was
   pub disk_same : (i : ℕ) → SameSectors old new → disk_in i new ≡ disk_in i old
   disk_same i same = fun_ext (λ b. ap (block_in i) (same b))
@@ -89,12 +95,22 @@ module _ (old new : BTreeMap ℕ Sector) where
   pub up_to_same : (i : ℕ) → SameSectors old new → AreUpTo i old → AreUpTo i new
   up_to_same i same up_to q x found = up_to q x (sym (same q) ∙ found)
 
+  pub within_same : (blocks : ℕ) → SameSectors old new → AreWithin blocks old → AreWithin blocks new
+  within_same blocks same within q x found = within q x (sym (same q) ∙ found)
+
   -- the disk once all blocks begin at the first interval again
   pub disk_restarted : (i : ℕ) → AreRestarted old new → disk_in 1 new ≡ all_settled (disk_in i old)
   disk_restarted i again = fun_ext (λ b. ap (block_in 1) (again b) ∙ settled_restarted i (get nat_cmp old b))
 
   pub disk_synced_restarted : (i : ℕ) → AreRestarted old new → synced_disk_in 1 new ≡ (λ b. (disk_in i old b).bytes)
   disk_synced_restarted i again = fun_ext (λ b. ap (synced_in 1) (again b) ∙ synced_restarted i (get nat_cmp old b))
+
+  pub within_restarted : (blocks : ℕ) → AreRestarted old new → AreWithin blocks old → AreWithin blocks new
+  within_restarted blocks again within q x found = some_within (get nat_cmp old q) x (within q) (sym (again q) ∙ found)
+    where
+      some_within : (entry : Option Sector) (y : Sector) → ForSome entry (λ _sector. q < blocks) → option_map restarted entry ≡ Some y → q < blocks
+      some_within None y h e = absurd (cc)
+      some_within (Some sector) y h e = h sector refl
 
   pub up_to_restarted : AreRestarted old new → AreUpTo 1 new
   up_to_restarted again q x found = low_restarted (get nat_cmp old q) x (sym (again q) ∙ found)
@@ -130,3 +146,12 @@ found_choice m i block choice entry found = ap (λ (o : Option Sector). chosen_b
 pub filled_zero : filled_page 0 ≡ zero_page
 unfolding zero_page filled_page
 filled_zero = refl
+
+-- a block outside the size
+pub outside_block : (i b blocks : ℕ) (entry : Option Sector) → ForSome entry (λ _sector. b < blocks) → blocks ≤ b → block_in i entry ≡ settled_block zero_page
+outside_block i b blocks None h past = refl
+outside_block i b blocks (Some sector) h past = let low : b < blocks = h sector refl in absurd (omega arith)
+
+pub outside_synced : (i b blocks : ℕ) (entry : Option Sector) → ForSome entry (λ _sector. b < blocks) → blocks ≤ b → synced_in i entry ≡ zero_page
+outside_synced i b blocks None h past = refl
+outside_synced i b blocks (Some sector) h past = let low : b < blocks = h sector refl in absurd (omega arith)

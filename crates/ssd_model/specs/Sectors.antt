@@ -1,5 +1,5 @@
 -- What the entry of one block stands for. A block without one was never written.
-use Rattle.std.specs.Prelude.{◌≡◌, ◌≢◌, ℕ, ◌≤◌, Option, Some, None, List, if◌then◌else◌, nat_lt}
+use Rattle.std.specs.Prelude.{◌≡◌, ◌≢◌, ℕ, ◌<◌, ◌≤◌, Option, Some, None, List, if◌then◌else◌, nat_lt}
 use Rattle.std.specs.Option.{ForSome, option_map}
 use Rattle.std.specs.Ordering.{nat_cmp}
 use Rattle.std.specs.BTreeMap.{BTreeMap, get}
@@ -27,6 +27,10 @@ synced_disk_in interval sectors = λ b. synced_in interval (get nat_cmp sectors 
 -- each block was last written in this sync interval or in an earlier one
 abbrev pub AreUpTo : ℕ → BTreeMap ℕ Sector → Type 0
 AreUpTo interval sectors = (q : ℕ) → ForSome (get nat_cmp sectors q) (λ sector. sector.interval ≤ interval)
+
+-- no block outside the size was written
+abbrev pub AreWithin : ℕ → BTreeMap ℕ Sector → Type 0
+AreWithin blocks sectors = (q : ℕ) → ForSome (get nat_cmp sectors q) (λ _sector. q < blocks)
 
 -- the entry as if it was last written in the first interval
 abbrev pub restarted : Sector → Sector

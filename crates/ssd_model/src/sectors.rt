@@ -8,7 +8,13 @@ use std::alloc::{AllocError, Global};
 use std::collections::BTreeMap;
 
 /// Makes these bytes the current ones of a block, or changes nothing.
-pub fn write_at(written: &mut BTreeMap<u64, Sector>, alloc: Global, interval: u64, block: u64, from: &PageBuf) -> Result<(), AllocError>
+pub fn write_at(
+    written: &mut BTreeMap<u64, Sector>,
+    alloc: Global,
+    interval: u64,
+    block: u64,
+    from: &PageBuf,
+) -> Result<(), AllocError>
     ensures writes { OnOk result (Writes interval block from.now written.old written.new) }
     ensures unchanged { OnErr result (SameSectors written.old written.new) }
     ensures page { length from.now ≡ 4096 }

@@ -3,7 +3,7 @@ ghost use Rattle.std.specs.Prelude.{◌≡◌, ◌<◌, OnOk, OnErr, length};
 ghost use Rattle.ssd_model.specs.Block.{zero_disk, with_block, all_settled};
 ghost use Rattle.ssd_model.specs.Page.{zero_page};
 ghost use Rattle.ssd_model.specs.Choose.{chosen_bytes};
-ghost use Rattle.ssd_model.specs.Sectors.{AreUpTo};
+ghost use Rattle.ssd_model.specs.Sectors.{AreUpTo, AreWithin};
 
 use crate::choice::BlockChoice;
 use crate::page::PageBuf;
@@ -22,6 +22,7 @@ pub struct SsdState {
     /// How many syncs there were since all blocks began at the first interval.
     interval: u64,
     ghost up_to: { AreUpTo interval written },
+    ghost within: { AreWithin blocks written },
 }
 
 impl SsdState {

@@ -1,4 +1,3 @@
-use Rattle.std.proofs.Common.{ap}
 use Rattle.ssd_model.specs.Contents.{disk_of, synced_of}
 use Rattle.ssd_model.proofs.SectorLaws.{disk_empty, synced_empty}
 use Rattle.ssd_model.proofs.state.SsdState.new.Goals as goal

@@ -1,6 +1,6 @@
 use Rattle.std.proofs.lemmas.Result.{on_ok_weaker, on_err_weaker}
 use Rattle.ssd_model.specs.Contents.{disk_of, synced_of}
-use Rattle.ssd_model.proofs.SectorLaws.{on_both, disk_written, synced_written, up_to_written, disk_same, synced_same, up_to_same}
+use Rattle.ssd_model.proofs.SectorLaws.{on_both, disk_written, synced_written, up_to_written, disk_same, synced_same, up_to_same, within_written, within_same}
 use Rattle.ssd_model.proofs.state.SsdState.write.Goals as goal
 
 pub invariant_of-self : goal.invariant_of-self
@@ -8,6 +8,9 @@ invariant_of-self c = record {
   up_to = on_both c.write_at.result c.write_at.ensures.writes c.write_at.ensures.unchanged
       (λ writes. up_to_written c.args.self.now.written c.write_at.new.written c.args.self.now.interval c.args.block c.args.from.now writes c.args.self.now.up_to)
       (λ same. up_to_same c.args.self.now.written c.write_at.new.written c.args.self.now.interval same c.args.self.now.up_to);
+  within = on_both c.write_at.result c.write_at.ensures.writes c.write_at.ensures.unchanged
+      (λ writes. within_written c.args.self.now.written c.write_at.new.written c.args.self.now.interval c.args.block c.args.self.now.blocks c.args.from.now writes c.requires c.args.self.now.within)
+      (λ same. within_same c.args.self.now.written c.write_at.new.written c.args.self.now.blocks same c.args.self.now.within);
 }
 
 pub returns-clause-written : goal.returns-clause-written
