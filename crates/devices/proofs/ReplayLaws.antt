@@ -1,6 +1,6 @@
 -- The states of both devices as calls are made again.
 use Rattle.std.proofs.Common.{◌≡◌, ◌≢◌, ◌⊎◌, inl, inr, ℕ, ◌+◌, ◌<◌, ◌≤◌, List, [], ◌∷◌, ◌++◌, length, take, refl, sym, ◌∙◌, ap, subst, arith}
-use Rattle.std.specs.Prelude.{Bool, true, false, cond, nat_lt, eqb, slice_index, slice_index_or, get_or, Option, Some, IsSome}
+use Rattle.std.specs.Prelude.{Bool, true, false, cond, nat_lt, slice_index, get_or, Option, Some, IsSome}
 use Rattle.std.specs.Map.{lookup}
 use Rattle.std.specs.Option.{unwrap_or}
 use Rattle.std.specs.Ordering.{nat_cmp}
@@ -9,7 +9,7 @@ use Rattle.std.proofs.lemmas.Bool.{cases_eq, cases_lt, eq-eqb, ne_eqb}
 use Rattle.std.proofs.lemmas.List.{get_or_past, take_more}
 use mathlib.Core.Path.{fun_ext}
 use Rattle.nvm_model.specs.declared.line.Line.{Line}
-use Rattle.nvm_model.specs.Word.{Word, single, trimmed}
+use Rattle.nvm_model.specs.Word.{single, trimmed}
 use Rattle.nvm_model.specs.Memory.{Memory, fenced_memory}
 use Rattle.ssd_model.specs.Block.{Block, Disk, with_block}
 use Rattle.ssd_model.specs.Page.{zero_page}

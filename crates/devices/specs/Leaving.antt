@@ -1,5 +1,5 @@
 -- What choices leave of both devices.
-use Rattle.std.specs.Prelude.{◌≡◌, ℕ, ◌<◌, List, length, IsSome}
+use Rattle.std.specs.Prelude.{◌≡◌, ℕ, ◌<◌, length, IsSome}
 use Rattle.std.specs.Ordering.{nat_cmp}
 use Rattle.std.specs.BTreeMap.{get}
 use Rattle.nvm_model.specs.declared.line.Choice.{Choice}

@@ -118,7 +118,7 @@ fn states_of(alloc: Global, base: &Images, lines: u64, blocks: u64) -> Result<St
     requires blocks { (b : ℕ) → IsSome (get nat_cmp base.now.ssd b) → b < blocks }
     ensures state { IfOk result (λ made. state_of made.nvm made.ssd ≡ fresh (image_of base.now)) }
     ensures lines { IfOk result (λ made. lines_of made.nvm ≡ lines) }
-    ensures blocks { IfOk result (λ made. blocks_of made.ssd ≡ blocks) }
+    ensures disk_size { IfOk result (λ made. blocks_of made.ssd ≡ blocks) }
 {
     let mut nvm = NvmState::new(alloc, lines)?;
     let mut ssd = SsdState::new(alloc, blocks);
@@ -134,7 +134,7 @@ impl Past {
         requires moment { moment ≤ length self.now.entries.items }
         ensures state { IfOk result (λ made. state_of made.nvm made.ssd ≡ replay (image_of self.now.base) (take moment self.now.entries.items)) }
         ensures lines { IfOk result (λ made. lines_of made.nvm ≡ self.now.lines) }
-        ensures blocks { IfOk result (λ made. blocks_of made.ssd ≡ self.now.current.ssd_blocks) }
+        ensures disk_size { IfOk result (λ made. blocks_of made.ssd ≡ self.now.current.ssd_blocks) }
     {
         let mut made = states_of(alloc, &self.base, self.lines, self.current.ssd_blocks)?;
         make_all(&self.entries[..moment], &mut made.nvm, &mut made.ssd)?;

@@ -30,12 +30,12 @@ pub struct MemWorld {
 }
 
 impl Devices for MemWorld {
-    ghost use Rattle.std.specs.Prelude.{◌≡◌, ◌<◌, ℕ, length, IsTrue, IfOk, OnErr, OnOk};
+    ghost use Rattle.std.specs.Prelude.{◌≡◌, ◌<◌, ℕ, true, false, length, IsTrue, IfOk, OnErr, OnOk};
     ghost use Rattle.devices.specs.State.{line_at};
     ghost use Rattle.devices.specs.State.Call.{store_word, store_line, flush, fence, write_block, sync};
     ghost use Rattle.devices.specs.World.{now, Goes, Stays, Makes, NvmCause, SsdCause, Counts};
     ghost use Rattle.devices.specs.Faults.{is_named};
-    ghost use Rattle.devices.specs.MemWorld.{world, FailsExactly, FailsOnlyAt, Marks};
+    ghost use Rattle.devices.specs.MemWorld.{world, FailsExactly, FailsOnlyAt, Calls, Marks};
     ghost use Rattle.devices.specs.declared.faults.FaultKind.TheVariants.{Nvm, Ssd};
 
     ghost standing = { world };
@@ -55,6 +55,7 @@ impl Devices for MemWorld {
         ensures value { IsTrue (world self.old).told → IfOk result (λ found. found ≡ line_at (now (world self.old)) line) }
         ensures cause { NvmCause (world self.old) (world self.new) result }
         ensures exactly { FailsOnlyAt (is_named self.old.plan.items Nvm self.old.nvm.calls) self.old.short self.new.short result }
+        ensures calls { Calls true false false false false self.old self.new }
         ensures marks { Marks self.old.past.entries.items self.new.past.entries.items self.old.events self.new.events }
     {
         begin(&self.plan, FaultKind::Nvm, &mut self.nvm, &mut self.events)?;
@@ -68,6 +69,7 @@ impl Devices for MemWorld {
         ensures makes { Makes (store_word line word value) (world self.old) (world self.new) result }
         ensures cause { NvmCause (world self.old) (world self.new) result }
         ensures exactly { FailsExactly (is_named self.old.plan.items Nvm self.old.nvm.calls) self.old.short self.new.short result }
+        ensures calls { Calls true false false false false self.old self.new }
         ensures marks { Marks self.old.past.entries.items self.new.past.entries.items self.old.events self.new.events }
     {
         begin(&self.plan, FaultKind::Nvm, &mut self.nvm, &mut self.events)?;
@@ -83,6 +85,7 @@ impl Devices for MemWorld {
         ensures makes { Makes (store_line line value.now) (world self.old) (world self.new) result }
         ensures cause { NvmCause (world self.old) (world self.new) result }
         ensures exactly { FailsExactly (is_named self.old.plan.items Nvm self.old.nvm.calls) self.old.short self.new.short result }
+        ensures calls { Calls true false false false false self.old self.new }
         ensures marks { Marks self.old.past.entries.items self.new.past.entries.items self.old.events self.new.events }
     {
         begin(&self.plan, FaultKind::Nvm, &mut self.nvm, &mut self.events)?;
@@ -98,6 +101,7 @@ impl Devices for MemWorld {
         ensures makes { Makes (flush line) (world self.old) (world self.new) result }
         ensures cause { NvmCause (world self.old) (world self.new) result }
         ensures exactly { FailsExactly (is_named self.old.plan.items Nvm self.old.nvm.calls) self.old.short self.new.short result }
+        ensures calls { Calls true false false false false self.old self.new }
         ensures marks { Marks self.old.past.entries.items self.new.past.entries.items self.old.events self.new.events }
     {
         begin(&self.plan, FaultKind::Nvm, &mut self.nvm, &mut self.events)?;
@@ -113,6 +117,7 @@ impl Devices for MemWorld {
         ensures or_not { OnErr result (Stays (world self.old) (world self.new)) }
         ensures cause { NvmCause (world self.old) (world self.new) result }
         ensures exactly { FailsExactly (is_named self.old.plan.items Nvm self.old.nvm.calls) self.old.short self.new.short result }
+        ensures calls { Calls true false false false false self.old self.new }
         ensures marks { Marks self.old.past.entries.items self.new.past.entries.items self.old.events self.new.events }
     {
         begin(&self.plan, FaultKind::Nvm, &mut self.nvm, &mut self.events)?;
@@ -130,6 +135,7 @@ impl Devices for MemWorld {
         ensures cause { SsdCause (world self.old) (world self.new) result }
         ensures counts { Counts (world self.old) (world self.new) }
         ensures exactly { FailsOnlyAt (is_named self.old.plan.items Ssd self.old.ssd.calls) self.old.short self.new.short result }
+        ensures calls { Calls false true false false false self.old self.new }
         ensures marks { Marks self.old.past.entries.items self.new.past.entries.items self.old.events self.new.events }
     {
         self.block_reads = self.block_reads.saturating_add(1);
@@ -145,6 +151,7 @@ impl Devices for MemWorld {
         ensures cause { SsdCause (world self.old) (world self.new) result }
         ensures reads { (world self.new).block_reads ≡ (world self.old).block_reads }
         ensures exactly { FailsExactly (is_named self.old.plan.items Ssd self.old.ssd.calls) self.old.short self.new.short result }
+        ensures calls { Calls false true false false false self.old self.new }
         ensures marks { Marks self.old.past.entries.items self.new.past.entries.items self.old.events self.new.events }
     {
         begin(&self.plan, FaultKind::Ssd, &mut self.ssd, &mut self.events)?;
@@ -161,6 +168,7 @@ impl Devices for MemWorld {
         ensures cause { SsdCause (world self.old) (world self.new) result }
         ensures reads { (world self.new).block_reads ≡ (world self.old).block_reads }
         ensures exactly { FailsExactly (is_named self.old.plan.items Ssd self.old.ssd.calls) self.old.short self.new.short result }
+        ensures calls { Calls false true false false false self.old self.new }
         ensures marks { Marks self.old.past.entries.items self.new.past.entries.items self.old.events self.new.events }
     {
         begin(&self.plan, FaultKind::Ssd, &mut self.ssd, &mut self.events)?;
@@ -176,7 +184,7 @@ impl World for MemWorld {
     ghost use Rattle.devices.specs.World.{ReadsNext, OnlyChanges, Sends, WorldCall, OwnCause};
     ghost use Rattle.devices.specs.Faults.{is_named};
     ghost use Rattle.devices.specs.Laws.{sent_later};
-    ghost use Rattle.devices.specs.MemWorld.{world, FailsExactly, FailsOnlyAt, Marks};
+    ghost use Rattle.devices.specs.MemWorld.{world, FailsExactly, FailsOnlyAt, Calls, Marks};
     ghost use Rattle.devices.specs.declared.faults.FaultKind.TheVariants.{Settings, Source, Sink};
 
     ghost timed = { λ w m le. sent_later w.past m w.sound le };
@@ -189,6 +197,7 @@ impl World for MemWorld {
         ensures reads { ReadsNext (world self.old).told (world self.old).outside.settings (world self.new).outside.settings result into.new }
         ensures rest { OnlyChanges true false false (world self.old) (world self.new) }
         ensures exactly { FailsOnlyAt (is_named self.old.plan.items Settings self.old.settings_reads.calls) self.old.short self.new.short result }
+        ensures calls { Calls false false true false false self.old self.new }
         ensures marks { Marks self.old.past.entries.items self.new.past.entries.items self.old.events self.new.events }
     {
         begin(
@@ -208,6 +217,7 @@ impl World for MemWorld {
         ensures reads { ReadsNext (world self.old).told (world self.old).outside.input (world self.new).outside.input result into.new }
         ensures rest { OnlyChanges false true false (world self.old) (world self.new) }
         ensures exactly { FailsOnlyAt (is_named self.old.plan.items Source self.old.script_reads.calls) self.old.short self.new.short result }
+        ensures calls { Calls false false false true false self.old self.new }
         ensures marks { Marks self.old.past.entries.items self.new.past.entries.items self.old.events self.new.events }
     {
         begin(
@@ -227,6 +237,7 @@ impl World for MemWorld {
         ensures sends { Sends (world self.old) (world self.new) bytes.now result }
         ensures rest { OnlyChanges false false true (world self.old) (world self.new) }
         ensures exactly { FailsExactly (is_named self.old.plan.items Sink self.old.writes.calls) self.old.short self.new.short result }
+        ensures calls { Calls false false false false true self.old self.new }
         ensures marks { Marks self.old.past.entries.items self.new.past.entries.items self.old.events self.new.events }
         ensures whole { IfOk result (λ count. count ≡ length bytes.now) }
     {

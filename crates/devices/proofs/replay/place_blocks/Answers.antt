@@ -1,6 +1,5 @@
 use Rattle.std.proofs.Common.{rules, refl, ◌∙◌, ◌<◌, subst, sym}
 use Rattle.std.specs.Prelude.{Option, List, ℕ, IsSome}
-use Rattle.std.specs.Ordering.{nat_cmp}
 use Rattle.std.specs.Map.Iter.{deref_pair}
 use Rattle.std.proofs.lemmas.Cmp.{nat_cmp_total}
 use Rattle.std.proofs.lemmas.Map.Iter.{btree_map_turn, rest_more}
