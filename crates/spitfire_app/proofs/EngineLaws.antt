@@ -12,10 +12,8 @@ use Rattle.script.specs.declared.command.Command.{Command}
 use Rattle.script.specs.declared.command.Command.TheVariants.{Put, Get}
 use Rattle.script.proofs.MachineLaws.{step_full}
 use Rattle.row_log.specs.InOrder.{InOrder}
+use Rattle.row_log.proofs.OrderLaws.{image_in_order}
 use Rattle.spitfire_app.specs.Engine.{Steps, HasEither}
-
-pub image_in_order : (s : Devices) (rows : Rows) (i : Image) → InOrder s rows → Leaves s i → InOrder (fresh i) rows
-image_in_order s rows i is leaves = ?
 
 -- what holds whatever is answered holds with ok
 pub OnOk-any : {T E P : Type 0} (r : Result T E) → P → OnOk r P
@@ -25,7 +23,7 @@ OnOk-any (Err e) p = tt
 -- a step that does nothing
 pub steps_still : {T E : Type 0} (rows after : Rows) (a : Standing) (r : Result T E) → after ≡ rows → InOrder (now a) rows → Steps rows after a a r
 steps_still rows after a r same is = record {
-  moments = Moments-at (λ i leaves. inl (image_in_order (now a) rows i is leaves));
+  moments = Moments-at (λ i leaves. inl (image_in_order is leaves));
   ok = OnOk-any r (subst (λ (x : Rows). InOrder (now a) x) (sym same) is);
 }
 

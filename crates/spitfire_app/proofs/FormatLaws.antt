@@ -8,7 +8,7 @@ use Rattle.devices.proofs.MomentLaws.{Goes-sent, Moments-trans}
 use Rattle.row_log.specs.InOrder.{InOrder, MayFormat, Formats}
 use Rattle.spitfire_app.specs.Sent.{Writes}
 use Rattle.spitfire_app.specs.Promises.{formatted, Formatted}
-use Rattle.spitfire_app.proofs.EngineLaws.{image_in_order}
+use Rattle.row_log.proofs.OrderLaws.{image_in_order}
 
 -- nothing was sent, so not the whole line
 unsent : {A : Type 0} (front out : List ℕ) → out ≡ front → out ≡ front ++ formatted → A
@@ -30,7 +30,7 @@ module _ (old mid : Standing) (timed : IsTimed old) (goes : Goes old mid) where
   -- it was made, and the line is sent
   module _ {T E : Type 0} (new : Standing) (result : Result T E) (told : IsTrue mid.told) (call : WorldCall mid new) (writes : Writes formatted mid new result) (moments : Moments old mid (MayFormat (now old))) (made : InOrder (now mid) []) where
     kept : (m : ℕ) → mid.clock ≤ m → m ≤ new.clock → (i : Image) → Leaves (new.at m) i → InOrder (fresh i) []
-    kept m low high i leaves = image_in_order (now mid) [] i made (subst (λ (x : Devices). Leaves x i) ((call.stays told).each m low high) leaves)
+    kept m low high i leaves = image_in_order made (subst (λ (x : Devices). Leaves x i) ((call.stays told).each m low high) leaves)
 
     same_sent : sent mid ≡ sent old
     same_sent = Goes-sent timed goes mid.clock goes.clock

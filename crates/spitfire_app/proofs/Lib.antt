@@ -3,5 +3,4 @@ pub mod EngineLaws
 pub mod RunLaws
 pub mod ByteLaws
 pub mod PromiseLaws
-pub mod CauseLaws
 pub mod FormatLaws

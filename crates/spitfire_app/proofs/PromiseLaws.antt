@@ -2,17 +2,22 @@
 use Rattle.std.proofs.Common.{◌≡◌, ◌⊎◌, inl, inr, ℕ, suc, ◌+◌, ◌<◌, ◌≤◌, Bool, true, false, List, [], ◌∷◌, ◌++◌, length, Some, refl, sym, ◌∙◌, ap, subst, arith, append_assoc, length-append, get_or, IsTrue, Option}
 use Rattle.std.proofs.lemmas.List.{append-nil}
 use Rattle.std.proofs.Math.Seq.{get_or-append_seam}
-use Rattle.devices.specs.State.{State as Devices, Image, Leaves, fresh}
-use Rattle.devices.specs.World.{Standing, now, sent, sent_at}
+use Rattle.devices.specs.State.{State as Devices, Image, Leaves, fresh, current}
+use Rattle.devices.specs.World.{Standing, Outside, Goes, GoesOn, Stays, IsTimed, now, sent, sent_at}
+use Rattle.devices.proofs.MomentLaws.{Goes-sent}
 use Rattle.script.specs.Grammar.{commands}
-use Rattle.script.specs.Machine.{Rows, AreRows, State, machine}
+use Rattle.script.specs.Machine.{Rows, AreRows, State, machine, opening}
 use Rattle.script.specs.Replies.{text}
 use Rattle.script.specs.Runs as run
 use Rattle.script.specs.Output.{acked}
 use Rattle.script.proofs.OutputLaws.{IsWhole-empty}
+use Rattle.row_log.specs.Layout.{Words, rows_of}
 use Rattle.row_log.specs.InOrder.{Holds, InOrder}
+use Rattle.row_log.proofs.OrderLaws.{holds_of}
+use Rattle.row_log.proofs.LayoutLaws.{rows_of-are}
 use Rattle.spitfire_app.specs.Run.{Aim, Owes, IsKept, IsSafe, AreSafe}
 use Rattle.spitfire_app.specs.Promises.{Replies, Recovers, Survives}
+use Rattle.spitfire_app.proofs.RunLaws.{still_safe, owes_still, safe_then}
 
 module _ (s : State) (old : Standing) where
   -- what a run from this state is to do
@@ -94,3 +99,48 @@ module _ (s : State) (old : Standing) where
     crash = λ m low high. let at = safe.each m low high in (at.said, at.is_said, (λ i leaves. recovers at.said i (at.images refl i leaves)));
     in_order = λ zero_status. let at = ended zero_status in end_in_order true at.0 new at.1 refl;
   }
+
+-- ---- an opening
+
+-- the rows that loads give are rows, and no others
+pub same_rows : (words : Words) {xs ys : Rows} → rows_of words ≡ Some xs → rows_of words ≡ Some ys → xs ≡ ys
+same_rows words one other = let e = sym one ∙ other in cc
+
+module _ (rows : Rows) (old mid : Standing) (timed : IsTimed old) (goes : Goes old mid) (stays : Stays old mid) (told : IsTrue old.told) where
+  begun_read : Holds (now old) rows → Owes (aim_of (opening rows) old false) (opening rows) [] (commands old.outside.input) old
+  begun_read holds = begun (opening rows) old false (rows_of-are (current (now old)).nvm rows holds.stands).0 holds (λ e. absurd (let f : false ≡ true = e in cc))
+
+  begun_sure : InOrder (now old) rows → Owes (aim_of (opening rows) old true) (opening rows) [] (commands old.outside.input) old
+  begun_sure in_order = begun (opening rows) old true (rows_of-are (current (now old)).nvm rows in_order.stands).0 (holds_of (now old) rows in_order) (λ e. in_order)
+
+  module _ (sure : Bool) (owes : Owes (aim_of (opening rows) old sure) (opening rows) [] (commands old.outside.input) old) where
+    opened_safe : AreSafe (aim_of (opening rows) old sure) old mid
+    opened_safe = still_safe (aim_of (opening rows) old sure) (opening rows) [] (commands old.outside.input) old owes mid (λ m low high. (stays told).each m low high) (λ m low high. Goes-sent timed goes m low)
+
+    opened_owes : (s : State) → s ≡ opening rows → Owes (aim_of (opening rows) old sure) s [] (commands mid.outside.input) mid
+    opened_owes s is =
+        let still = owes_still (aim_of (opening rows) old sure) (opening rows) [] (commands old.outside.input) old owes mid ((stays told).each mid.clock goes.clock (omega arith)) (Goes-sent timed goes mid.clock goes.clock) in
+        subst (λ (x : State). Owes (aim_of (opening rows) old sure) x [] (commands mid.outside.input) mid) (sym is)
+        (subst (λ (o : Outside). Owes (aim_of (opening rows) old sure) (opening rows) [] (commands o.input) mid) (sym goes.outside) still)
+
+  -- an opening that was refused
+  pub refused_replies : (status : ℕ) → (status ≡ 0 → ⊥) → Holds (now old) rows → Replies (opening rows) old mid status
+  refused_replies status other holds = replied (opening rows) old mid status (opened_safe false (begun_read holds)) (λ is. absurd (other is)) (λ is. absurd (other is))
+
+  pub refused_survives : (status : ℕ) → (status ≡ 0 → ⊥) → InOrder (now old) rows → Survives (opening rows) old mid status
+  refused_survives status other in_order = survived (opening rows) old mid status (opened_safe true (begun_sure in_order)) (λ is. absurd (other is))
+
+  -- an opening, and a run behind it
+  module _ (s t : State) (new : Standing) (status : ℕ) (is : s ≡ opening rows) (next : GoesOn mid new)
+      (safe : (aim : Aim) → Owes aim s [] (commands mid.outside.input) mid → AreSafe aim mid new) (ends : (aim : Aim) → Owes aim s [] (commands mid.outside.input) mid → status ≡ 0 → Owes aim t [] [] new) where
+    pub run_replies : Holds (now old) rows → (status ≡ 0 → new.outside.input ≡ []) → Replies (opening rows) old new status
+    run_replies holds read =
+        let owes = begun_read holds in
+        let left = opened_owes false owes s is in
+        replied (opening rows) old new status (safe_then (opened_safe false owes) next (safe (aim_of (opening rows) old false) left)) (λ done. (t, ends (aim_of (opening rows) old false) left done)) read
+
+    pub run_survives : InOrder (now old) rows → Survives (opening rows) old new status
+    run_survives in_order =
+        let owes = begun_sure in_order in
+        let left = opened_owes true owes s is in
+        survived (opening rows) old new status (safe_then (opened_safe true owes) next (safe (aim_of (opening rows) old true) left)) (λ done. (t, ends (aim_of (opening rows) old true) left done))

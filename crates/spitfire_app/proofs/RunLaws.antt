@@ -23,7 +23,7 @@ use Rattle.row_log.specs.InOrder.{Holds, InOrder}
 use Rattle.spitfire_app.specs.Sent.{Writes}
 use Rattle.spitfire_app.specs.Engine.{Steps, HasEither}
 use Rattle.spitfire_app.specs.Run.{Aim, Owes, IsKept, IsSafe, AreSafe, Proceeds}
-use Rattle.spitfire_app.proofs.EngineLaws.{image_in_order}
+use Rattle.row_log.proofs.OrderLaws.{image_in_order}
 
 -- ---- what is owed, and part of it sent
 
@@ -52,7 +52,7 @@ module _ (aim : Aim) (s : State) (bytes : List ℕ) (commands : List (Option Com
           past = owes.past;
           later = run.versions machine s commands;
           version = owes.to_commit;
-          in_order = image_in_order (now old) s.rows i (owes.in_order in_order) leaves;
+          in_order = image_in_order (owes.in_order in_order) leaves;
           acknowledged = omega arith;
           one_more = omega arith;
         };
@@ -148,20 +148,20 @@ next_command s bytes commands rows =
     let one : text ((step s c).1 ++ []) ≡ text (step s c).1 = ap text (append-nil (step s c).1) in
     elim (cases_Bool (tells (step s c))) [
       | inl commits ↦ record {
-          added = s.rows ∷ [];
-          versions = ap (λ (b : Bool). s.rows ∷ cond b (after.rows ∷ run.versions machine after commands) (run.versions machine after commands)) commits;
-          counted = ap acked one ∙ acked-step s c rows ∙ ap (λ (b : Bool). cond b 1 0) commits;
-          few = omega arith;
-          rows = AreRows-line s bytes rows;
-        }
+        added = s.rows ∷ [];
+        versions = ap (λ (b : Bool). s.rows ∷ cond b (after.rows ∷ run.versions machine after commands) (run.versions machine after commands)) commits;
+        counted = ap acked one ∙ acked-step s c rows ∙ ap (λ (b : Bool). cond b 1 0) commits;
+        few = omega arith;
+        rows = AreRows-line s bytes rows;
+      }
       | inr none ↦ record {
-          added = [];
-          versions = ap (λ (b : Bool). s.rows ∷ cond b (after.rows ∷ run.versions machine after commands) (run.versions machine after commands)) none
-              ∙ ap (λ (r : Rows). r ∷ run.versions machine after commands) (sym (step_keeps s c none));
-          counted = ap acked one ∙ acked-step s c rows ∙ ap (λ (b : Bool). cond b 1 0) none;
-          few = omega arith;
-          rows = AreRows-line s bytes rows;
-        }
+        added = [];
+        versions = ap (λ (b : Bool). s.rows ∷ cond b (after.rows ∷ run.versions machine after commands) (run.versions machine after commands)) none
+            ∙ ap (λ (r : Rows). r ∷ run.versions machine after commands) (sym (step_keeps s c none));
+        counted = ap acked one ∙ acked-step s c rows ∙ ap (λ (b : Bool). cond b 1 0) none;
+        few = omega arith;
+        rows = AreRows-line s bytes rows;
+      }
     ]
 
 pub next_line : (s : State) (line : List ℕ) (commands : List (Option Command)) → AreRows s.rows → Next s (command_in line) commands
@@ -221,23 +221,23 @@ module _ (aim : Aim) (s : State) (line : List ℕ) (commands : List (Option Comm
           begins = (text (run.replies machine s (command_in line ++ commands)), owes.to_send);
           images = λ in_order i leaves. ⊎_elim
               (λ before. record {
-              rows = s.rows;
-              past = owes.past;
-              later = run.versions machine s (command_in line ++ commands);
-              version = owes.to_commit;
-              in_order = before;
-              acknowledged = omega arith;
-              one_more = omega arith;
-            })
+                rows = s.rows;
+                past = owes.past;
+                later = run.versions machine s (command_in line ++ commands);
+                version = owes.to_commit;
+                in_order = before;
+                acknowledged = omega arith;
+                one_more = omega arith;
+              })
               (λ behind. record {
-              rows = (run.state_after machine s (command_in line)).rows;
-              past = owes.past ++ next.added;
-              later = run.versions machine (run.state_after machine s (command_in line)) commands;
-              version = to_commit_next;
-              in_order = behind;
-              acknowledged = omega arith;
-              one_more = omega arith;
-            })
+                rows = (run.state_after machine s (command_in line)).rows;
+                past = owes.past ++ next.added;
+                later = run.versions machine (run.state_after machine s (command_in line)) commands;
+                version = to_commit_next;
+                in_order = behind;
+                acknowledged = omega arith;
+                one_more = omega arith;
+              })
               ((steps in_order).moments.each m low high i leaves);
         };
   }

@@ -67,7 +67,7 @@ pub record Exactly (status code : ℕ) (condition : Type 0) (earlier : List ℕ)
   pub only : status ≡ code → condition
   pub comes : condition → IsOneOf status (code ∷ 11 ∷ earlier)
 
--- nothing was read from the input, sent, stored, flushed or fenced
+-- nothing was read from the script, sent, stored, flushed or fenced
 pub record Untouched (old new : Standing) : Type 0 where
   pub input : new.outside.input ≡ old.outside.input
   pub sent : new.outside.changes ≡ old.outside.changes
@@ -81,6 +81,8 @@ pub record RunCauses (old new : Standing) (status : ℕ) : Type 0 where
   pub nvm : status ≡ 6 → Rose old.nvm_faults new.nvm_faults
   pub store : IsTrue old.told → Exactly status 3 ((least_lines ≤ old.lines) × (rows_of (current (now old)).nvm ≡ None)) (6 ∷ [])
   pub memory : status ≡ 11 → Untouched old new
+  pub small : status ≡ 4 → Untouched old new
+  pub no_store : status ≡ 3 → Untouched old new
   pub source : status ≡ 8 → Rose old.outside.source_faults new.outside.source_faults
   pub long : IsTrue old.told → Exactly status 12 ((least_lines ≤ old.lines) × IsSome (rows_of (current (now old)).nvm) × (2 ^ 32 < length old.outside.input)) (6 ∷ 8 ∷ 9 ∷ [])
   pub sink : status ≡ 9 → Rose old.outside.sink_faults new.outside.sink_faults
@@ -90,6 +92,7 @@ pub record FormatCauses (old new : Standing) (status : ℕ) : Type 0 where
   pub known : IsOneOf status (0 ∷ 4 ∷ 6 ∷ 9 ∷ [])
   pub done : status ≡ 0 → NoFault old new
   pub size : Exactly status 4 (old.lines < least_lines) []
+  pub small : status ≡ 4 → Untouched old new
   pub nvm : status ≡ 6 → Rose old.nvm_faults new.nvm_faults
   pub sink : status ≡ 9 → Rose old.outside.sink_faults new.outside.sink_faults
 

@@ -3,11 +3,10 @@ ghost use Rattle.std.specs.Prelude.{◌≡◌, ◌≤◌, length};
 
 use crate::stop::Stop;
 use devices::{Devices, World};
+pub use row_log::OpenError;
 use row_log::RowLog;
 use script::{Command, Reason, Reply, Value, is_silent, read_line};
 use std::alloc::Global;
-
-pub use row_log::OpenError;
 
 /// A store that stands open: its rows, and how many puts were committed since.
 #[derive(Drop)]
@@ -18,15 +17,14 @@ pub struct Engine {
 }
 
 impl Engine {
-    ghost use Rattle.std.specs.Prelude.{ℕ, [], Some, IsTrue, IfOk, OnOk, OnErr};
-    ghost use Rattle.devices.specs.State.{current};
+    ghost use Rattle.std.specs.Prelude.{ℕ, [], Some, Err, IsTrue, IfOk, OnOk, ◌↔◌, ◌<◌};
     ghost use Rattle.devices.specs.World.{Standing, Goes, Stays, now};
     ghost use Rattle.script.specs.Machine.{AreRows, State, machine, opening};
     ghost use Rattle.script.specs.Script.{command_in};
     ghost use Rattle.script.specs.Runs as run;
     ghost use Rattle.row_log.specs.Layout.{least_lines, rows_of};
     ghost use Rattle.row_log.specs.InOrder.{Holds, InOrder};
-    ghost use Rattle.row_log.specs.Answers.{OpenCause};
+    ghost use Rattle.row_log.specs.Causes.{OpenCause, words_now};
     ghost use Rattle.spitfire_app.specs.Cause.{HasCause};
     ghost use Rattle.spitfire_app.specs.Engine.{state_of, replied, Steps};
 
@@ -34,13 +32,16 @@ impl Engine {
     pub fn open<W: World>(alloc: Global, world: &mut W) -> Result<Engine, OpenError>
         ensures goes { Goes (W.Devices.standing world.old) (W.Devices.standing world.new) }
         ensures stays { Stays (W.Devices.standing world.old) (W.Devices.standing world.new) }
+        ensures small { (result ≡ Err OpenError.TooSmall) ↔ ((W.Devices.standing world.old).lines < least_lines) }
         ensures cause { OpenCause (W.Devices.standing world.old) (W.Devices.standing world.new) result }
         ensures state { IfOk result (λ engine. state_of engine ≡ opening engine.log) }
         ensures rows { IfOk result (λ engine. AreRows engine.log) }
-        ensures found { IsTrue (W.Devices.standing world.old).told → IfOk result (λ engine. rows_of (current (now (W.Devices.standing world.old))).nvm ≡ Some engine.log) }
+        ensures found { IsTrue (W.Devices.standing world.old).told → IfOk result (λ engine. rows_of (words_now (W.Devices.standing world.old)) ≡ Some engine.log) }
     {
-        let log = RowLog::open(alloc, world)?;
-        Ok(Engine { log, puts: 0 })
+        match RowLog::open(alloc, world) {
+            Ok(log) => Ok(Engine { log, puts: 0 }),
+            Err(error) => Err(error),
+        }
     }
 
     /// Does what a line asks, and gives the reply that is to be sent; a silent line has none. Takes no memory.

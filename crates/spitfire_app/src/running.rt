@@ -102,11 +102,7 @@ fn take_some<W: World>(
 }
 
 /// Answers a whole script of at most `limit` bytes; where there are more, the run stops behind that many.
-pub fn run_lines<W: World>(
-    engine: &mut Engine,
-    world: &mut W,
-    limit: u64,
-) -> Result<Ending, Stop>
+pub fn run_lines<W: World>(engine: &mut Engine, world: &mut W, limit: u64) -> Result<Ending, Stop>
     requires { least_lines ≤ (W.Devices.standing world.old).lines }
     ensures goes { GoesOn (W.Devices.standing world.old) (W.Devices.standing world.new) }
     ensures cause { HasCause (W.Devices.standing world.old) (W.Devices.standing world.new) result }

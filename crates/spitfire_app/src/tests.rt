@@ -1,4 +1,8 @@
 //! Worked examples over a world in memory.
+ghost use Rattle.std.specs.Prelude.{ℕ, ◌<◌, IsSome};
+ghost use Rattle.std.specs.BTreeMap.{get};
+ghost use Rattle.std.specs.Ordering.{nat_cmp};
+
 use crate::{Words, spitfire};
 use devices::{Fault, FaultKind, Images, MemWorld};
 use nvm_model::Choice;
@@ -46,7 +50,14 @@ fn both_words_on_one_world(rt: HostRuntime) -> Result<(), Fail> {
 fn other_words_are_refused(rt: HostRuntime) -> Result<(), Fail> {
     let alloc = rt.alloc();
     let mut world = MemWorld::new(alloc, LINES, 0, b"", b"", &[])?;
-    for text in ["frobnicate", "", "run ", "Run", "--help", "formatformatformatformatformatformat"] {
+    for text in [
+        "frobnicate",
+        "",
+        "run ",
+        "Run",
+        "--help",
+        "formatformatformatformatformatformat",
+    ] {
         assert_eq!(rt; spitfire(alloc, &word(text), &mut world), 1, "{text}");
     }
     let mut two = word("run");
@@ -86,7 +97,9 @@ fn a_full_store_refuses_puts(rt: HostRuntime) -> Result<(), Fail> {
 }
 
 /// What an opening of the images says of key 7: 3 where it is no store, else how many of the two puts it holds.
-fn held(alloc: Global, images: &Images) -> Result<u64, Fail> {
+fn held(alloc: Global, images: &Images) -> Result<u64, Fail>
+    requires { (b : ℕ) → IsSome (get nat_cmp images.now.ssd b) → b < images.now.ssd_blocks }
+{
     let mut world = MemWorld::from_images(alloc, images, b"", b"get 7\n", &[])?;
     if spitfire(alloc, &word("run"), &mut world) == 3 {
         return Ok(3);
@@ -117,7 +130,7 @@ fn a_crash_keeps_what_was_acknowledged(rt: HostRuntime) -> Result<(), Fail> {
     let mut world = formatted(alloc, SCRIPT, &[])?;
     let begun = world.events();
     assert_eq!(rt; spitfire(alloc, &word("run"), &mut world), 0);
-    for events in 0..world.events() + 1 {
+    for events in 0..world.events() {
         let least = acknowledged(world.output(), world.sent_at(events));
         for choice in [Choice::Oldest, Choice::Newest, Choice::Alternating] {
             let images = world.images_at(alloc, events, choice, BlockChoice::Fill(0xA5))?;
@@ -125,7 +138,7 @@ fn a_crash_keeps_what_was_acknowledged(rt: HostRuntime) -> Result<(), Fail> {
             if events < begun {
                 assert!(rt; found == 3 || found == 0, "{found} at {events}");
             } else {
-                assert!(rt; found == least || found == least + 1, "{found} at {events}");
+                assert!(rt; found >= least && found - least <= 1, "{found} at {events}");
             }
         }
     }

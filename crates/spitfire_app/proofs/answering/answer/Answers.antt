@@ -23,7 +23,7 @@ returns-in-Some-clause-proceeds g c = λ aim commands told owes.
     let goes = c.step.ensures.goes in
     let said : text (replied c.in_ok-reply.field-0) ≡ c.as_slice.result.now = ap (λ o. text (replied o)) c.in-Some.is ∙ text_one c.in-Some.reply ∙ sym c.reply_text.ensures ∙ sym c.as_slice.ensures.value in
     let owed = answered aim _ c.args.line.now commands _ owes (g.W.Devices.standing c.step.new.world) (state_of c.step.new.self) c.as_slice.result.now stepped.state (ap text (sym stepped.replies) ∙ said)
-        (Goes-sent timed goes _ goes.clock) (stepped.holds told owes.holds) (λ in_order. (stepped.steps told (owes.in_order in_order)).ok) in
+    (Goes-sent timed goes _ goes.clock) (stepped.holds told owes.holds) (λ in_order. (stepped.steps told (owes.in_order in_order)).ok) in
     let says = c.say.ensures.proceeds aim (state_of c.step.new.self) commands (subst IsTrue (sym goes.told) told) owed in
     record {
       safe = safe_then (step_safe aim _ c.args.line.now commands _ owes _ c.step.result timed goes (λ in_order. c.step.ensures.steps told (owes.in_order in_order))) c.say.ensures.call.goes says.safe;

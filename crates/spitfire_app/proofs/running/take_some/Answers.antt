@@ -28,9 +28,9 @@ proceeds g c aim told first owes =
     let input = (c.in_ok-count.ensures.reads told).bytes in
     let left = read_owes aim _ _ _ _ owes told (g.met.W.World.timed c.args.world.now) c.read_script.ensures.call (c.read_script.ensures.rest.output refl).0 in
     let next = c.take_piece.ensures.proceeds aim (g.W.Devices.standing c.read_script.new.world).outside.input (subst IsTrue (sym c.read_script.ensures.call.goes.told) told)
-        (owes_same (ap (λ (l : List ℕ). commands (c.args.kept.now.items ++ l)) input) left) in
+    (owes_same (ap (λ (l : List ℕ). commands (c.args.kept.now.items ++ l)) input) left) in
     let came : Proceeds aim (state_of c.take_piece.new.engine) [] (commands (c.take_piece.new.kept.items ++ (g.W.Devices.standing c.take_piece.new.world).outside.input)) (g.W.Devices.standing c.read_script.new.world) (g.W.Devices.standing c.take_piece.new.world) c.take_piece.result =
-        subst (λ (l : List ℕ). Proceeds aim (state_of c.take_piece.new.engine) [] (commands (c.take_piece.new.kept.items ++ l)) (g.W.Devices.standing c.read_script.new.world) (g.W.Devices.standing c.take_piece.new.world) c.take_piece.result) (sym c.take_piece.ensures.input) next in
+    subst (λ (l : List ℕ). Proceeds aim (state_of c.take_piece.new.engine) [] (commands (c.take_piece.new.kept.items ++ l)) (g.W.Devices.standing c.read_script.new.world) (g.W.Devices.standing c.take_piece.new.world) c.take_piece.result) (sym c.take_piece.ensures.input) next in
     proceeds_then first c.take_piece.ensures.goes came
 
 pub returns-in_err-take_piece-clause-proceeds : goal.returns-in_err-take_piece-clause-proceeds
