@@ -15,6 +15,9 @@ use crate::stop::{Ending, Stop};
 use arrayvec::ArrayVec;
 use devices::{Devices, World};
 
+/// What ends a line.
+const LINE_FEED: u8 = b'\n';
+
 /// Takes the next byte of the script. A line of more than 1,024 bytes is kept by its first 1,025.
 fn take_byte<W: World>(
     engine: &mut Engine,
@@ -31,7 +34,7 @@ fn take_byte<W: World>(
     ensures proceeds { (aim : Aim) (more : List ℕ) → IsTrue (W.Devices.standing world.old).told → Owes aim (state_of engine.old) [] (commands (kept.old.items ++ byte ∷ more)) (W.Devices.standing world.old)
         → Proceeds aim (state_of engine.new) [] (commands (kept.new.items ++ more)) (W.Devices.standing world.old) (W.Devices.standing world.new) result }
 {
-    if byte == b'\n' {
+    if byte == LINE_FEED {
         answer(engine, world, kept.as_slice())?;
         kept.clear();
     } else if !kept.is_full() {
