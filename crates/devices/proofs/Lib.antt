@@ -4,3 +4,9 @@ pub mod DurableLaws
 pub mod FreshLaws
 pub mod MomentLaws
 pub mod CallLaws
+pub mod PastLaws
+pub mod ContentLaws
+pub mod SentLaws
+pub mod WorldLaws
+pub mod WriteLaws
+pub mod StartLaws

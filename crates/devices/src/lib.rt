@@ -3,6 +3,17 @@
 //! `Devices` is an NVM of lines and a disk of blocks; `World` adds the settings, the script and the output.
 #![tactic(auto)]
 
+mod copies;
+mod faults;
+mod images;
+mod inspect;
+mod mem_world;
+mod past;
+mod step;
+mod stream;
 mod traits;
 
+pub use faults::{Fault, FaultKind};
+pub use images::Images;
+pub use mem_world::MemWorld;
 pub use traits::{Devices, Failed, World};

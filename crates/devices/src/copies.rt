@@ -1,0 +1,61 @@
+//! Copies of what the devices hold.
+ghost use Rattle.std.specs.Prelude.{◌≡◌, ℕ, IfOk};
+ghost use Rattle.std.specs.Ordering.{nat_cmp};
+ghost use Rattle.std.specs.BTreeMap.{get};
+ghost use Rattle.devices.specs.Past.{Copies};
+
+use crate::images::Images;
+use nvm_model::NoMemory;
+use ssd_model::PageBuf;
+use std::alloc::Global;
+use std::collections::BTreeMap;
+
+/// Makes one page the other.
+pub(crate) fn copy_page(from: &PageBuf, into: &mut PageBuf)
+    ensures { into.new ≡ from.now }
+{
+    let bytes = from.bytes();
+    for at in 0..into.bytes().len() {
+        into.set_byte(at, bytes[at]);
+    }
+}
+
+/// A copy of a page.
+pub(crate) fn page_of(from: &PageBuf) -> PageBuf
+    ensures { result ≡ from.now }
+{
+    let mut page = PageBuf::zero();
+    copy_page(from, &mut page);
+    page
+}
+
+/// A copy of blocks.
+fn copy_blocks(
+    alloc: Global,
+    from: &BTreeMap<u64, PageBuf>,
+) -> Result<BTreeMap<u64, PageBuf>, NoMemory>
+    ensures { IfOk result (λ copy. (b : ℕ) → get nat_cmp copy b ≡ get nat_cmp from.now b) }
+{
+    let mut copy = BTreeMap::new(alloc);
+    for (block, page) in from {
+        let Ok(_) = copy.insert(*block, page_of(page)) else {
+            return Err(NoMemory);
+        };
+    }
+    Ok(copy)
+}
+
+/// A copy of images.
+pub(crate) fn copy_images(alloc: Global, from: &Images) -> Result<Images, NoMemory>
+    ensures { IfOk result (λ copy. Copies from.now copy) }
+{
+    let Ok(nvm) = from.nvm.to_vec(alloc) else {
+        return Err(NoMemory);
+    };
+    let ssd = copy_blocks(alloc, &from.ssd)?;
+    Ok(Images {
+        nvm,
+        ssd_blocks: from.ssd_blocks,
+        ssd,
+    })
+}

@@ -1,0 +1,165 @@
+//! Worlds in memory are made here, and looked at from outside.
+ghost use Rattle.std.specs.Prelude.{◌≡◌, ◌<◌, ◌≤◌, ℕ, [], length, IfOk, IsSome};
+ghost use Rattle.std.specs.Ordering.{nat_cmp};
+ghost use Rattle.std.specs.BTreeMap.{get};
+ghost use Rattle.devices.specs.World.{sent, sent_at};
+ghost use Rattle.devices.specs.Past.{IsSound, Starts, image_of, zero_image};
+ghost use Rattle.devices.specs.MemWorld.{world, IsFresh, IsUncalled, faults_of, moment_after};
+
+use crate::faults::{Fault, FaultKind, Tally};
+use crate::images::Images;
+use crate::mem_world::MemWorld;
+use crate::past::Past;
+use crate::step::{Entry, Sending};
+use crate::stream::Stream;
+use nvm_model::NoMemory;
+use std::alloc::Global;
+
+/// A stream of these bytes.
+fn stream_of(alloc: Global, bytes: &[u8]) -> Result<Stream, NoMemory>
+    ensures { IfOk result (λ made. (made.bytes.items ≡ bytes.now) × (made.taken ≡ 0)) }
+{
+    let Ok(bytes) = bytes.to_vec(alloc) else {
+        return Err(NoMemory);
+    };
+    Ok(Stream { bytes, taken: 0 })
+}
+
+/// No calls so far.
+fn uncalled() -> Tally
+    ensures calls { result.calls ≡ 0 }
+    ensures faults { result.faults ≡ 0 }
+{
+    Tally {
+        calls: 0,
+        faults: 0,
+    }
+}
+
+/// The moment after so many events: how many of the calls that were kept have a number at most that.
+fn moment_of(entries: &[Entry], events: u64) -> usize
+    ensures { result ≡ moment_after entries.now events }
+{
+    entries
+        .iter()
+        .take_while(|entry| entry.event <= events)
+        .count()
+}
+
+impl MemWorld {
+    /// A world over these devices, with these streams and faults.
+    fn over(
+        alloc: Global,
+        past: Past,
+        settings: &[u8],
+        script: &[u8],
+        fail: &[Fault],
+    ) -> Result<MemWorld, NoMemory>
+        requires sound { IsSound past }
+        requires starts { Starts past.lines past.current.ssd_blocks (image_of past.base) past }
+        ensures fresh { IfOk result (λ made. IsFresh past.lines past.current.ssd_blocks (image_of past.base) settings.now script.now (world made)) }
+        ensures uncalled { IfOk result (λ made. IsUncalled fail.now made) }
+    {
+        let settings = stream_of(alloc, settings)?;
+        let script = stream_of(alloc, script)?;
+        let Ok(plan) = fail.to_vec(alloc) else {
+            return Err(NoMemory);
+        };
+        Ok(MemWorld {
+            past,
+            settings,
+            script,
+            plan,
+            nvm: uncalled(),
+            ssd: uncalled(),
+            settings_reads: uncalled(),
+            script_reads: uncalled(),
+            writes: uncalled(),
+            events: 0,
+            block_reads: 0,
+            short: 0,
+        })
+    }
+
+    /// A world with zeros on both devices, these settings, this script, and these faults.
+    pub fn new(
+        alloc: Global,
+        nvm_lines: u64,
+        ssd_blocks: u64,
+        settings: &[u8],
+        script: &[u8],
+        fail: &[Fault],
+    ) -> Result<MemWorld, NoMemory>
+        ensures fresh { IfOk result (λ made. IsFresh nvm_lines ssd_blocks zero_image settings.now script.now (world made)) }
+        ensures uncalled { IfOk result (λ made. IsUncalled fail.now made) }
+    {
+        let past = Past::zeros(alloc, nvm_lines, ssd_blocks)?;
+        MemWorld::over(alloc, past, settings, script, fail)
+    }
+
+    /// A world over a fresh pair of devices with these contents: one version of each word, and every block settled.
+    pub fn from_images(
+        alloc: Global,
+        images: &Images,
+        settings: &[u8],
+        script: &[u8],
+        fail: &[Fault],
+    ) -> Result<MemWorld, NoMemory>
+        requires { (b : ℕ) → IsSome (get nat_cmp images.now.ssd b) → b < images.now.ssd_blocks }
+        ensures fresh { IfOk result (λ made. IsFresh (length images.now.nvm.items) images.now.ssd_blocks (image_of images.now) settings.now script.now (world made)) }
+        ensures uncalled { IfOk result (λ made. IsUncalled fail.now made) }
+    {
+        let past = Past::of_images(alloc, images)?;
+        MemWorld::over(alloc, past, settings, script, fail)
+    }
+
+    /// How many calls so far can fail.
+    pub fn events(&self) -> u64
+        ensures { result ≡ self.now.events }
+    {
+        self.events
+    }
+
+    /// What was sent.
+    pub fn output(&self) -> &[u8]
+        ensures { result.now ≡ sent (world self.now) }
+    {
+        &self.past.sent
+    }
+
+    /// How many bytes were sent after the first `events` events, at most as many as there are.
+    pub fn sent_at(&self, events: u64) -> usize
+        requires { events ≤ self.now.events }
+        ensures { result ≡ length (sent_at (world self.now) (moment_after self.now.past.entries.items events)) }
+    {
+        let moment = moment_of(&self.past.entries, events);
+        self.past.sent_by(moment)
+    }
+
+    /// How many calls of a device or a stream failed.
+    pub fn faults(&self, kind: FaultKind) -> u64
+        ensures { result ≡ faults_of kind (world self.now) }
+    {
+        match kind {
+            FaultKind::Nvm => self.nvm.faults,
+            FaultKind::Ssd => self.ssd.faults,
+            FaultKind::Settings => self.settings_reads.faults,
+            FaultKind::Source => self.script_reads.faults,
+            FaultKind::Sink => self.writes.faults,
+        }
+    }
+
+    /// How many times a block was read.
+    pub fn block_reads(&self) -> u64
+        ensures { result ≡ (world self.now).block_reads }
+    {
+        self.block_reads
+    }
+
+    /// How many calls found no memory.
+    pub fn short(&self) -> u64
+        ensures { result ≡ self.now.short }
+    {
+        self.short
+    }
+}
