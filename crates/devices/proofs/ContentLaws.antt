@@ -1,6 +1,6 @@
 -- What the current contents are as calls are made, and what a load gives.
-use Rattle.std.proofs.Common.{◌≡◌, ◌≢◌, ◌⊎◌, inl, inr, ℕ, zero, suc, ◌<◌, List, [], ◌∷◌, length, refl, sym, ◌∙◌, ap, subst, arith, get_or-set_same, get_or-set_other, length-set}
-use Rattle.std.specs.Prelude.{Bool, true, false, cond, ◌==◌, eqb, slice_index, slice_index_or, slice_set}
+use Rattle.std.proofs.Common.{◌≡◌, ◌≢◌, inl, inr, ℕ, ◌<◌, List, length, refl, sym, ◌∙◌, ap, arith, get_or-set_same, get_or-set_other, length-set}
+use Rattle.std.specs.Prelude.{Bool, true, false, cond, ◌==◌, slice_index, slice_index_or, slice_set}
 use Rattle.std.proofs.lemmas.Bool.{cases_eq, eq-eqb, ne_eqb}
 use Rattle.std.proofs.lemmas.List.{get_or_default}
 use Rattle.nvm_model.specs.declared.line.Line.{Line}
@@ -14,7 +14,7 @@ use Rattle.ssd_model.specs.Block.{Block}
 use Rattle.ssd_model.specs.Page.{zero_page}
 use Rattle.devices.specs.State.{State, word_stored, line_stored, flushed, block_written}
 use Rattle.devices.specs.Past.{zero_line, word_in, page_in}
-use Rattle.devices.proofs.StateLaws.{line_stored_same, line_stored_other, word_stored_same, word_stored_other, flushed_same, flushed_other}
+use Rattle.devices.proofs.StateLaws.{line_stored_same, line_stored_other, word_stored_same, word_stored_other}
 
 -- the lines hold the last versions of a state
 pub record AreNewest (lines : ℕ) (nvm : List Line) (s : State) : Type 0 where

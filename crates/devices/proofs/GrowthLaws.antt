@@ -7,7 +7,7 @@ use Rattle.ssd_model.specs.Block.{Block}
 use Rattle.devices.specs.State.{State, Image, Call, after_all, after, Part, Amid, Between, Torn, Leaves, word_stored, line_stored, flushed, fenced, synced}
 use Rattle.devices.specs.State.Call.{store_word, store_line, flush, fence, write_block, sync}
 use Rattle.devices.specs.Growth.{Grows, Reaches, IsWithin, AreWithin, no_write}
-use Rattle.devices.proofs.StateLaws.{IsVersion-trimmed, IsSingle-trimmed}
+use Rattle.nvm_model.proofs.WordLaws.{IsVersion-trimmed, IsSingle-trimmed}
 
 -- a version of a choice of two words
 cond_version : (b : Bool) (x y : Word) (v : ℕ) → IsVersion (cond b x y) v → ((b ≡ true) × IsVersion x v) ⊎ IsVersion y v

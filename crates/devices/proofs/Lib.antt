@@ -10,3 +10,6 @@ pub mod SentLaws
 pub mod WorldLaws
 pub mod WriteLaws
 pub mod StartLaws
+pub mod CountLaws
+pub mod ReplayLaws
+pub mod LeavingLaws

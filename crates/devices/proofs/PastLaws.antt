@@ -1,9 +1,7 @@
 -- What one call more makes of what is kept.
-use Rattle.std.proofs.Common.{◌≡◌, ◌≢◌, ◌⊎◌, inl, inr, ℕ, zero, suc, ◌+◌, ◌<◌, ◌≤◌, List, [], ◌∷◌, ◌++◌, length, take, refl, sym, ◌∙◌, ap, subst, arith, length-append}
-use Rattle.std.specs.Prelude.{Bool, nat_le, true, false, cond, ◌&&◌, IsSome}
-use Rattle.std.specs.Ordering.{nat_cmp}
+use Rattle.std.proofs.Common.{◌≡◌, ℕ, ◌+◌, ◌<◌, ◌≤◌, List, [], ◌∷◌, ◌++◌, length, refl, sym, ◌∙◌, ap, subst, arith, length-append}
+use Rattle.std.specs.Prelude.{nat_le, true}
 use Rattle.std.specs.List.{list_all}
-use Rattle.std.specs.BTreeMap.{get}
 use Rattle.std.proofs.lemmas.Bool.Decides.{nat_tests}
 use Rattle.std.proofs.lemmas.List.Folds.{list_all-append}
 use Rattle.devices.specs.declared.images.Images.{Images}
@@ -13,10 +11,10 @@ use Rattle.devices.specs.declared.step.Sending.{Sending}
 use Rattle.devices.specs.declared.past.Past.{Past}
 use Rattle.devices.specs.State.{State, Image, fresh}
 use Rattle.devices.specs.World.{sent_by}
-use Rattle.devices.specs.Past.{image_of, word_in, page_in, made, replay_from, replay, standing_state, is_within, changes_of, is_past, IsSound, Stands, Same, Kept}
-use Rattle.devices.specs.Laws.{and_first, and_second, past_moment, past_bytes, last_later}
+use Rattle.devices.specs.Past.{image_of, word_in, page_in, made, replay_from, replay, standing_state, is_within, is_past, IsSound, Same, Kept}
+use Rattle.devices.specs.Laws.{and_first, and_second, past_moment, last_later}
 
-replay_from_push : (s : State) (entries : List Entry) (e : Entry) → replay_from s (entries ++ e ∷ []) ≡ made e.step (replay_from s entries)
+pub replay_from_push : (s : State) (entries : List Entry) (e : Entry) → replay_from s (entries ++ e ∷ []) ≡ made e.step (replay_from s entries)
 replay_from_push s [] e = refl
 replay_from_push s (first ∷ entries) e = replay_from_push (made first.step s) entries e
 

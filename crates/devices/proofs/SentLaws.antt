@@ -1,7 +1,7 @@
 -- What is sent, as the calls go on.
 use Rattle.std.proofs.Common.{◌≡◌, ℕ, ◌+◌, ◌<◌, ◌≤◌, List, [], ◌∷◌, ◌++◌, length, take, drop, refl, sym, ◌∙◌, ap, subst, arith, length-append}
 use Rattle.std.proofs.lemmas.Grind.{common_steps}
-use Rattle.std.specs.Prelude.{Bool, nat_le, true, false, cond, ◌&&◌}
+use Rattle.std.specs.Prelude.{Bool, nat_le, true, false, cond}
 use Rattle.std.specs.List.{list_all}
 use Rattle.std.proofs.lemmas.Bool.Decides.{nat_tests}
 use Rattle.std.proofs.lemmas.List.{take-append-le, take_all}
@@ -13,7 +13,7 @@ use Rattle.devices.specs.declared.images.Images.{Images}
 use Rattle.devices.specs.declared.past.Past.{Past}
 use Rattle.devices.specs.State.{State}
 use Rattle.devices.specs.World.{last_from, sent_by}
-use Rattle.devices.specs.Past.{image_of, page_in, replay, standing_state, changes_of, is_past, is_within, IsSound, Sent}
+use Rattle.devices.specs.Past.{image_of, replay, standing_state, changes_of, is_past, is_within, IsSound, Sent}
 use Rattle.devices.specs.Laws.{and_first, and_second, past_moment, past_bytes}
 use Rattle.devices.proofs.PastLaws.{replay_push}
 

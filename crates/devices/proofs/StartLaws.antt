@@ -1,6 +1,6 @@
 -- Devices at their start, and copies of what they hold.
-use Rattle.std.proofs.Common.{◌≡◌, ◌≢◌, ◌⊎◌, inl, inr, zero, suc, ℕ, ◌<◌, ◌≤◌, List, [], ◌∷◌, length, refl, sym, ◌∙◌, ap, subst, arith}
-use Rattle.std.specs.Prelude.{Bool, true, false, cond, nat_lt, slice_index, slice_index_or, Option, Some, None, IsSome, Result, Ok, Err, IfOk}
+use Rattle.std.proofs.Common.{◌≡◌, ◌≢◌, ◌⊎◌, inl, inr, zero, suc, ℕ, List, [], ◌∷◌, length, refl, sym, ◌∙◌, ap, subst, arith}
+use Rattle.std.specs.Prelude.{Bool, true, false, cond, nat_lt, slice_index, Option, Some, IsSome, Result, Ok, Err, IfOk}
 use Rattle.std.specs.Map.{lookup}
 use Rattle.std.specs.Option.{unwrap_or}
 use Rattle.std.specs.Ordering.{nat_cmp}
@@ -12,15 +12,14 @@ use Rattle.nvm_model.specs.declared.line.Line.{Line}
 use Rattle.ssd_model.specs.Page.{zero_page}
 use Rattle.devices.specs.declared.images.Images.{Images}
 use Rattle.devices.specs.declared.step.Entry.{Entry}
-use Rattle.devices.specs.declared.step.Sending.{Sending}
 use Rattle.devices.specs.declared.past.Past.{Past}
 use Rattle.devices.specs.State.{State, Image, fresh}
 use Rattle.devices.specs.World.{sent_by}
-use Rattle.devices.specs.Past.{image_of, zero_image, zero_line, word_in, page_in, replay, standing_state, IsSound, Begins, Copies, Starts}
+use Rattle.devices.specs.Past.{image_of, zero_image, zero_line, word_in, replay, standing_state, IsSound, Begins, Copies, Starts}
 use Rattle.devices.specs.declared.mem_world.MemWorld.{MemWorld}
 use Rattle.devices.specs.MemWorld.{standing_of, world, IsFresh}
 
-apart : (block b : ℕ) → b ≢ block → is_at (nat_cmp block) b ≡ false
+pub apart : (block b : ℕ) → b ≢ block → is_at (nat_cmp block) b ≡ false
 apart block b other = grind (arith, common_steps)
 
 here : (b : ℕ) → is_at (nat_cmp b) b ≡ true
@@ -38,7 +37,7 @@ copied_more m copy next left rest k v q found is updates before = elim (cases_eq
 ]
 
 -- a word of zeros
-zero_word : (w : ℕ) → slice_index zero_line.words w ≡ 0
+pub zero_word : (w : ℕ) → slice_index zero_line.words w ≡ 0
 unfolding zero_line
 zero_word w = eight w
   where
@@ -53,7 +52,7 @@ zero_word w = eight w
     eight (suc (suc (suc (suc (suc (suc (suc zero))))))) = refl
     eight (suc (suc (suc (suc (suc (suc (suc (suc n)))))))) = refl
 
-same_image : (a b : Image) → ((l w : ℕ) → a.nvm l w ≡ b.nvm l w) → ((k : ℕ) → a.ssd k ≡ b.ssd k) → a ≡ b
+pub same_image : (a b : Image) → ((l w : ℕ) → a.nvm l w ≡ b.nvm l w) → ((k : ℕ) → a.ssd k ≡ b.ssd k) → a ≡ b
 same_image a b nvm ssd =
     let words : a.nvm ≡ b.nvm = fun_ext (λ l. fun_ext (λ w. nvm l w)) in
     let pages : a.ssd ≡ b.ssd = fun_ext (λ k. ssd k) in

@@ -1,38 +1,9 @@
 -- Laws of one state: what a store, a flush and a fence leave of a line, and what a crash leaves on the way.
-use Rattle.std.proofs.Common.{◌≡◌, ◌≢◌, ◌⊎◌, ℕ, zero, suc, ◌<◌, true, false, List, [], ◌∷◌, take, refl, ap, ◌∙◌, subst, inl, inr, cond, eqb, slice_index}
+use Rattle.std.proofs.Common.{◌≡◌, ◌≢◌, ◌⊎◌, ℕ, ◌<◌, true, false, refl, ap, ◌∙◌, inl, inr, cond, eqb, slice_index}
 use Rattle.std.proofs.lemmas.Bool.{eq-eqb, ne_eqb, lt-ltb}
 use Rattle.nvm_model.specs.declared.line.Line.{Line}
-use Rattle.nvm_model.specs.Word.{Word, stored, marked, trimmed, Among, IsVersion, IsSingle, single, last_of, oldest}
+use Rattle.nvm_model.specs.Word.{stored, marked, trimmed, single}
 use Rattle.devices.specs.State.{State, line_stored, word_stored, flushed, fenced}
-
--- a word that is stored, flushed and fenced has the stored value as its one version, whatever it had
-pub made_single : (value : ℕ) (word : Word) → trimmed (marked (stored value word)) ≡ single value
-made_single value word = refl
-
--- a fence adds no version
-pub Among-take : (n : ℕ) (xs : List ℕ) (value : ℕ) → Among (take n xs) value → Among xs value
-Among-take zero [] value h = absurd h
-Among-take (suc n) [] value h = absurd h
-Among-take zero (x ∷ xs) value h = absurd h
-Among-take (suc n) (x ∷ xs) value (inl e) = inl e
-Among-take (suc n) (x ∷ xs) value (inr h) = inr (Among-take n xs value h)
-
-pub IsVersion-trimmed : (word : Word) (value : ℕ) → IsVersion (trimmed word) value → IsVersion word value
-IsVersion-trimmed word value (inl e) = inl e
-IsVersion-trimmed word value (inr h) = inr (Among-take word.kept word.older value h)
-
-take_none : (n : ℕ) (xs : List ℕ) → xs ≡ [] → take n xs ≡ []
-take_none zero [] e = refl
-take_none (suc n) [] e = refl
-take_none n (x ∷ xs) e = cc
-
-pub IsSingle-trimmed : (word : Word) → IsSingle word → IsSingle (trimmed word)
-IsSingle-trimmed word one = take_none word.kept word.older one
-
--- a word with one version has no other
-pub single_version : (word : Word) (value : ℕ) → IsSingle word → IsVersion word value → value ≡ word.newest
-single_version word value one (inl e) = e
-single_version word value one (inr h) = absurd (subst (λ xs. Among xs value) one h)
 
 -- what a call leaves at one line, and at the others
 pub line_stored_same : (line : ℕ) (value : Line) (s : State) (w : ℕ) → w < 8 → (line_stored line value s).nvm line w ≡ stored (slice_index value.words w) (s.nvm line w)
@@ -57,14 +28,3 @@ flushed_other line s l w h = simp (ne_eqb l line h)
 -- a line that is stored, flushed and fenced has one version of each of its words
 pub line_made : (line : ℕ) (value : Line) (s : State) (w : ℕ) → w < 8 → (fenced (flushed line (line_stored line value s))).nvm line w ≡ single (slice_index value.words w)
 line_made line value s w h = ap trimmed (flushed_same line (line_stored line value s) w ∙ ap marked (line_stored_same line value s w h))
-
--- the oldest and the newest version are versions
-last_among : (x : ℕ) (xs : List ℕ) → Among (x ∷ xs) (last_of x xs)
-last_among x [] = inl refl
-last_among x (y ∷ ys) = inr (last_among y ys)
-
-pub oldest_version : (word : Word) → IsVersion word (oldest word)
-oldest_version word = last_among word.newest word.older
-
-pub newest_version : (word : Word) → IsVersion word word.newest
-newest_version word = inl refl

@@ -1,5 +1,5 @@
 -- What a call makes of a world in memory.
-use Rattle.std.proofs.Common.{◌≡◌, ◌⊎◌, inl, inr, ℕ, ◌+◌, ◌<◌, ◌≤◌, List, [], ◌∷◌, ◌++◌, length, take, Result, Ok, Err, OnOk, IsErr, refl, sym, ◌∙◌, ap, subst, arith, length-append}
+use Rattle.std.proofs.Common.{◌≡◌, inl, inr, ℕ, ◌+◌, ◌≤◌, List, [], ◌∷◌, ◌++◌, length, take, Result, Ok, Err, OnOk, IsErr, refl, sym, ◌∙◌, ap, subst, arith, length-append}
 use Rattle.std.proofs.lemmas.Bool.{cases_lt}
 use Rattle.std.proofs.lemmas.Result.{IfOk-from_err}
 use Rattle.std.proofs.lemmas.List.{take-append-le, take_all}
@@ -8,12 +8,12 @@ use Rattle.devices.specs.declared.step.Step.{Step}
 use Rattle.devices.specs.declared.step.Entry.{Entry}
 use Rattle.devices.specs.declared.step.Sending.{Sending}
 use Rattle.devices.specs.declared.past.Past.{Past}
-use Rattle.devices.specs.State.{State, Image, Call, after, Part}
-use Rattle.devices.specs.World.{Standing, Outside, now, Goes, Stays, Makes, Moments}
-use Rattle.devices.specs.Past.{image_of, made, replay, standing_state, changes_of, Stands, Same, Kept}
-use Rattle.devices.specs.MemWorld.{outside_of, standing_of}
+use Rattle.devices.specs.State.{State, Call, after, Part}
+use Rattle.devices.specs.World.{Standing, Outside, now, Goes, Stays, Makes}
+use Rattle.devices.specs.Past.{image_of, made, replay, standing_state, changes_of, Same, Kept}
+use Rattle.devices.specs.MemWorld.{standing_of}
 use Rattle.devices.proofs.GrowthLaws.{Part-whole, Part-none}
-use Rattle.devices.proofs.PastLaws.{state_same, state_kept}
+use Rattle.devices.proofs.PastLaws.{state_kept}
 
 -- the state at a moment
 abbrev pub state_at : Past → ℕ → State

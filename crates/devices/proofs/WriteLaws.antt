@@ -1,12 +1,12 @@
 -- What a write makes of a world in memory.
-use Rattle.std.proofs.Common.{◌≡◌, inl, inr, zero, ℕ, ◌+◌, ◌<◌, ◌≤◌, List, [], ◌∷◌, ◌++◌, length, take, Result, Ok, Err, refl, sym, ◌∙◌, ap, arith}
+use Rattle.std.proofs.Common.{◌≡◌, inl, inr, ℕ, ◌<◌, ◌≤◌, List, ◌++◌, length, take, Ok, Err, refl, sym, ◌∙◌, ap, arith}
 use Rattle.std.proofs.lemmas.Bool.{cases_lt}
 use Rattle.std.proofs.lemmas.List.{take_all, append-nil}
 use Rattle.devices.specs.declared.step.Step.TheVariants.{Send}
 use Rattle.devices.specs.declared.step.Sending.{Sending}
 use Rattle.devices.specs.declared.past.Past.{Past}
-use Rattle.devices.specs.World.{Standing, sent_by, sent, sent_at, GoesOn, Stays, WorldCall, Sends}
-use Rattle.devices.specs.Past.{changes_of, IsSound, Stands, Same, Sent}
+use Rattle.devices.specs.World.{Standing, sent_by, sent, sent_at, WorldCall, Sends}
+use Rattle.devices.specs.Past.{changes_of, IsSound, Same, Sent}
 use Rattle.devices.specs.MemWorld.{standing_of}
 use Rattle.devices.proofs.SentLaws.{one_more, later_sent, earlier_sent, state_sent}
 use Rattle.devices.proofs.WorldLaws.{state_at, at_end, at_same, at_earlier}

@@ -5,3 +5,5 @@ pub mod Faults
 pub mod Past
 pub mod Laws
 pub mod MemWorld
+pub mod Replay
+pub mod Leaving

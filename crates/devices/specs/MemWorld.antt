@@ -1,5 +1,5 @@
 -- What a world in memory stands for.
-use Rattle.std.specs.Prelude.{◌≡◌, ◌⊎◌, ℕ, ◌+◌, min, Bool, true, List, [], nat_le, length, take, drop, IsTrue, IsErr, OnOk, Result}
+use Rattle.std.specs.Prelude.{◌≡◌, ◌⊎◌, ℕ, ◌+◌, ◌<◌, ◌≤◌, min, Bool, true, List, [], nat_le, if◌then◌else◌, length, take, drop, IsTrue, IsErr, OnOk, Result}
 use Rattle.std.specs.List.{prefix_len}
 use Rattle.devices.specs.declared.past.Past.{Past}
 use Rattle.devices.specs.declared.stream.Stream.{Stream}
@@ -96,3 +96,17 @@ faults_of Sink w = w.outside.sink_faults
 -- the moment after so many events: so many calls were kept by then
 abbrev pub moment_after : List Entry → ℕ → ℕ
 moment_after entries events = prefix_len (λ entry. nat_le entry.event events) entries
+
+-- One event more. Where events are still counted, the moments after the earlier ones are as they were.
+pub record Marks (entries later : List Entry) (events_before events_after : ℕ) : Type 0 where
+  pub counted : events_after ≡ min (events_before + 1) last_count
+  pub earlier : events_before < last_count → (events : ℕ) → events ≤ events_before → moment_after later events ≡ moment_after entries events
+
+-- One call more of these devices and streams, and the same faults are to come.
+pub record Calls (nvm ssd settings source sink : Bool) (old new : MemWorld) : Type 0 where
+  pub plan : new.plan.items ≡ old.plan.items
+  pub of_nvm : new.nvm.calls ≡ (if nvm then min (old.nvm.calls + 1) last_count else old.nvm.calls)
+  pub of_ssd : new.ssd.calls ≡ (if ssd then min (old.ssd.calls + 1) last_count else old.ssd.calls)
+  pub of_settings : new.settings_reads.calls ≡ (if settings then min (old.settings_reads.calls + 1) last_count else old.settings_reads.calls)
+  pub of_source : new.script_reads.calls ≡ (if source then min (old.script_reads.calls + 1) last_count else old.script_reads.calls)
+  pub of_sink : new.writes.calls ≡ (if sink then min (old.writes.calls + 1) last_count else old.writes.calls)

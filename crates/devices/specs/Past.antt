@@ -108,6 +108,10 @@ pub record Starts (line_count block_count : ℕ) (image : Image) (p : Past) : Ty
   pub sent : p.sent.items ≡ []
   pub sendings : p.sendings.items ≡ []
 
+-- these calls have numbers up to this one
+abbrev pub are_by : ℕ → List Entry → Bool
+are_by events entries = list_all (λ entry. nat_le entry.event events) entries
+
 -- what no call changes
 pub record Stands (old new : Past) : Type 0 where
   pub lines : new.lines ≡ old.lines

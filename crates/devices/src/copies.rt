@@ -10,25 +10,6 @@ use ssd_model::PageBuf;
 use std::alloc::Global;
 use std::collections::BTreeMap;
 
-/// Makes one page the other.
-pub(crate) fn copy_page(from: &PageBuf, into: &mut PageBuf)
-    ensures { into.new ≡ from.now }
-{
-    let bytes = from.bytes();
-    for at in 0..into.bytes().len() {
-        into.set_byte(at, bytes[at]);
-    }
-}
-
-/// A copy of a page.
-pub(crate) fn page_of(from: &PageBuf) -> PageBuf
-    ensures { result ≡ from.now }
-{
-    let mut page = PageBuf::zero();
-    copy_page(from, &mut page);
-    page
-}
-
 /// A copy of blocks.
 fn copy_blocks(
     alloc: Global,
@@ -38,7 +19,7 @@ fn copy_blocks(
 {
     let mut copy = BTreeMap::new(alloc);
     for (block, page) in from {
-        let Ok(_) = copy.insert(*block, page_of(page)) else {
+        let Ok(_) = copy.insert(*block, page.copy()) else {
             return Err(NoMemory);
         };
     }
@@ -49,9 +30,7 @@ fn copy_blocks(
 pub(crate) fn copy_images(alloc: Global, from: &Images) -> Result<Images, NoMemory>
     ensures { IfOk result (λ copy. Copies from.now copy) }
 {
-    let Ok(nvm) = from.nvm.to_vec(alloc) else {
-        return Err(NoMemory);
-    };
+    let nvm = from.nvm.to_vec(alloc)?;
     let ssd = copy_blocks(alloc, &from.ssd)?;
     Ok(Images {
         nvm,

@@ -55,8 +55,7 @@ pub(crate) struct Tally {
 fn names(plan: &[Fault], kind: FaultKind, nth: u64) -> bool
     ensures { result ≡ is_named plan.now kind nth }
 {
-    plan.iter()
-        .any(|fault| fault.kind.number() == kind.number() && fault.nth == nth)
+    plan.iter().any(|fault| fault.kind.number() == kind.number() && fault.nth == nth)
 }
 
 /// Counts one call more, which fails exactly where a fault names it.
@@ -72,6 +71,7 @@ pub(crate) fn begin(
     ensures later { tally.old.faults ≤ tally.new.faults }
     ensures calls { tally.new.calls ≡ min (tally.old.calls + 1) last_count }
     ensures events { events.new ≡ min (events.old + 1) last_count }
+    ensures more_events { events.old ≤ events.new }
 {
     let named = names(plan, kind, tally.calls);
     *events = events.saturating_add(1);

@@ -3,6 +3,7 @@ ghost use Rattle.std.specs.Prelude.{◌≡◌, ◌<◌, ◌≤◌, ℕ, [], leng
 ghost use Rattle.std.specs.Ordering.{nat_cmp};
 ghost use Rattle.std.specs.BTreeMap.{get};
 ghost use Rattle.devices.specs.World.{sent, sent_at};
+ghost use Rattle.devices.specs.Leaving.{IsLeftBy};
 ghost use Rattle.devices.specs.Past.{IsSound, Starts, image_of, zero_image};
 ghost use Rattle.devices.specs.MemWorld.{world, IsFresh, IsUncalled, faults_of, moment_after};
 
@@ -12,7 +13,8 @@ use crate::mem_world::MemWorld;
 use crate::past::Past;
 use crate::step::{Entry, Sending};
 use crate::stream::Stream;
-use nvm_model::NoMemory;
+use nvm_model::{Choice, NoMemory};
+use ssd_model::BlockChoice;
 use std::alloc::Global;
 
 /// A stream of these bytes.
@@ -38,7 +40,8 @@ fn uncalled() -> Tally
 
 /// The moment after so many events: how many of the calls that were kept have a number at most that.
 fn moment_of(entries: &[Entry], events: u64) -> usize
-    ensures { result ≡ moment_after entries.now events }
+    ensures value { result ≡ moment_after entries.now events }
+    ensures bound { result ≤ length entries.now }
 {
     entries
         .iter()
@@ -115,7 +118,8 @@ impl MemWorld {
 
     /// How many calls so far can fail.
     pub fn events(&self) -> u64
-        ensures { result ≡ self.now.events }
+        ensures count { result ≡ self.now.events }
+        ensures all { moment_after self.now.past.entries.items result ≡ (world self.now).clock }
     {
         self.events
     }
@@ -125,6 +129,21 @@ impl MemWorld {
         ensures { result.now ≡ sent (world self.now) }
     {
         &self.past.sent
+    }
+
+    /// The image that these choices leave after the first `events` events, at most as many as there are.
+    pub fn images_at(
+        &self,
+        alloc: Global,
+        events: u64,
+        nvm: Choice,
+        ssd: BlockChoice,
+    ) -> Result<Images, NoMemory>
+        requires { events ≤ self.now.events }
+        ensures { IfOk result (λ images. IsLeftBy ((world self.now).at (moment_after self.now.past.entries.items events)) (world self.now).lines (world self.now).blocks nvm ssd images) }
+    {
+        let moment = moment_of(&self.past.entries, events);
+        self.past.images_at(alloc, moment, nvm, ssd)
     }
 
     /// How many bytes were sent after the first `events` events, at most as many as there are.

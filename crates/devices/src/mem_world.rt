@@ -1,6 +1,7 @@
 //! A world in memory, told and honest: it keeps each call that changed a device or the output, and so knows the state
 //! of both devices at each moment.
-ghost use Rattle.devices.specs.Past.{IsSound};
+ghost use Rattle.std.specs.Prelude.{◌≡◌, true};
+ghost use Rattle.devices.specs.Past.{IsSound, are_by};
 
 use crate::faults::{Fault, FaultKind, Tally, begin, run_short};
 use crate::past::Past;
@@ -25,15 +26,16 @@ pub struct MemWorld {
     pub(crate) block_reads: u64,
     pub(crate) short: u64,
     ghost sound: { IsSound past },
+    ghost counted: { are_by events past.entries.items ≡ true },
 }
 
 impl Devices for MemWorld {
-    ghost use Rattle.std.specs.Prelude.{◌≡◌, ◌<◌, ℕ, length, IsTrue, IfOk, OnErr, OnOk};
+    ghost use Rattle.std.specs.Prelude.{◌≡◌, ◌<◌, ℕ, true, false, length, IsTrue, IfOk, OnErr, OnOk};
     ghost use Rattle.devices.specs.State.{line_at};
     ghost use Rattle.devices.specs.State.Call.{store_word, store_line, flush, fence, write_block, sync};
     ghost use Rattle.devices.specs.World.{now, Goes, Stays, Makes, NvmCause, SsdCause, Counts};
     ghost use Rattle.devices.specs.Faults.{is_named};
-    ghost use Rattle.devices.specs.MemWorld.{world, FailsExactly, FailsOnlyAt};
+    ghost use Rattle.devices.specs.MemWorld.{world, FailsExactly, FailsOnlyAt, Calls, Marks};
     ghost use Rattle.devices.specs.declared.faults.FaultKind.TheVariants.{Nvm, Ssd};
 
     ghost standing = { world };
@@ -53,6 +55,8 @@ impl Devices for MemWorld {
         ensures value { IsTrue (world self.old).told → IfOk result (λ found. found ≡ line_at (now (world self.old)) line) }
         ensures cause { NvmCause (world self.old) (world self.new) result }
         ensures exactly { FailsOnlyAt (is_named self.old.plan.items Nvm self.old.nvm.calls) self.old.short self.new.short result }
+        ensures calls { Calls true false false false false self.old self.new }
+        ensures marks { Marks self.old.past.entries.items self.new.past.entries.items self.old.events self.new.events }
     {
         begin(&self.plan, FaultKind::Nvm, &mut self.nvm, &mut self.events)?;
         Ok(self.past.load(line))
@@ -65,6 +69,8 @@ impl Devices for MemWorld {
         ensures makes { Makes (store_word line word value) (world self.old) (world self.new) result }
         ensures cause { NvmCause (world self.old) (world self.new) result }
         ensures exactly { FailsExactly (is_named self.old.plan.items Nvm self.old.nvm.calls) self.old.short self.new.short result }
+        ensures calls { Calls true false false false false self.old self.new }
+        ensures marks { Marks self.old.past.entries.items self.new.past.entries.items self.old.events self.new.events }
     {
         begin(&self.plan, FaultKind::Nvm, &mut self.nvm, &mut self.events)?;
         match self.past.store_word(self.events, line, word, value) {
@@ -79,6 +85,8 @@ impl Devices for MemWorld {
         ensures makes { Makes (store_line line value.now) (world self.old) (world self.new) result }
         ensures cause { NvmCause (world self.old) (world self.new) result }
         ensures exactly { FailsExactly (is_named self.old.plan.items Nvm self.old.nvm.calls) self.old.short self.new.short result }
+        ensures calls { Calls true false false false false self.old self.new }
+        ensures marks { Marks self.old.past.entries.items self.new.past.entries.items self.old.events self.new.events }
     {
         begin(&self.plan, FaultKind::Nvm, &mut self.nvm, &mut self.events)?;
         match self.past.store_line(self.events, line, value) {
@@ -93,6 +101,8 @@ impl Devices for MemWorld {
         ensures makes { Makes (flush line) (world self.old) (world self.new) result }
         ensures cause { NvmCause (world self.old) (world self.new) result }
         ensures exactly { FailsExactly (is_named self.old.plan.items Nvm self.old.nvm.calls) self.old.short self.new.short result }
+        ensures calls { Calls true false false false false self.old self.new }
+        ensures marks { Marks self.old.past.entries.items self.new.past.entries.items self.old.events self.new.events }
     {
         begin(&self.plan, FaultKind::Nvm, &mut self.nvm, &mut self.events)?;
         match self.past.flush(self.events, line) {
@@ -107,6 +117,8 @@ impl Devices for MemWorld {
         ensures or_not { OnErr result (Stays (world self.old) (world self.new)) }
         ensures cause { NvmCause (world self.old) (world self.new) result }
         ensures exactly { FailsExactly (is_named self.old.plan.items Nvm self.old.nvm.calls) self.old.short self.new.short result }
+        ensures calls { Calls true false false false false self.old self.new }
+        ensures marks { Marks self.old.past.entries.items self.new.past.entries.items self.old.events self.new.events }
     {
         begin(&self.plan, FaultKind::Nvm, &mut self.nvm, &mut self.events)?;
         match self.past.fence(self.events) {
@@ -123,6 +135,8 @@ impl Devices for MemWorld {
         ensures cause { SsdCause (world self.old) (world self.new) result }
         ensures counts { Counts (world self.old) (world self.new) }
         ensures exactly { FailsOnlyAt (is_named self.old.plan.items Ssd self.old.ssd.calls) self.old.short self.new.short result }
+        ensures calls { Calls false true false false false self.old self.new }
+        ensures marks { Marks self.old.past.entries.items self.new.past.entries.items self.old.events self.new.events }
     {
         self.block_reads = self.block_reads.saturating_add(1);
         begin(&self.plan, FaultKind::Ssd, &mut self.ssd, &mut self.events)?;
@@ -137,6 +151,8 @@ impl Devices for MemWorld {
         ensures cause { SsdCause (world self.old) (world self.new) result }
         ensures reads { (world self.new).block_reads ≡ (world self.old).block_reads }
         ensures exactly { FailsExactly (is_named self.old.plan.items Ssd self.old.ssd.calls) self.old.short self.new.short result }
+        ensures calls { Calls false true false false false self.old self.new }
+        ensures marks { Marks self.old.past.entries.items self.new.past.entries.items self.old.events self.new.events }
     {
         begin(&self.plan, FaultKind::Ssd, &mut self.ssd, &mut self.events)?;
         match self.past.write_block(self.events, block, from) {
@@ -152,6 +168,8 @@ impl Devices for MemWorld {
         ensures cause { SsdCause (world self.old) (world self.new) result }
         ensures reads { (world self.new).block_reads ≡ (world self.old).block_reads }
         ensures exactly { FailsExactly (is_named self.old.plan.items Ssd self.old.ssd.calls) self.old.short self.new.short result }
+        ensures calls { Calls false true false false false self.old self.new }
+        ensures marks { Marks self.old.past.entries.items self.new.past.entries.items self.old.events self.new.events }
     {
         begin(&self.plan, FaultKind::Ssd, &mut self.ssd, &mut self.events)?;
         match self.past.sync(self.events) {
@@ -166,7 +184,7 @@ impl World for MemWorld {
     ghost use Rattle.devices.specs.World.{ReadsNext, OnlyChanges, Sends, WorldCall, OwnCause};
     ghost use Rattle.devices.specs.Faults.{is_named};
     ghost use Rattle.devices.specs.Laws.{sent_later};
-    ghost use Rattle.devices.specs.MemWorld.{world, FailsExactly, FailsOnlyAt};
+    ghost use Rattle.devices.specs.MemWorld.{world, FailsExactly, FailsOnlyAt, Calls, Marks};
     ghost use Rattle.devices.specs.declared.faults.FaultKind.TheVariants.{Settings, Source, Sink};
 
     ghost timed = { λ w m le. sent_later w.past m w.sound le };
@@ -179,6 +197,8 @@ impl World for MemWorld {
         ensures reads { ReadsNext (world self.old).told (world self.old).outside.settings (world self.new).outside.settings result into.new }
         ensures rest { OnlyChanges true false false (world self.old) (world self.new) }
         ensures exactly { FailsOnlyAt (is_named self.old.plan.items Settings self.old.settings_reads.calls) self.old.short self.new.short result }
+        ensures calls { Calls false false true false false self.old self.new }
+        ensures marks { Marks self.old.past.entries.items self.new.past.entries.items self.old.events self.new.events }
     {
         begin(
             &self.plan,
@@ -197,6 +217,8 @@ impl World for MemWorld {
         ensures reads { ReadsNext (world self.old).told (world self.old).outside.input (world self.new).outside.input result into.new }
         ensures rest { OnlyChanges false true false (world self.old) (world self.new) }
         ensures exactly { FailsOnlyAt (is_named self.old.plan.items Source self.old.script_reads.calls) self.old.short self.new.short result }
+        ensures calls { Calls false false false true false self.old self.new }
+        ensures marks { Marks self.old.past.entries.items self.new.past.entries.items self.old.events self.new.events }
     {
         begin(
             &self.plan,
@@ -215,6 +237,8 @@ impl World for MemWorld {
         ensures sends { Sends (world self.old) (world self.new) bytes.now result }
         ensures rest { OnlyChanges false false true (world self.old) (world self.new) }
         ensures exactly { FailsExactly (is_named self.old.plan.items Sink self.old.writes.calls) self.old.short self.new.short result }
+        ensures calls { Calls false false false false true self.old self.new }
+        ensures marks { Marks self.old.past.entries.items self.new.past.entries.items self.old.events self.new.events }
         ensures whole { IfOk result (λ count. count ≡ length bytes.now) }
     {
         begin(

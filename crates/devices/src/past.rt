@@ -7,7 +7,7 @@ ghost use Rattle.devices.specs.World.{sent_by};
 ghost use Rattle.devices.specs.Past.{changes_of, IsSound, Same, Kept, KeptPage, Sent, standing_state, Begins, Starts, image_of, zero_image, zero_line};
 ghost use Rattle.devices.specs.declared.step.Step.TheVariants.{StoreWord, StoreLine, Flush, Fence, Sync};
 
-use crate::copies::{copy_images, copy_page, page_of};
+use crate::copies::copy_images;
 use crate::images::Images;
 use crate::step::{Entry, Sending, Step};
 use nvm_model::{Line, NoMemory};
@@ -141,18 +141,17 @@ impl Past {
         ensures ok { OnOk result (Kept event (StoreWord line word value) self.old self.new) }
         ensures err { OnErr result (Same self.old self.new) }
     {
-        note(&mut self.entries, event, Step::StoreWord { line, word, value })?;
+        note(
+            &mut self.entries,
+            event,
+            Step::StoreWord { line, word, value },
+        )?;
         set_word(&mut self.current.nvm[line as usize], word, value);
         Ok(())
     }
 
     /// Stores a line, or finds no memory and changes nothing.
-    pub(crate) fn store_line(
-        &mut self,
-        event: u64,
-        line: u64,
-        value: &Line,
-    ) -> Result<(), NoMemory>
+    pub(crate) fn store_line(&mut self, event: u64, line: u64, value: &Line) -> Result<(), NoMemory>
         requires sound { IsSound self.old }
         requires line { line < self.old.lines }
         ensures sound { IsSound self.new }
@@ -194,7 +193,7 @@ impl Past {
         ensures { into.new ≡ ((standing_state self.now).ssd block).bytes }
     {
         match self.current.ssd.get(&block) {
-            Some(page) => copy_page(page, into),
+            Some(page) => into.copy_from(page),
             None => *into = PageBuf::zero(),
         }
     }
@@ -215,10 +214,10 @@ impl Past {
         if self.entries.reserve(1).is_err() {
             return Err(NoMemory);
         }
-        let Ok(page) = Box::new(self.alloc, page_of(from)) else {
+        let Ok(page) = Box::new(self.alloc, from.copy()) else {
             return Err(NoMemory);
         };
-        let Ok(_) = self.current.ssd.insert(block, page_of(from)) else {
+        let Ok(_) = self.current.ssd.insert(block, from.copy()) else {
             return Err(NoMemory);
         };
         self.entries.push_reserved(Entry {

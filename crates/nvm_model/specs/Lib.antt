@@ -1,2 +1,6 @@
 pub mod Word
 pub mod Memory
+pub mod Choose
+pub mod Held
+pub mod Progress
+pub mod Contents

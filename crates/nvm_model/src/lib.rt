@@ -5,5 +5,11 @@
 #![tactic(auto)]
 
 mod line;
+mod state;
+#[cfg(test)]
+mod tests;
+mod versions;
+mod words;
 
 pub use line::{Choice, Line, NoMemory};
+pub use state::NvmState;

@@ -1,4 +1,8 @@
 //! A line of eight words, and what the calls of this crate take and answer besides.
+ghost use Rattle.std.specs.Prelude.{◌≡◌};
+ghost use Rattle.nvm_model.specs.Choose.{takes_oldest};
+
+use std::alloc::AllocError;
 
 /// Eight words. Word `w` stands at the bytes `8 * w` to `8 * w + 7` of the line, little-endian.
 #[derive(Clone, Copy, Debug, PartialEq, Eq)]
@@ -20,4 +24,25 @@ pub enum Choice {
     Newest,
     /// The oldest version of each word whose number is even, and the last one of the others.
     Alternating,
+}
+
+impl From<AllocError> for NoMemory {
+    ghost from_gives = { λ error made. made ≡ record {} };
+
+    fn from(_error: AllocError) -> NoMemory {
+        NoMemory
+    }
+}
+
+impl Choice {
+    /// Whether it takes the oldest version of the word of this number.
+    pub(crate) fn takes_oldest(self, number: usize) -> bool
+        ensures { result ≡ takes_oldest self number }
+    {
+        match self {
+            Choice::Oldest => true,
+            Choice::Newest => false,
+            Choice::Alternating => number % 2 == 0,
+        }
+    }
 }

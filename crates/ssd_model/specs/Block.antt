@@ -1,5 +1,6 @@
 -- The blocks of a disk, and what each call makes of them.
 use Rattle.std.specs.Prelude.{ℕ, Bool, true, false, List, if◌then◌else◌, ◌==◌}
+use Rattle.ssd_model.specs.Page.{zero_page}
 
 -- One block: its current bytes, and whether a crash leaves just these.
 pub record Block : Type 0 where
@@ -12,6 +13,10 @@ Disk = ℕ → Block
 
 abbrev pub settled_block : List ℕ → Block
 settled_block bytes = record { bytes = bytes; settled = true }
+
+-- every block is settled, with zeros
+abbrev pub zero_disk : Disk
+zero_disk b = settled_block zero_page
 
 -- a write of a block
 abbrev pub with_block : ℕ → List ℕ → Disk → Disk

@@ -1,2 +1,5 @@
 pub mod Block
 pub mod Page
+pub mod Choose
+pub mod Sectors
+pub mod Contents

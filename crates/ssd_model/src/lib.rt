@@ -4,6 +4,14 @@
 //! a settled block its current bytes, and of any other block anything.
 #![tactic(auto)]
 
+mod choice;
 mod page;
+mod sector;
+mod sectors;
+mod state;
+#[cfg(test)]
+mod tests;
 
+pub use choice::BlockChoice;
 pub use page::PageBuf;
+pub use state::SsdState;

@@ -1,6 +1,5 @@
-use Rattle.std.proofs.Common.{refl, sym, ◌≡◌, ◌∙◌, ap, List, ℕ, [], ◌∷◌, ◌++◌, ◌+◌, length, length-append, rules}
+use Rattle.std.proofs.Common.{refl, ◌≡◌, ◌∙◌, ap, List, [], ◌∷◌, ◌++◌, ◌+◌, length, rules}
 use Rattle.devices.specs.declared.step.Entry.{Entry}
-use Rattle.devices.specs.declared.step.Sending.{Sending}
 use Rattle.devices.specs.declared.step.Step.TheVariants.{Send}
 use Rattle.devices.proofs.SentLaws.{sound_sent}
 use Rattle.devices.proofs.past.Past.send.Goals as goal
@@ -14,4 +13,4 @@ returns-clause-sound c =
     let upto : c.len-2.result ≡ length old.sent.items + length c.args.bytes.now = search rules in
     let last : c.push_reserved-2.new.self.items ≡ old.sendings.items ++ record { moment = length old.entries.items + 1; upto = length old.sent.items + length c.args.bytes.now } ∷ [] = search (rules, moment, upto) in
     sound_sent {event = c.args.event} {bytes = c.args.bytes.now} old _ c.requires
-        (record { stands = record { lines = refl; blocks = refl; base = refl }; entries = entries; sent = c.in-Ok.ensures.items; sendings = last }) refl refl
+    (record { stands = record { lines = refl; blocks = refl; base = refl }; entries = entries; sent = c.in-Ok.ensures.items; sendings = last }) refl refl

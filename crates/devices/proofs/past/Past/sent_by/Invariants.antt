@@ -1,4 +1,4 @@
-use Rattle.std.proofs.Common.{◌≡◌, ◌≤◌, ℕ, [], length, take, drop}
+use Rattle.std.proofs.Common.{◌≡◌, ◌≤◌, [], length, take, drop}
 use Rattle.devices.specs.World.{last_from}
 use Rattle.devices.specs.Past.{changes_of}
 use Rattle.devices.proofs.past.Past.sent_by.Given as goal

@@ -1,4 +1,4 @@
-use Rattle.std.proofs.Common.{refl, sym, ◌≡◌, ◌∙◌, ap, subst, List, ℕ, [], ◌∷◌, ◌++◌}
+use Rattle.std.proofs.Common.{refl, sym, ◌≡◌, ◌∙◌, ap, subst, List, [], ◌∷◌, ◌++◌}
 use Rattle.std.specs.Prelude.{Some}
 use Rattle.std.specs.Ordering.{nat_cmp}
 use Rattle.std.specs.BTreeMap.{Updates}
@@ -16,8 +16,8 @@ returns-clause-sound c =
     let sound = c.requires.sound in
     let page = c.in-Ok.page in
     let entry : Entry = record { event = c.args.event; step = WriteBlock c.args.block page } in
-    let bytes : c.page_of-2.result ≡ page.value = c.page_of-2.ensures ∙ sym c.page_of.ensures ∙ sym c.in-Ok.ensures.ok in
+    let bytes : c.copy-2.result ≡ page.value = c.copy-2.ensures.value ∙ sym c.copy.ensures.value ∙ sym c.in-Ok.ensures.ok in
     let updates : Updates nat_cmp old.current.ssd c.insert.new.self c.args.block (Some page.value) = subst (λ bs. Updates nat_cmp old.current.ssd c.insert.new.self c.args.block (Some bs)) bytes c.in-Ok-insert.ensures.updates in
     sound_kept old _ sound {step = WriteBlock c.args.block page}
-        (record { stands = record { lines = refl; blocks = refl; base = refl }; entries = c.push_reserved.ensures.items ∙ ap (λ (es : List Entry). es ++ entry ∷ []) c.reserve.ensures.items; sent = refl; sendings = refl })
-        (lt-ltb c.args.block old.current.ssd_blocks c.requires.block) sound.size sound.words (pages_written old.current.ssd c.insert.new.self (standing_state old) c.args.block page.value sound.pages updates)
+    (record { stands = record { lines = refl; blocks = refl; base = refl }; entries = c.push_reserved.ensures.items ∙ ap (λ (es : List Entry). es ++ entry ∷ []) c.reserve.ensures.items; sent = refl; sendings = refl })
+    (lt-ltb c.args.block old.current.ssd_blocks c.requires.block) sound.size sound.words (pages_written old.current.ssd c.insert.new.self (standing_state old) c.args.block page.value sound.pages updates)

@@ -1,0 +1,4 @@
+pub mod WordLaws
+pub mod HeldLaws
+pub mod MemoryLaws
+pub mod ImageLaws
