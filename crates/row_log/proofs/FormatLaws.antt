@@ -6,7 +6,7 @@ use Rattle.nvm_model.specs.Word.{Word, single, trimmed}
 use Rattle.devices.specs.State.{State, current}
 use Rattle.devices.specs.World.{Standing, Goes, Moments, MakesAll, now}
 use Rattle.devices.specs.Growth.{Grows, no_write}
-use Rattle.devices.proofs.StateLaws.{single_version}
+use Rattle.nvm_model.proofs.WordLaws.{single_version}
 use Rattle.devices.proofs.MomentLaws.{Moments-trans, Moments-map}
 use Rattle.row_log.specs.Layout.{Words, magic, gate, rows_of, are_rows, rows_below}
 use Rattle.row_log.specs.InOrder.{InOrder, Formats, MayFormat}

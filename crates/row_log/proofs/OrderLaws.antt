@@ -3,7 +3,7 @@ use Rattle.std.proofs.Common.{◌≡◌, ℕ, ◌+◌, ◌*◌, ◌/◌, ◌%◌
 use Rattle.nvm_model.specs.Word.{IsSingle}
 use Rattle.devices.specs.State.{State, Image, Leaves, fresh, current}
 use Rattle.devices.specs.Growth.{Grows, no_write}
-use Rattle.devices.proofs.StateLaws.{single_version}
+use Rattle.nvm_model.proofs.WordLaws.{single_version}
 use Rattle.devices.proofs.GrowthLaws.{Grows-version, Grows-refl}
 use Rattle.script.specs.Machine.{Rows}
 use Rattle.row_log.specs.Layout.{gate, record_line, rows_of}

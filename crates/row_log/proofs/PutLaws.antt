@@ -7,7 +7,7 @@ use Rattle.nvm_model.specs.Word.{Word, IsSingle, single, trimmed}
 use Rattle.devices.specs.State.{State, Image, Leaves, fresh, current}
 use Rattle.devices.specs.World.{Standing, Goes, Moments, MakesAll, now}
 use Rattle.devices.specs.Growth.{Grows, no_write}
-use Rattle.devices.proofs.StateLaws.{single_version, IsSingle-trimmed}
+use Rattle.nvm_model.proofs.WordLaws.{single_version, IsSingle-trimmed}
 use Rattle.devices.proofs.MomentLaws.{Moments-trans, Moments-map}
 use Rattle.script.specs.Names.{IsValue}
 use Rattle.script.specs.Machine.{Rows}
