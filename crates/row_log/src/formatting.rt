@@ -12,9 +12,12 @@ use devices::{Devices, Failed};
 
 /// Makes the log one of no rows. A crash within it leaves the old words, no log, or the log of no rows.
 pub fn format<D: Devices>(dev: &mut D) -> Result<(), FormatError>
+    // What stays, whatever is answered, and why it fails.
     ensures goes { Goes (D.standing dev.old) (D.standing dev.new) }
     ensures small { (result ≡ Err FormatError.TooSmall) ↔ ((D.standing dev.old).lines < least_lines) }
     ensures cause { FormatCause (D.standing dev.old) (D.standing dev.new) result }
+
+    // The store at each moment, and at the end.
     ensures formats { IsTrue (D.standing dev.old).told → least_lines ≤ (D.standing dev.old).lines → Formats (D.standing dev.old) (D.standing dev.new) result }
 {
     if dev.nvm_lines() < LEAST_LINES {

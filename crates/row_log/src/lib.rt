@@ -16,3 +16,6 @@ mod staging;
 pub use errors::{FormatError, OpenError};
 pub use formatting::format;
 pub use rows::RowLog;
+
+#[cfg(test)]
+mod tests;

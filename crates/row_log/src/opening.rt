@@ -18,10 +18,15 @@ use std::alloc::Global;
 impl RowLog {
     /// Reads all records of a log, and changes nothing. All memory is taken here, once.
     pub fn open<D: Devices>(alloc: Global, dev: &mut D) -> Result<RowLog, OpenError>
+        // What stays, whatever is answered.
         ensures goes { Goes (D.standing dev.old) (D.standing dev.new) }
         ensures stays { Stays (D.standing dev.old) (D.standing dev.new) }
+
+        // Why it fails.
         ensures small { (result ≡ Err OpenError.TooSmall) ↔ ((D.standing dev.old).lines < least_lines) }
         ensures cause { OpenCause (D.standing dev.old) (D.standing dev.new) result }
+
+        // The rows.
         ensures found { IsTrue (D.standing dev.old).told → IfOk result (λ log. rows_of (words_now (D.standing dev.old)) ≡ Some log) }
         ensures rows { IfOk result (λ log. AreRows log × (length log ≤ 256)) }
     {

@@ -75,10 +75,15 @@ impl RowLog {
     pub fn put<D: Devices>(&mut self, dev: &mut D, key: u64, value: Value) -> Result<(), Failed>
         requires room { length self.old < 256 }
         requires lines { least_lines ≤ (D.standing dev.old).lines }
+        // Why it fails, and what stays, whatever is answered.
         ensures goes { Goes (D.standing dev.old) (D.standing dev.new) }
         ensures cause { NvmCause (D.standing dev.old) (D.standing dev.new) result }
+
+        // The rows of the log.
         ensures rows { OnOk result (self.new ≡ self.old ++ (key, value) ∷ []) }
         ensures stays { OnErr result (self.new ≡ self.old) }
+
+        // The rows of the store: whatever versions stand, and of a store in order at each moment.
         ensures holds { IsTrue (D.standing dev.old).told → Holds (now (D.standing dev.old)) self.old → OnOk result (Holds (now (D.standing dev.new)) (self.old ++ (key, value) ∷ [])) }
         ensures puts { IsTrue (D.standing dev.old).told → InOrder (now (D.standing dev.old)) self.old → Puts self.old (key, value) (D.standing dev.old) (D.standing dev.new) result }
     {

@@ -40,7 +40,7 @@ loop-i-preserved g c =
           (words_kept _ _ inv.goes inv.stays told) (inv.rows told) (step.row (subst (λ t. IsTrue t) (sym inv.goes.told) told)) pushed.items;
       few = ap length pushed.items ∙ length_push c.loop-i.rows.items c.in_ok-row.row ∙ ap (λ (n : ℕ). n + 1) inv.few;
       room = subst (λ (n : ℕ). 256 ≤ n) (sym {A = ℕ} pushed.capacity) inv.room;
-      are = subst (λ (rows : Rows). AreRows rows) (sym pushed.items) (AreRows-push c.loop-i.rows.items c.in_ok-row.row inv.are step.valid);
+      are = subst (λ (rows : Rows). AreRows rows) (sym {A = Rows} pushed.items) (AreRows-push c.loop-i.rows.items c.in_ok-row.row inv.are step.valid);
     }
 
 pub returns-in_err-row-clause-cause : goal.returns-in_err-row-clause-cause
