@@ -1,0 +1,130 @@
+//! A world of files: the NVM is the file `nvm.img` of the working folder, and script and output are the standard
+//! streams. It has no disk and no settings: those calls fail.
+
+use crate::counts::{Counts, fault, raise};
+use crate::device_file::DeviceFile;
+use crate::line_bytes::{
+    bytes_of_line, bytes_of_word, line_of_bytes, start_of_line, start_of_word,
+};
+use crate::streams::{read_some, write_some};
+use devices::{Devices, Failed, World};
+use nvm_model::Line;
+use ssd_model::PageBuf;
+use std::io;
+use std::rt::Files;
+
+const NVM_LINES: u64 = 4_268_048;
+
+const SSD_BLOCKS: u64 = 31_033_269;
+
+/// A world of files. Nothing is told of what they hold.
+#[derive(Drop)]
+pub struct FileWorld<'a, R: Files + Input + Print> {
+    rt: &'a R,
+    nvm: DeviceFile<'a, R>,
+    script: R::Reader,
+    counts: Counts,
+}
+
+impl<R: Files + Input + Print> FileWorld<'_, R> {
+    ghost use Rattle.std.specs.Prelude.{◌≡◌};
+    ghost use Rattle.spitfire_cli.specs.FileWorld.{no_counts};
+
+    /// The world of the working folder and the standard streams. No file is opened before its first use.
+    pub fn new(rt: &R) -> FileWorld<'_, R>
+        ensures { result.counts ≡ no_counts }
+    {
+        FileWorld {
+            rt,
+            nvm: DeviceFile::new(rt, "nvm.img"),
+            script: rt.reader(),
+            counts: Counts::new(),
+        }
+    }
+}
+
+impl<R: Files + Input + Print> Devices for FileWorld<'_, R> {
+    ghost use Rattle.spitfire_cli.specs.FileWorld.{standing_of};
+
+    ghost standing = { λ world. standing_of world.counts };
+
+    fn nvm_lines(&self) -> u64 {
+        NVM_LINES
+    }
+
+    fn ssd_blocks(&self) -> u64 {
+        SSD_BLOCKS
+    }
+
+    fn load(&mut self, line: u64) -> Result<Line, Failed> {
+        let mut bytes = [0u8; 64];
+        match self.nvm.read_at(start_of_line(line), &mut bytes) {
+            Ok(()) => Ok(line_of_bytes(&bytes)),
+            Err(_) => Err(fault(&mut self.counts.nvm_faults)),
+        }
+    }
+
+    fn store_word(&mut self, line: u64, word: usize, value: u64) -> Result<(), Failed> {
+        let bytes = bytes_of_word(value);
+        match self.nvm.write_at(start_of_word(line, word), &bytes) {
+            Ok(()) => Ok(()),
+            Err(_) => Err(fault(&mut self.counts.nvm_faults)),
+        }
+    }
+
+    fn store_line(&mut self, line: u64, value: &Line) -> Result<(), Failed> {
+        let bytes = bytes_of_line(value);
+        match self.nvm.write_at(start_of_line(line), &bytes) {
+            Ok(()) => Ok(()),
+            Err(_) => Err(fault(&mut self.counts.nvm_faults)),
+        }
+    }
+
+    /// What was stored stays where the process stops, so there is nothing to do.
+    fn flush(&mut self, _line: u64) -> Result<(), Failed> {
+        Ok(())
+    }
+
+    /// What was stored stays where the process stops, so there is nothing to do.
+    fn fence(&mut self) -> Result<(), Failed> {
+        Ok(())
+    }
+
+    fn read_block(&mut self, _block: u64, _into: &mut PageBuf) -> Result<(), Failed> {
+        raise(&mut self.counts.block_reads);
+        Err(fault(&mut self.counts.ssd_faults))
+    }
+
+    fn write_block(&mut self, _block: u64, _from: &PageBuf) -> Result<(), Failed> {
+        Err(fault(&mut self.counts.ssd_faults))
+    }
+
+    fn sync(&mut self) -> Result<(), Failed> {
+        Err(fault(&mut self.counts.ssd_faults))
+    }
+}
+
+impl<R: Files + Input + Print> World for FileWorld<'_, R> {
+    ghost use Rattle.spitfire_cli.specs.Laws.{timed_of};
+
+    ghost timed = { λ world. timed_of world.counts };
+
+    fn read_settings(&mut self, _into: &mut [u8]) -> Result<usize, Failed> {
+        Err(fault(&mut self.counts.settings_faults))
+    }
+
+    fn read(&mut self, into: &mut [u8]) -> Result<usize, Failed> {
+        match read_some(&mut self.script, into) {
+            Ok(count) => Ok(count),
+            Err(_) => Err(fault(&mut self.counts.source_faults)),
+        }
+    }
+
+    fn write(&mut self, bytes: &[u8]) -> Result<usize, Failed> {
+        let mut output = io::writer(self.rt);
+        match write_some(&mut output, bytes) {
+            Ok(count) => Ok(count),
+            Err(_) => Err(fault(&mut self.counts.sink_faults)),
+        }
+    }
+}
