@@ -1,3 +1,4 @@
 pub mod LineBytes
+pub mod Streams
 pub mod FileWorld
 pub mod Laws

@@ -1,9 +1,9 @@
 //! The file of a device: it is opened at its first use, for reading and writing, and made where it is absent.
 
-use crate::streams::{read_some, write_some};
+use crate::streams::{drain, fill};
 use std::fs::OpenOptions;
 use std::io;
-use std::io::{ErrorKind, Read, Seek, SeekFrom, Write};
+use std::io::{Read, Seek, SeekFrom, Write};
 use std::rt::Files;
 
 /// A file of the working folder that grows as it is written.
@@ -32,7 +32,7 @@ impl<'a, R: Files> DeviceFile<'a, R> {
         result
     }
 
-    /// Writes the bytes from `start` on. After an error any of them may have been written.
+    /// Writes the bytes from `start` on. After an error any first part of them may have been written.
     pub fn write_at(&mut self, start: u64, bytes: &[u8]) -> io::Result<()> {
         let mut file = self.opened()?;
         let result = write_from(&mut file, start, bytes);
@@ -65,33 +65,4 @@ fn read_from<F: Read + Seek>(file: &mut F, start: u64, into: &mut [u8]) -> io::R
 fn write_from<F: Write + Seek>(file: &mut F, start: u64, bytes: &[u8]) -> io::Result<()> {
     file.seek(SeekFrom::Start(start))?;
     drain(file, bytes)
-}
-
-/// Fills `into` with the next bytes of a reader, and with zeros past its end.
-fn fill<F: Read>(from: &mut F, into: &mut [u8]) -> io::Result<()> {
-    let mut at = 0;
-    for _ in 0..u64::MAX {
-        if at >= into.len() {
-            return Ok(());
-        }
-        let count = read_some(from, &mut into[at..])?;
-        if count == 0 {
-            into[at..].fill(0);
-            return Ok(());
-        }
-        at += count;
-    }
-    Err(io::Error::from(ErrorKind::TimedOut))
-}
-
-/// Writes all of the bytes.
-fn drain<F: Write>(to: &mut F, bytes: &[u8]) -> io::Result<()> {
-    let mut at = 0;
-    for _ in 0..u64::MAX {
-        if at >= bytes.len() {
-            return Ok(());
-        }
-        at += write_some(to, &bytes[at..])?;
-    }
-    Err(io::Error::from(ErrorKind::TimedOut))
 }
