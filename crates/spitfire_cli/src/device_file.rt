@@ -44,9 +44,19 @@ impl<'a, R: Files> DeviceFile<'a, R> {
     fn opened(&mut self) -> io::Result<R::File> {
         match self.file.take() {
             Some(file) => Ok(file),
-            None => open(self.rt, self.name),
+            None => open_above_streams(self.rt, self.name),
         }
     }
+}
+
+/// Opens the file. Where the process was started with a standard stream closed, the system would give the stream's
+/// number to the next file that is opened, and what is meant for the stream would go to that file. So the three
+/// numbers are taken while the file is opened, and a closed stream stays closed.
+fn open_above_streams<R: Files>(rt: &R, name: &str) -> io::Result<R::File> {
+    let _input = open(rt, name)?;
+    let _output = open(rt, name)?;
+    let _errors = open(rt, name)?;
+    open(rt, name)
 }
 
 fn open<R: Files>(rt: &R, name: &str) -> io::Result<R::File> {
