@@ -1,4 +1,6 @@
 //! The file of a device: it is opened at its first use, for reading and writing, and made where it is absent.
+ghost use Rattle.std.specs.Prelude.{◌≡◌, length, Some, IfOk, IfSome, OnOk};
+ghost use Rattle.spitfire_cli.specs.DeviceFile.{ReadsAt, WritesAt};
 
 use crate::streams::{drain, fill};
 use std::fs::OpenOptions;
@@ -11,7 +13,7 @@ use std::rt::Files;
 pub struct DeviceFile<'a, R: Files> {
     rt: &'a R,
     name: &'a str,
-    file: Option<R::File>,
+    pub file: Option<R::File>,
 }
 
 impl<'a, R: Files> DeviceFile<'a, R> {
@@ -25,7 +27,9 @@ impl<'a, R: Files> DeviceFile<'a, R> {
     }
 
     /// Fills `into` with the bytes from `start` on. Past the file's end they are zeros.
-    pub fn read_at(&mut self, start: u64, into: &mut [u8]) -> io::Result<()> {
+    pub fn read_at(&mut self, start: u64, into: &mut [u8]) -> io::Result<()>
+        ensures { OnOk result (ReadsAt R.File.stream_position R.File.remaining start (length into.old) self.old.file into.new) }
+    {
         let mut file = self.opened()?;
         let result = read_from(&mut file, start, into);
         self.file = Some(file);
@@ -33,7 +37,9 @@ impl<'a, R: Files> DeviceFile<'a, R> {
     }
 
     /// Writes the bytes from `start` on. After an error any first part of them may have been written.
-    pub fn write_at(&mut self, start: u64, bytes: &[u8]) -> io::Result<()> {
+    pub fn write_at(&mut self, start: u64, bytes: &[u8]) -> io::Result<()>
+        ensures { OnOk result (WritesAt R.File.stream_position R.File.contents start self.old.file self.new.file bytes.now) }
+    {
         let mut file = self.opened()?;
         let result = write_from(&mut file, start, bytes);
         self.file = Some(file);
@@ -41,7 +47,9 @@ impl<'a, R: Files> DeviceFile<'a, R> {
     }
 
     /// The open file, which is to be put back.
-    fn opened(&mut self) -> io::Result<R::File> {
+    fn opened(&mut self) -> io::Result<R::File>
+        ensures { IfOk result (λ file. IfSome self.old.file (λ before. file ≡ before)) }
+    {
         match self.file.take() {
             Some(file) => Ok(file),
             None => open_above_streams(self.rt, self.name),
@@ -67,12 +75,18 @@ fn open<R: Files>(rt: &R, name: &str) -> io::Result<R::File> {
         .open(rt, name)
 }
 
-fn read_from<F: Read + Seek>(file: &mut F, start: u64, into: &mut [u8]) -> io::Result<()> {
+fn read_from<F: Read + Seek>(file: &mut F, start: u64, into: &mut [u8]) -> io::Result<()>
+    ensures { OnOk result (ReadsAt F.stream_position F.remaining start (length into.old) (Some file.old) into.new) }
+{
     file.seek(SeekFrom::Start(start))?;
-    fill(file, into)
+    fill(file, into)?;
+    Ok(())
 }
 
-fn write_from<F: Write + Seek>(file: &mut F, start: u64, bytes: &[u8]) -> io::Result<()> {
+fn write_from<F: Write + Seek>(file: &mut F, start: u64, bytes: &[u8]) -> io::Result<()>
+    ensures { OnOk result (WritesAt F.stream_position F.contents start (Some file.old) (Some file.new) bytes.now) }
+{
     file.seek(SeekFrom::Start(start))?;
-    drain(file, bytes)
+    drain(file, bytes)?;
+    Ok(())
 }

@@ -1,0 +1,16 @@
+-- What a read and a write at a place of a file do, as far as the file's type says where it stands and what it holds.
+use Rattle.std.specs.Prelude.{◌≡◌, ℕ, List, Option, Some, IfSome}
+use Rattle.std.specs.Io.KnownBytes.{Appends}
+use Rattle.spitfire_cli.specs.Streams.{padded}
+
+-- From an open file that stood at `start` so many bytes were read, with zeros past its end.
+pub record ReadsAt {F : Type 0} (position : F → Option ℕ) (remaining : F → Option (List ℕ)) (start size : ℕ) (open_file : Option F) (into : List ℕ) : Type 0 where
+  pub sought : F
+  pub placed : IfSome open_file (λ file. IfSome (position file) (λ _. position sought ≡ Some start))
+  pub filled : IfSome (remaining sought) (λ left. into ≡ padded size left)
+
+-- To an open file that stood at `start` the bytes were written, and it is still open.
+pub record WritesAt {F : Type 0} (position : F → Option ℕ) (contents : F → Option (List ℕ)) (start : ℕ) (open_file new_file : Option F) (bytes : List ℕ) : Type 0 where
+  pub sought : F
+  pub placed : IfSome open_file (λ file. IfSome (position file) (λ _. position sought ≡ Some start))
+  pub written : IfSome new_file (λ file. Appends (contents sought) (contents file) bytes)
