@@ -44,6 +44,13 @@ impl<R: Files + Input + Print> FileWorld<'_, R> {
 }
 
 impl<R: Files + Input + Print> Devices for FileWorld<'_, R> {
+    ghost use Rattle.std.specs.Prelude.{◌≡◌, ◌<◌, ℕ, IsTrue, IfOk, OnErr, OnOk};
+    ghost use Rattle.byteorder.specs.Endian.{little_bytes};
+    ghost use Rattle.devices.specs.State.{line_at};
+    ghost use Rattle.devices.specs.State.Call.{store_word, store_line};
+    ghost use Rattle.devices.specs.World.{now, Goes, Stays, Makes, NvmCause};
+    ghost use Rattle.spitfire_cli.specs.LineBytes.{line_start, word_start, line_bytes};
+    ghost use Rattle.spitfire_cli.specs.DeviceFile.{LoadsLine, WritesAt};
     ghost use Rattle.spitfire_cli.specs.FileWorld.{standing_of};
 
     ghost standing = { λ world. standing_of world.counts };
@@ -56,7 +63,16 @@ impl<R: Files + Input + Print> Devices for FileWorld<'_, R> {
         SSD_BLOCKS
     }
 
-    fn load(&mut self, line: u64) -> Result<Line, Failed> {
+    fn load(&mut self, line: u64) -> Result<Line, Failed>
+        requires { line < (standing_of self.old.counts).lines }
+        ensures goes { Goes (standing_of self.old.counts) (standing_of self.new.counts) }
+        ensures stays { Stays (standing_of self.old.counts) (standing_of self.new.counts) }
+        ensures value { IsTrue (standing_of self.old.counts).told → IfOk result (λ found. found ≡ line_at (now (standing_of self.old.counts)) line) }
+        ensures cause { NvmCause (standing_of self.old.counts) (standing_of self.new.counts) result }
+
+        // where the file's type says what it holds
+        ensures found { IfOk result (LoadsLine R.File.stream_position R.File.remaining line self.old.nvm.file) }
+    {
         let mut bytes = [0u8; 64];
         match self.nvm.read_at(start_of_line(line), &mut bytes) {
             Ok(()) => Ok(line_of_bytes(&bytes)),
@@ -64,7 +80,16 @@ impl<R: Files + Input + Print> Devices for FileWorld<'_, R> {
         }
     }
 
-    fn store_word(&mut self, line: u64, word: usize, value: u64) -> Result<(), Failed> {
+    fn store_word(&mut self, line: u64, word: usize, value: u64) -> Result<(), Failed>
+        requires line { line < (standing_of self.old.counts).lines }
+        requires word { word < 8 }
+        ensures goes { Goes (standing_of self.old.counts) (standing_of self.new.counts) }
+        ensures makes { Makes (store_word line word value) (standing_of self.old.counts) (standing_of self.new.counts) result }
+        ensures cause { NvmCause (standing_of self.old.counts) (standing_of self.new.counts) result }
+
+        // where the file's type says what it holds
+        ensures written { OnOk result (WritesAt R.File.stream_position R.File.contents (word_start line word) self.old.nvm.file self.new.nvm.file (little_bytes 8 value)) }
+    {
         let bytes = bytes_of_word(value);
         match self.nvm.write_at(start_of_word(line, word), &bytes) {
             Ok(()) => Ok(()),
@@ -72,7 +97,15 @@ impl<R: Files + Input + Print> Devices for FileWorld<'_, R> {
         }
     }
 
-    fn store_line(&mut self, line: u64, value: &Line) -> Result<(), Failed> {
+    fn store_line(&mut self, line: u64, value: &Line) -> Result<(), Failed>
+        requires { line < (standing_of self.old.counts).lines }
+        ensures goes { Goes (standing_of self.old.counts) (standing_of self.new.counts) }
+        ensures makes { Makes (store_line line value.now) (standing_of self.old.counts) (standing_of self.new.counts) result }
+        ensures cause { NvmCause (standing_of self.old.counts) (standing_of self.new.counts) result }
+
+        // where the file's type says what it holds
+        ensures written { OnOk result (WritesAt R.File.stream_position R.File.contents (line_start line) self.old.nvm.file self.new.nvm.file (line_bytes value.now)) }
+    {
         let bytes = bytes_of_line(value);
         match self.nvm.write_at(start_of_line(line), &bytes) {
             Ok(()) => Ok(()),
