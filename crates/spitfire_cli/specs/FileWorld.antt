@@ -4,7 +4,7 @@ use Rattle.nvm_model.specs.Memory.{zeros}
 use Rattle.ssd_model.specs.Block.{settled_block}
 use Rattle.devices.specs.State.{State}
 use Rattle.devices.specs.World.{Standing, Outside}
-use Rattle.spitfire_cli.specs.declared.counts.Counts.{Counts}
+use Rattle.spitfire_cli.specs.declared.counts.CallCounts.{CallCounts}
 
 -- the lines and the blocks that are told, the most that a store needs
 abbrev pub told_lines : ℕ
@@ -14,7 +14,7 @@ abbrev pub told_blocks : ℕ
 told_blocks = 31033269
 
 -- no call was made
-abbrev pub no_counts : Counts
+abbrev pub no_counts : CallCounts
 no_counts = record { nvm_faults = 0; ssd_faults = 0; block_reads = 0; settings_faults = 0; source_faults = 0; sink_faults = 0 }
 
 -- the state that is named where none is told
@@ -22,7 +22,7 @@ unfoldable pub untold_state : State
 untold_state = record { nvm = zeros; ssd = λ b. settled_block [] }
 
 -- beside the devices only the counts of faults are known
-abbrev pub outside_of : Counts → Outside
+abbrev pub outside_of : CallCounts → Outside
 outside_of counts = record {
   settings = [];
   input = [];
@@ -32,7 +32,7 @@ outside_of counts = record {
   sink_faults = counts.sink_faults;
 }
 
-abbrev pub standing_of : Counts → Standing
+abbrev pub standing_of : CallCounts → Standing
 standing_of counts = record {
   lines = told_lines;
   blocks = told_blocks;

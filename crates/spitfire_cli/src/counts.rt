@@ -6,7 +6,7 @@ use devices::Failed;
 
 /// The counts of a world. Each stops at 2^64 - 1.
 #[derive(Clone, Copy, Debug, PartialEq, Eq)]
-pub struct Counts {
+pub struct CallCounts {
     /// Calls on NVM that failed.
     pub nvm_faults: u64,
     /// Calls on the disk that failed.
@@ -21,14 +21,14 @@ pub struct Counts {
     pub sink_faults: u64,
 }
 
-impl Counts {
+impl CallCounts {
     ghost use Rattle.spitfire_cli.specs.FileWorld.{no_counts};
 
     /// No call was made.
-    pub fn new() -> Counts
+    pub fn new() -> CallCounts
         ensures { result ≡ no_counts }
     {
-        Counts {
+        CallCounts {
             nvm_faults: 0,
             ssd_faults: 0,
             block_reads: 0,

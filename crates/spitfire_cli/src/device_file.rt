@@ -1,5 +1,5 @@
 //! The file of a device: it is opened at its first use, for reading and writing, and made where it is absent.
-ghost use Rattle.std.specs.Prelude.{◌≡◌, length, Some, IfOk, IfSome, OnOk};
+ghost use Rattle.std.specs.Prelude.{◌≡◌, length, None, Some, IfOk, IfSome, OnOk};
 ghost use Rattle.spitfire_cli.specs.DeviceFile.{ReadsAt, WritesAt};
 
 use crate::streams::{drain, fill};
@@ -18,7 +18,9 @@ pub struct DeviceFile<'a, R: Files> {
 
 impl<'a, R: Files> DeviceFile<'a, R> {
     /// The file of this name, which is not opened yet.
-    pub fn new(rt: &'a R, name: &'a str) -> DeviceFile<'a, R> {
+    pub fn new(rt: &'a R, name: &'a str) -> DeviceFile<'a, R>
+        ensures { result.file ≡ None }
+    {
         DeviceFile {
             rt,
             name,

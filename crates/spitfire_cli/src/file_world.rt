@@ -1,7 +1,7 @@
 //! A world of files: the NVM is the file `nvm.img` of the working folder, and script and output are the standard
 //! streams. It has no disk and no settings: those calls fail.
 
-use crate::counts::{Counts, fault, raise};
+use crate::counts::{CallCounts, fault, raise};
 use crate::device_file::DeviceFile;
 use crate::line_bytes::{
     bytes_of_line, bytes_of_word, line_of_bytes, start_of_line, start_of_word,
@@ -23,32 +23,33 @@ pub struct FileWorld<'a, R: Files + Input + Print> {
     rt: &'a R,
     nvm: DeviceFile<'a, R>,
     script: R::Reader,
-    counts: Counts,
+    counts: CallCounts,
 }
 
 impl<R: Files + Input + Print> FileWorld<'_, R> {
-    ghost use Rattle.std.specs.Prelude.{◌≡◌};
+    ghost use Rattle.std.specs.Prelude.{◌≡◌, None};
     ghost use Rattle.spitfire_cli.specs.FileWorld.{no_counts};
 
     /// The world of the working folder and the standard streams. No file is opened before its first use.
     pub fn new(rt: &R) -> FileWorld<'_, R>
-        ensures { result.counts ≡ no_counts }
+        ensures counts { result.counts ≡ no_counts }
+        ensures closed { result.nvm.file ≡ None }
     {
         FileWorld {
             rt,
             nvm: DeviceFile::new(rt, "nvm.img"),
             script: rt.reader(),
-            counts: Counts::new(),
+            counts: CallCounts::new(),
         }
     }
 }
 
 impl<R: Files + Input + Print> Devices for FileWorld<'_, R> {
-    ghost use Rattle.std.specs.Prelude.{◌≡◌, ◌<◌, ℕ, IsTrue, IfOk, OnErr, OnOk};
+    ghost use Rattle.std.specs.Prelude.{◌≡◌, ◌<◌, ℕ, IsTrue, IsOk, IsErr, IfOk, OnErr, OnOk};
     ghost use Rattle.byteorder.specs.Endian.{little_bytes};
     ghost use Rattle.devices.specs.State.{line_at};
-    ghost use Rattle.devices.specs.State.Call.{store_word, store_line};
-    ghost use Rattle.devices.specs.World.{now, Goes, Stays, Makes, NvmCause};
+    ghost use Rattle.devices.specs.State.Call.{store_word, store_line, flush, fence, write_block, sync};
+    ghost use Rattle.devices.specs.World.{now, Goes, Stays, Makes, NvmCause, SsdCause, Counts};
     ghost use Rattle.spitfire_cli.specs.LineBytes.{line_start, word_start, line_bytes};
     ghost use Rattle.spitfire_cli.specs.DeviceFile.{LoadsLine, WritesAt};
     ghost use Rattle.spitfire_cli.specs.FileWorld.{standing_of};
@@ -114,39 +115,100 @@ impl<R: Files + Input + Print> Devices for FileWorld<'_, R> {
     }
 
     /// What was stored stays where the process stops, so there is nothing to do.
-    fn flush(&mut self, _line: u64) -> Result<(), Failed> {
+    fn flush(&mut self, _line: u64) -> Result<(), Failed>
+        requires { _line < (standing_of self.old.counts).lines }
+        ensures goes { Goes (standing_of self.old.counts) (standing_of self.new.counts) }
+        ensures makes { Makes (flush _line) (standing_of self.old.counts) (standing_of self.new.counts) result }
+        ensures cause { NvmCause (standing_of self.old.counts) (standing_of self.new.counts) result }
+        ensures done { IsOk result }
+    {
         Ok(())
     }
 
     /// What was stored stays where the process stops, so there is nothing to do.
-    fn fence(&mut self) -> Result<(), Failed> {
+    fn fence(&mut self) -> Result<(), Failed>
+        ensures goes { Goes (standing_of self.old.counts) (standing_of self.new.counts) }
+        ensures makes { Makes fence (standing_of self.old.counts) (standing_of self.new.counts) result }
+        ensures or_not { OnErr result (Stays (standing_of self.old.counts) (standing_of self.new.counts)) }
+        ensures cause { NvmCause (standing_of self.old.counts) (standing_of self.new.counts) result }
+        ensures done { IsOk result }
+    {
         Ok(())
     }
 
-    fn read_block(&mut self, _block: u64, _into: &mut PageBuf) -> Result<(), Failed> {
+    /// There is no disk: the call fails.
+    fn read_block(&mut self, _block: u64, into: &mut PageBuf) -> Result<(), Failed>
+        requires { _block < (standing_of self.old.counts).blocks }
+        ensures goes { Goes (standing_of self.old.counts) (standing_of self.new.counts) }
+        ensures stays { Stays (standing_of self.old.counts) (standing_of self.new.counts) }
+        ensures value { IsTrue (standing_of self.old.counts).told → OnOk result (into.new ≡ ((now (standing_of self.old.counts)).ssd _block).bytes) }
+        ensures cause { SsdCause (standing_of self.old.counts) (standing_of self.new.counts) result }
+        ensures counts { Counts (standing_of self.old.counts) (standing_of self.new.counts) }
+        ensures fails { IsErr result }
+    {
         raise(&mut self.counts.block_reads);
         Err(fault(&mut self.counts.ssd_faults))
     }
 
-    fn write_block(&mut self, _block: u64, _from: &PageBuf) -> Result<(), Failed> {
+    /// There is no disk: the call fails.
+    fn write_block(&mut self, _block: u64, from: &PageBuf) -> Result<(), Failed>
+        requires { _block < (standing_of self.old.counts).blocks }
+        ensures goes { Goes (standing_of self.old.counts) (standing_of self.new.counts) }
+        ensures makes { Makes (write_block _block from.now) (standing_of self.old.counts) (standing_of self.new.counts) result }
+        ensures cause { SsdCause (standing_of self.old.counts) (standing_of self.new.counts) result }
+        ensures reads { (standing_of self.new.counts).block_reads ≡ (standing_of self.old.counts).block_reads }
+        ensures fails { IsErr result }
+    {
         Err(fault(&mut self.counts.ssd_faults))
     }
 
-    fn sync(&mut self) -> Result<(), Failed> {
+    /// There is no disk: the call fails.
+    fn sync(&mut self) -> Result<(), Failed>
+        ensures goes { Goes (standing_of self.old.counts) (standing_of self.new.counts) }
+        ensures makes { Makes sync (standing_of self.old.counts) (standing_of self.new.counts) result }
+        ensures or_not { OnErr result (Stays (standing_of self.old.counts) (standing_of self.new.counts)) }
+        ensures cause { SsdCause (standing_of self.old.counts) (standing_of self.new.counts) result }
+        ensures reads { (standing_of self.new.counts).block_reads ≡ (standing_of self.old.counts).block_reads }
+        ensures fails { IsErr result }
+    {
         Err(fault(&mut self.counts.ssd_faults))
     }
 }
 
 impl<R: Files + Input + Print> World for FileWorld<'_, R> {
+    ghost use Rattle.std.specs.Prelude.{◌≡◌, ◌<◌, ◌≤◌, ℕ, true, false, length, take, IfOk, IsErr};
+    ghost use Rattle.std.specs.Io.KnownBytes.{Consumes, IsAtEnd};
+    ghost use Rattle.devices.specs.World.{WorldCall, OwnCause, ReadsNext, OnlyChanges};
+    ghost use Rattle.spitfire_cli.specs.FileWorld.{standing_of};
     ghost use Rattle.spitfire_cli.specs.Laws.{timed_of};
 
     ghost timed = { λ world. timed_of world.counts };
 
-    fn read_settings(&mut self, _into: &mut [u8]) -> Result<usize, Failed> {
+    /// There are no settings: the call fails.
+    fn read_settings(&mut self, into: &mut [u8]) -> Result<usize, Failed>
+        requires { 0 < length into.old }
+        ensures call { WorldCall (standing_of self.old.counts) (standing_of self.new.counts) }
+        ensures bound { IfOk result (λ count. count ≤ length into.new) }
+        ensures cause { OwnCause self.old.counts.settings_faults self.new.counts.settings_faults result }
+        ensures reads { ReadsNext (standing_of self.old.counts).told (standing_of self.old.counts).outside.settings (standing_of self.new.counts).outside.settings result into.new }
+        ensures rest { OnlyChanges true false false (standing_of self.old.counts) (standing_of self.new.counts) }
+        ensures fails { IsErr result }
+    {
         Err(fault(&mut self.counts.settings_faults))
     }
 
-    fn read(&mut self, into: &mut [u8]) -> Result<usize, Failed> {
+    fn read(&mut self, into: &mut [u8]) -> Result<usize, Failed>
+        requires { 0 < length into.old }
+        ensures call { WorldCall (standing_of self.old.counts) (standing_of self.new.counts) }
+        ensures bound { IfOk result (λ count. count ≤ length into.new) }
+        ensures cause { OwnCause self.old.counts.source_faults self.new.counts.source_faults result }
+        ensures reads { ReadsNext (standing_of self.old.counts).told (standing_of self.old.counts).outside.input (standing_of self.new.counts).outside.input result into.new }
+        ensures rest { OnlyChanges false true false (standing_of self.old.counts) (standing_of self.new.counts) }
+
+        // where the reader's type says what it has left
+        ensures taken { IfOk result (λ count. Consumes (R.Reader.remaining self.old.script) (R.Reader.remaining self.new.script) (take count into.new)) }
+        ensures end { IfOk result (λ count. count ≡ 0 → IsAtEnd (R.Reader.remaining self.new.script)) }
+    {
         match read_some(&mut self.script, into) {
             Ok(count) => Ok(count),
             Err(_) => Err(fault(&mut self.counts.source_faults)),
