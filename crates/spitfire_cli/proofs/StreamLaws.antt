@@ -60,4 +60,4 @@ padded_behind first middle last old piece into at room count n within long fits 
     let front : length (take at mid) ≡ at = length-take-le at mid (omega arith) in
     let short : length mid - at ≡ n - length (take at mid) = omega arith in
     padded_at_end first last (take at mid) into n (omega arith) (subst (λ (k : ℕ). Consumes first last (take k mid)) same taken) end
-      (e ∙ ap (λ k. take at mid ++ replicate k 0) short)
+    (e ∙ ap (λ k. take at mid ++ replicate k 0) short)

@@ -6,6 +6,8 @@ mod device_file;
 mod file_world;
 mod line_bytes;
 mod streams;
+#[cfg(test)]
+mod tests;
 
 use devices::{Devices, World};
 use file_world::FileWorld;

@@ -12,4 +12,4 @@ pieces-preserved g c = record {
 pub returns-then-count-eq0 : goal.returns-then-count-eq0
 returns-then-count-eq0 g c =
     padded_behind _ _ _ c.pieces.into c.read_some.new.into _ c.pieces.at _ c.in_ok-count.count _ c.pieces.invariant.within (search rules) (search rules)
-      c.if-count-eq0.true c.pieces.invariant.taken c.in_ok-count.ensures.taken (c.in_ok-count.ensures.end c.if-count-eq0.true (search rules)) c.clear_from.ensures
+    c.if-count-eq0.true c.pieces.invariant.taken c.in_ok-count.ensures.taken (c.in_ok-count.ensures.end c.if-count-eq0.true (search rules)) c.clear_from.ensures
