@@ -10,12 +10,16 @@ ghost use Rattle.byteorder.specs.Endian.{little_bytes, little_number, IsRead};
 use byteorder::{ByteOrder, LittleEndian};
 use nvm_model::Line;
 
+const LINE_SIZE: u64 = 64;
+
+const WORD_SIZE: u64 = 8;
+
 /// The first byte of a line.
 pub fn start_of_line(line: u64) -> u64
     requires { line < told_lines }
     ensures { result ≡ line_start line }
 {
-    64 * line
+    LINE_SIZE * line
 }
 
 /// The first byte of a word of a line.
@@ -24,7 +28,7 @@ pub fn start_of_word(line: u64, word: usize) -> u64
     requires word { word < 8 }
     ensures { result ≡ word_start line word }
 {
-    64 * line + 8 * (word as u64)
+    start_of_line(line) + WORD_SIZE * (word as u64)
 }
 
 /// The line of these 64 bytes.
