@@ -1,5 +1,5 @@
 -- What pieces that were read or written one after the other make together.
-use Rattle.std.proofs.Common.{◌≡◌, ℕ, ◌+◌, ◌-◌, ◌≤◌, List, [], ◌++◌, arith, length, take, drop, slice_range, sym, ap, ◌∙◌, subst, append_assoc, append-nil, le_refl, drop_at, length-take-le, take_all, take-append-drop}
+use Rattle.std.proofs.Common.{◌≡◌, ℕ, ◌+◌, ◌-◌, ◌≤◌, List, ◌++◌, arith, length, take, drop, slice_range, sym, ap, ◌∙◌, subst, append_assoc, append-nil, le_refl, drop_at, length-take-le, take-append-drop}
 use Rattle.std.specs.Prelude.{Option, Some, None, IfSome, replicate}
 use Rattle.std.proofs.lemmas.List.{take_rest, take-replicate}
 use Rattle.std.proofs.lemmas.Slice.{take-put_mid_below}

@@ -1,5 +1,5 @@
 -- What contracts see of a world of files: its sizes and its counts. Nothing is told of what the files hold.
-use Rattle.std.specs.Prelude.{ℕ, false, List, []}
+use Rattle.std.specs.Prelude.{ℕ, false, []}
 use Rattle.nvm_model.specs.Memory.{zeros}
 use Rattle.ssd_model.specs.Block.{settled_block}
 use Rattle.devices.specs.State.{State}

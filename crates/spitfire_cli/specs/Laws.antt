@@ -1,5 +1,5 @@
 -- The law of a world that tells nothing of what was sent.
-use Rattle.std.specs.Prelude.{◌≡◌, ℕ, ◌≤◌, [], refl}
+use Rattle.std.specs.Prelude.{◌≡◌, ℕ, [], refl}
 use Rattle.devices.specs.World.{sent_by, IsTimed}
 use Rattle.spitfire_cli.specs.declared.counts.CallCounts.{CallCounts}
 use Rattle.spitfire_cli.specs.FileWorld.{standing_of}

@@ -30,7 +30,7 @@ impl<'a, R: Files> DeviceFile<'a, R> {
 
     /// Fills `into` with the bytes from `start` on. Past the file's end they are zeros.
     pub fn read_at(&mut self, start: u64, into: &mut [u8]) -> io::Result<()>
-        ensures { OnOk result (ReadsAt R.File.stream_position R.File.remaining start (length into.old) self.old.file into.new) }
+        ensures { OnOk result (ReadsAt R.File.stream_position R.File.remaining start (length into.old) self.old.file self.new.file into.new) }
     {
         let mut file = self.opened()?;
         let result = read_from(&mut file, start, into);
@@ -78,7 +78,7 @@ fn open<R: Files>(rt: &R, name: &str) -> io::Result<R::File> {
 }
 
 fn read_from<F: Read + Seek>(file: &mut F, start: u64, into: &mut [u8]) -> io::Result<()>
-    ensures { OnOk result (ReadsAt F.stream_position F.remaining start (length into.old) (Some file.old) into.new) }
+    ensures { OnOk result (ReadsAt F.stream_position F.remaining start (length into.old) (Some file.old) (Some file.new) into.new) }
 {
     file.seek(SeekFrom::Start(start))?;
     fill(file, into)?;

@@ -72,7 +72,7 @@ impl<R: Files + Input + Print> Devices for FileWorld<'_, R> {
         ensures cause { NvmCause (standing_of self.old.counts) (standing_of self.new.counts) result }
 
         // where the file's type says what it holds
-        ensures found { IfOk result (LoadsLine R.File.stream_position R.File.remaining line self.old.nvm.file) }
+        ensures found { IfOk result (LoadsLine R.File.stream_position R.File.remaining line self.old.nvm.file self.new.nvm.file) }
     {
         let mut bytes = [0u8; 64];
         match self.nvm.read_at(start_of_line(line), &mut bytes) {

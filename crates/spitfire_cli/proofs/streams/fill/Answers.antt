@@ -1,4 +1,4 @@
-use Rattle.std.proofs.Common.{◌<◌, ◌≤◌, length, rules, arith}
+use Rattle.std.proofs.Common.{rules}
 use Rattle.spitfire_cli.proofs.StreamLaws.{taken_more, padded_behind}
 use Rattle.spitfire_cli.proofs.streams.fill.Goals as goal
 
