@@ -1,6 +1,8 @@
-//! The program: its arguments, the file of the NVM and the standard streams.
+//! The program: its arguments are handed to the application with a world of files, and it ends with the status that
+//! comes back.
 #![tactic(auto)]
 
+mod arguments;
 mod counts;
 mod device_file;
 mod file_world;
@@ -9,18 +11,15 @@ mod streams;
 #[cfg(test)]
 mod tests;
 
-use devices::{Devices, World};
 use file_world::FileWorld;
+use spitfire_app::spitfire;
+use std::process::ExitCode;
 
-fn main(rt: HostRuntime) {
+fn main(rt: HostRuntime) -> ExitCode {
+    let words = match arguments::words(&rt) {
+        Ok(words) => words,
+        Err(status) => return ExitCode::from(status),
+    };
     let mut world = FileWorld::new(&rt);
-    let mut buffer = [0u8; 64];
-    if let Ok(count) = world.read(&mut buffer) {
-        if count > 0 {
-            let _ = world.write(&buffer[..count]);
-        }
-    }
-    if world.nvm_lines() > 3 {
-        let _ = world.load(3);
-    }
+    ExitCode::from(spitfire(rt.alloc(), &words, &mut world))
 }
