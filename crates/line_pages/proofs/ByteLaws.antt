@@ -238,3 +238,8 @@ length-with_line xs l value size l_in = length-overwritten xs (64 * l) (line_byt
 pub line_copied : (xs : List ℕ) (f : ℕ → List ℕ) (l : ℕ) (value : Line) → length xs ≡ 4096 → l < 64
     → take (64 * l) xs ≡ pieces f 0 l → line_bytes value ≡ f l → take (64 * (l + 1)) (with_line_bytes xs l value) ≡ pieces f 0 (l + 1)
 line_copied xs f l value size l_in so_far here = piece_put 64 xs f l (line_bytes value) (length-line_bytes value) (omega (arith, size)) so_far here
+
+-- the bytes of two words
+pub two_words : (first second : ℕ) → overwritten (overwritten (0 ∷ 0 ∷ 0 ∷ 0 ∷ 0 ∷ 0 ∷ 0 ∷ 0 ∷ 0 ∷ 0 ∷ 0 ∷ 0 ∷ 0 ∷ 0 ∷ 0 ∷ 0 ∷ []) 0 (bytes_of_word first)) 8 (bytes_of_word second) ≡ word_pair first second
+unfolding bytes_of_word
+two_words first second = refl
