@@ -1,5 +1,5 @@
 -- What a store of pages shows to the layers above it, and what its calls do to that.
-use Rattle.std.specs.Prelude.{◌≡◌, ℕ, ◌+◌, ◌-◌, ◌^◌, ◌<◌, ◌≤◌, min, Bool, true, false, List, [], ◌∷◌, ◌++◌, filter, length, Option, Some, None, if◌then◌else◌, IsTrue, Result, OnOk, IfErr}
+use Rattle.std.specs.Prelude.{◌≡◌, ◌≢◌, ℕ, ◌+◌, ◌-◌, ◌^◌, ◌<◌, ◌≤◌, min, Bool, true, false, List, [], ◌∷◌, ◌++◌, filter, length, Option, Some, None, if◌then◌else◌, IsTrue, Result, OnOk, IfErr}
 use Rattle.nvm_model.specs.declared.line.Line.{Line}
 use Rattle.line_pages.specs.declared.stop.Evidence.{Evidence}
 use Rattle.line_pages.specs.declared.stop.Stop.{Stop}
@@ -74,6 +74,17 @@ pub record ReadsPage {A : Type 0} (page : ℕ) (old new : Standing A) : Type 0 w
   pub touches : new.touches ≡ old.touches ++ added
   pub begun : accesses added ≡ (if begins old.access page false then (page, false) ∷ [] else [])
   pub reads : filter writes_line added ≡ []
+
+-- Writes of lines of one page, in one access: no other page changes, and the room falls by one with each.
+pub record WritesPage {A : Type 0} (page : ℕ) (old new : Standing A) : Type 0 where
+  pub told : new.told ≡ old.told
+  pub others : IsTrue old.told → (p l : ℕ) → p ≢ page → new.current p l ≡ old.current p l
+  pub access : new.access ≡ Some (page, true)
+  pub visits : new.visits ≡ old.visits + (if begins old.access page true then 1 else 0)
+  pub added : List Touch
+  pub touches : new.touches ≡ old.touches ++ added
+  pub begun : accesses added ≡ (if begins old.access page true then (page, true) ∷ [] else [])
+  pub room : new.room + length added ≡ old.room
 
 -- no line changes, and the room stays
 pub record KeepsLines {A : Type 0} (old new : Standing A) : Type 0 where
