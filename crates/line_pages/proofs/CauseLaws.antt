@@ -1,5 +1,5 @@
 -- Causes of calls in a row.
-use Rattle.std.proofs.Common.{◌≡◌, ℕ, ◌∙◌, arith, Result, Ok, Err}
+use Rattle.std.proofs.Common.{◌∙◌, arith, Result, Ok, Err}
 use Rattle.line_pages.specs.declared.stop.Evidence.{Evidence}
 use Rattle.line_pages.specs.declared.stop.Stop.{Stop}
 use Rattle.line_pages.specs.declared.stop.Stop.TheVariants.{Nvm, Ssd, Damaged}

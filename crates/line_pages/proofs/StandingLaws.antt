@@ -1,9 +1,9 @@
 -- Calls in a row.
-use Rattle.std.proofs.Common.{◌≡◌, ℕ, ◌+◌, ◌≤◌, inl, inr, false, cond, IsTrue, [], ◌∷◌, ◌++◌, refl, sym, ap, subst, ◌∙◌, arith, append_assoc, append-nil, Ok, ◌≢◌, Bool, true, length, length-append, Some, List}
+use Rattle.std.proofs.Common.{◌≡◌, ℕ, ◌+◌, ◌≤◌, inl, inr, false, cond, IsTrue, [], ◌∷◌, ◌++◌, refl, sym, ap, subst, ◌∙◌, arith, append_assoc, append-nil, Ok, Bool, true, length, length-append, Some, List}
 use Rattle.std.proofs.lemmas.Bool.{cases_lt, cases_Bool, eq-eqb}
 use Rattle.nvm_model.specs.declared.line.Line.{Line}
 use Rattle.line_pages.specs.Lines.{Lines}
-use Rattle.line_pages.specs.Touch.{Touch, Access, accesses, begins, touch_of, writes_line}
+use Rattle.line_pages.specs.Touch.{Access, accesses, begins, touch_of}
 use Rattle.line_pages.specs.Standing.{Standing, Continues, Reads, Writes, ReadsPage, WritesPage, KeepsLines, AddsReads}
 use Rattle.line_pages.proofs.LineLaws.{with_line-other_page}
 use Rattle.line_pages.proofs.TouchLaws.{accesses-append, writes-append, goes_on}
