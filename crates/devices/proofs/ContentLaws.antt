@@ -1,5 +1,5 @@
 -- What the current contents are as calls are made, and what a load gives.
-use Rattle.std.proofs.Common.{◌≡◌, ◌≢◌, inl, inr, ℕ, ◌<◌, List, length, refl, sym, ◌∙◌, ap, arith, get_or-set_same, get_or-set_other, length-set}
+use Rattle.std.proofs.Common.{◌∷◌, [], ◌≡◌, ◌≢◌, inl, inr, ℕ, ◌<◌, List, length, refl, sym, ◌∙◌, ap, arith, get_or-set_same, get_or-set_other, length-set}
 use Rattle.std.specs.Prelude.{Bool, true, false, cond, ◌==◌, slice_index, slice_index_or, slice_set}
 use Rattle.std.proofs.lemmas.Bool.{cases_eq, eq-eqb, ne_eqb}
 use Rattle.std.proofs.lemmas.List.{get_or_default}
@@ -12,7 +12,7 @@ use Rattle.std.specs.BTreeMap.{BTreeMap, is_at, Updates}
 use Rattle.std.proofs.lemmas.Grind.{common_steps}
 use Rattle.ssd_model.specs.Block.{Block}
 use Rattle.ssd_model.specs.Page.{zero_page}
-use Rattle.devices.specs.State.{State, word_stored, line_stored, flushed, block_written}
+use Rattle.devices.specs.State.{State, line_at, word_stored, line_stored, flushed, block_written}
 use Rattle.devices.specs.Past.{zero_line, word_in, page_in}
 use Rattle.devices.proofs.StateLaws.{line_stored_same, line_stored_other, word_stored_same, word_stored_other}
 
@@ -66,6 +66,21 @@ module _ (lines : ℕ) (nvm : List Line) (s : State) (are : AreNewest lines nvm 
       either : (b : Bool) (word : Word) → (cond b (marked word) word).newest ≡ word.newest
       either true word = refl
       either false word = refl
+
+-- A load: a line of eight words is the one that its words make.
+eight : (xs : List ℕ) → length xs ≡ 8 → xs ≡ slice_index xs 0 ∷ slice_index xs 1 ∷ slice_index xs 2 ∷ slice_index xs 3 ∷ slice_index xs 4 ∷ slice_index xs 5 ∷ slice_index xs 6 ∷ slice_index xs 7 ∷ []
+eight (a ∷ b ∷ c ∷ d ∷ e ∷ f ∷ g ∷ h ∷ []) is = refl
+eight xs is = absurd (omega (arith, is))
+
+eight_same : (a b c d e f g h p q r s t u v w : ℕ) → a ≡ p → b ≡ q → c ≡ r → d ≡ s → e ≡ t → f ≡ u → g ≡ v → h ≡ w
+    → ◌≡◌ {A = List ℕ} (a ∷ b ∷ c ∷ d ∷ e ∷ f ∷ g ∷ h ∷ []) (p ∷ q ∷ r ∷ s ∷ t ∷ u ∷ v ∷ w ∷ [])
+eight_same a b c d e f g h p q r s t u v w i j k l m n o x = cc
+
+pub newest_loaded : (lines : ℕ) (nvm : List Line) (s : State) → AreNewest lines nvm s → (line : ℕ) (found : Line) → line < lines → found ≡ slice_index_or nvm line found → length found.words ≡ 8 → found ≡ line_at s line
+newest_loaded lines nvm s are line found low is size =
+    let low_enough : line < length nvm = omega (arith, are.size) in
+    let words = λ (w : ℕ) (lt : w < 8). ap (λ (x : Line). slice_index x.words w) (is ∙ get_or_default nvm line found zero_line low_enough) ∙ are.words line w low lt in
+    λ i. record { words = (eight found.words size ∙ eight_same _ _ _ _ _ _ _ _ _ _ _ _ _ _ _ _ (words 0 (omega arith)) (words 1 (omega arith)) (words 2 (omega arith)) (words 3 (omega arith)) (words 4 (omega arith)) (words 5 (omega arith)) (words 6 (omega arith)) (words 7 (omega arith))) i }
 
 -- A block that is written: its bytes are the current ones.
 apart : (block b : ℕ) → b ≢ block → is_at (nat_cmp block) b ≡ false

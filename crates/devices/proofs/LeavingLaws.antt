@@ -18,7 +18,7 @@ use Rattle.nvm_model.specs.Choose.{image_of as chosen_lines}
 use Rattle.nvm_model.proofs.ImageLaws.{image_version, length-image_of}
 use Rattle.ssd_model.specs.declared.state.SsdState.{SsdState}
 use Rattle.ssd_model.specs.declared.choice.BlockChoice.{BlockChoice}
-use Rattle.ssd_model.specs.declared.choice.BlockChoice.TheVariants.{Current}
+use Rattle.ssd_model.specs.Choose.{chosen_bytes}
 use Rattle.ssd_model.specs.Block.{Block, Disk, settled_block}
 use Rattle.ssd_model.specs.Contents.{disk_of, synced_of, blocks_of}
 use Rattle.ssd_model.specs.Page.{zero_page}
@@ -184,32 +184,28 @@ module _ (base : BTreeMap ℕ (List ℕ)) (entries : List Entry) (ssd : SsdState
   not_some None not_it = refl
   not_some (Some x) not_it = absurd (not_it refl)
 
-  -- a block that is not in the map holds zeros
-  absent : (b : ℕ) → get nat_cmp map b ≡ None → (disk_of ssd b).bytes ≡ zero_page
-  absent b none =
+  -- a block that is not in the map holds zeros, and is settled
+  untouched : (b : ℕ) → get nat_cmp map b ≡ None → disk_of ssd b ≡ settled_block zero_page
+  untouched b none =
       let not_there : IsSome (get nat_cmp map b) → ⊥ = λ some. some_not_none (get nat_cmp map b) some none in
       let first : get nat_cmp base b ≡ None = not_some (get nat_cmp base b) (λ some. not_there (are.at_first b some)) in
       let settled : begun.ssd b ≡ settled_block zero_page = at_first b ∙ ap (λ (o : Option (List ℕ)). settled_block (unwrap_or o zero_page)) first in
       elim (are.written b) [
-        | inl spare ↦ ap (λ (d : Disk). (d b).bytes) disk ∙ ap (λ (x : Block). x.bytes) (spared begun b zero_page entries spare settled)
+        | inl spare ↦ ap (λ (d : Disk). d b) disk ∙ spared begun b zero_page entries spare settled
         | inr there ↦ absurd (not_there there)
       ]
 
   pub left_blocks : (b : ℕ) → IsTrue (disk_of ssd b).settled → page_in map b ≡ (disk_of ssd b).bytes
   left_blocks b settled = elim (are.left.each b) [
     | inl there ↦ ap (λ (o : Option (List ℕ)). unwrap_or o zero_page) there.1 ∙ chosen_settled choice b (disk_of ssd b) (synced_of ssd b) settled
-    | inr none ↦ ap (λ (o : Option (List ℕ)). unwrap_or o zero_page) none ∙ sym (absent b none)
+    | inr none ↦ ap (λ (o : Option (List ℕ)). unwrap_or o zero_page) none ∙ sym (ap (λ (x : Block). x.bytes) (untouched b none))
   ]
 
-  pub current_blocks : choice ≡ Current → (b : ℕ) → page_in map b ≡ (disk_of ssd b).bytes
-  current_blocks is b = elim (are.left.each b) [
-    | inl there ↦ ap (λ (o : Option (List ℕ)). unwrap_or o zero_page) there.1 ∙ ap (λ (c : BlockChoice). left_of ssd c b) is ∙ either (disk_of ssd b).settled (disk_of ssd b).bytes
-    | inr none ↦ ap (λ (o : Option (List ℕ)). unwrap_or o zero_page) none ∙ sym (absent b none)
+  pub chosen_blocks : (b : ℕ) → page_in map b ≡ left_of ssd choice b
+  chosen_blocks b = elim (are.left.each b) [
+    | inl there ↦ ap (λ (o : Option (List ℕ)). unwrap_or o zero_page) there.1
+    | inr none ↦ ap (λ (o : Option (List ℕ)). unwrap_or o zero_page) none ∙ sym (ap (λ (x : Block). chosen_bytes choice b x (synced_of ssd b)) (untouched b none))
   ]
-    where
-      either : (t : Bool) (x : List ℕ) → cond t x x ≡ x
-      either true x = refl
-      either false x = refl
 
   pub left_within : (b : ℕ) → IsSome (get nat_cmp map b) → b < blocks_of ssd
   left_within b some = elim (are.left.each b) [
@@ -218,11 +214,11 @@ module _ (base : BTreeMap ℕ (List ℕ)) (entries : List Entry) (ssd : SsdState
   ]
 
 pub is_left : (base : Images) (entries : List Entry) (lines blocks : ℕ) (nvm : NvmState) (ssd : SsdState) (nvm_choice : Choice) (ssd_choice : BlockChoice) (images : Images) → length base.nvm.items ≤ lines → are_within lines blocks entries ≡ true
-    → state_of nvm ssd ≡ replay (image_of base) entries → blocks_of ssd ≡ blocks → images.nvm.items ≡ chosen_lines nvm_choice (memory_of nvm) lines → images.ssd_blocks ≡ blocks → AreLeftOf base.ssd entries ssd ssd_choice images.ssd
-    → IsLeftBy (replay (image_of base) entries) lines blocks nvm_choice ssd_choice images
+    → state_of nvm ssd ≡ replay (image_of base) entries → (synced : ℕ → List ℕ) → synced_of ssd ≡ synced → blocks_of ssd ≡ blocks → images.nvm.items ≡ chosen_lines nvm_choice (memory_of nvm) lines → images.ssd_blocks ≡ blocks → AreLeftOf base.ssd entries ssd ssd_choice images.ssd
+    → IsLeftBy (replay (image_of base) entries) synced lines blocks nvm_choice ssd_choice images
 unfolding replay
-is_left base entries lines blocks nvm ssd nvm_choice ssd_choice images base_size within is size chosen count are =
-    subst (λ (s : State). IsLeftBy s lines blocks nvm_choice ssd_choice images) is (record {
+is_left base entries lines blocks nvm ssd nvm_choice ssd_choice images base_size within is synced synced_is size chosen count are =
+    subst (λ (s : State). IsLeftBy s synced lines blocks nvm_choice ssd_choice images) is (record {
       leaves = record {
         words = left_words (memory_of nvm) nvm_choice lines images.nvm.items chosen off;
         blocks = left_blocks base.ssd entries ssd ssd_choice images.ssd are (fresh (image_of base)) (λ b. refl) disk;
@@ -231,7 +227,7 @@ is_left base entries lines blocks nvm ssd nvm_choice ssd_choice images base_size
       lines = ap length chosen ∙ length-image_of nvm_choice (memory_of nvm) lines;
       blocks = count;
       within = λ b some. subst (λ (n : ℕ). b < n) (size ∙ sym count) (left_within base.ssd entries ssd ssd_choice images.ssd are (fresh (image_of base)) (λ b. refl) disk b some);
-      current = current_blocks base.ssd entries ssd ssd_choice images.ssd are (fresh (image_of base)) (λ b. refl) disk;
+      ssd = λ b. chosen_blocks base.ssd entries ssd ssd_choice images.ssd are (fresh (image_of base)) (λ b. refl) disk b ∙ ap (λ (x : ℕ → List ℕ). chosen_bytes ssd_choice b (disk_of ssd b) (x b)) synced_is;
     })
   where
     disk : disk_of ssd ≡ (replay_from (fresh (image_of base)) entries).ssd

@@ -14,3 +14,4 @@ pub mod StartLaws
 pub mod CountLaws
 pub mod ReplayLaws
 pub mod LeavingLaws
+pub mod StreamLaws

@@ -14,9 +14,10 @@ use Rattle.nvm_model.specs.Memory.{Memory, fenced_memory}
 use Rattle.ssd_model.specs.Block.{Block, Disk, with_block}
 use Rattle.ssd_model.specs.Page.{zero_page}
 use Rattle.devices.specs.declared.step.Entry.{Entry}
+use Rattle.devices.specs.declared.step.Step.{Step}
 use Rattle.devices.specs.State.{State}
 use Rattle.devices.specs.Past.{made, replay_from, word_in, page_in, zero_line}
-use Rattle.devices.specs.Replay.{word_at}
+use Rattle.devices.specs.Replay.{word_at, synced_by, synced_from}
 use Rattle.devices.proofs.PastLaws.{replay_from_push}
 use Rattle.devices.proofs.StartLaws.{zero_word, apart}
 
@@ -24,6 +25,18 @@ use Rattle.devices.proofs.StartLaws.{zero_word, apart}
 pub replay_more : (s : State) (entries : List Entry) (i : ℕ) (e : Entry) → i < length entries → e ≡ get_or entries i e → replay_from s (take (i + 1) entries) ≡ made e.step (replay_from s (take i entries))
 replay_more s entries i e lt is =
     ap (λ (es : List Entry). replay_from s es) (take_more entries i e lt ∙ ap (λ (x : Entry). take i entries ++ x ∷ []) (sym is)) ∙ replay_from_push s (take i entries) e
+
+synced_push : (s : State) (synced : ℕ → List ℕ) (entries : List Entry) (e : Entry) → synced_from s synced (entries ++ e ∷ []) ≡ synced_by e.step (replay_from s entries) (synced_from s synced entries)
+synced_push s synced [] e = refl
+synced_push s synced (first ∷ entries) e = synced_push (made first.step s) (synced_by first.step s synced) entries e
+
+pub synced_more : (s : State) (synced : ℕ → List ℕ) (entries : List Entry) (i : ℕ) (e : Entry) → i < length entries → e ≡ get_or entries i e
+    → synced_from s synced (take (i + 1) entries) ≡ synced_by e.step (replay_from s (take i entries)) (synced_from s synced (take i entries))
+synced_more s synced entries i e lt is =
+    ap (λ (es : List Entry). synced_from s synced es) (take_more entries i e lt ∙ ap (λ (x : Entry). take i entries ++ x ∷ []) (sym is)) ∙ synced_push s synced (take i entries) e
+
+pub synced_step : {s t : State} {x y : ℕ → List ℕ} (step : Step) → s ≡ t → x ≡ y → synced_by step s x ≡ synced_by step t y
+synced_step {s} {t} {x} {y} step p q = ap (λ (a : State). synced_by step a x) p ∙ ap (λ (a : ℕ → List ℕ). synced_by step t a) q
 
 -- the words of lines, and beyond them
 pub word_beyond : (lines : List Line) (l w : ℕ) → length lines ≤ l → word_at lines l w ≡ 0

@@ -1,5 +1,5 @@
 -- What the states of both devices stand for, and which bytes are put into an image.
-use Rattle.std.specs.Prelude.{◌≡◌, ◌⊎◌, ℕ, Bool, true, List, not, ◌==◌, if◌then◌else◌, nat_lt, ◌<◌, Some, None, IsSome}
+use Rattle.std.specs.Prelude.{◌≡◌, ◌⊎◌, ℕ, Bool, true, List, [], ◌∷◌, not, ◌==◌, if◌then◌else◌, nat_lt, ◌<◌, Some, None, IsSome}
 use Rattle.std.specs.List.{list_all}
 use Rattle.std.specs.Ordering.{nat_cmp}
 use Rattle.std.specs.BTreeMap.{BTreeMap, get}
@@ -13,11 +13,29 @@ use Rattle.ssd_model.specs.Choose.{chosen_bytes}
 use Rattle.devices.specs.declared.step.Step.{Step}
 use Rattle.devices.specs.declared.step.Step.TheVariants.{StoreWord, StoreLine, Flush, Fence, WriteBlock, Sync, Send}
 use Rattle.devices.specs.declared.step.Entry.{Entry}
-use Rattle.devices.specs.State.{State}
-use Rattle.devices.specs.Past.{word_in, is_within}
+use Rattle.devices.specs.State.{State, Image, fresh}
+use Rattle.devices.specs.Past.{word_in, is_within, made}
 
 abbrev pub state_of : NvmState → SsdState → State
 state_of nvm ssd = record { nvm = memory_of nvm; ssd = disk_of ssd }
+
+-- the bytes of each block at the last sync, as one call more is made in a state
+abbrev pub synced_by : Step → State → (ℕ → List ℕ) → ℕ → List ℕ
+synced_by (StoreWord line word value) s synced = synced
+synced_by (StoreLine line value) s synced = synced
+synced_by (Flush line) s synced = synced
+synced_by Fence s synced = synced
+synced_by (WriteBlock block page) s synced = synced
+synced_by Sync s synced = λ b. (s.ssd b).bytes
+synced_by Send s synced = synced
+
+abbrev pub synced_from : State → (ℕ → List ℕ) → List Entry → ℕ → List ℕ
+synced_from s synced [] = synced
+synced_from s synced (entry ∷ entries) = synced_from (made entry.step s) (synced_by entry.step s synced) entries
+
+-- and after these calls, the first contents counting as synced
+unfoldable pub synced_at : Image → List Entry → ℕ → List ℕ
+synced_at base entries = synced_from (fresh base) base.ssd entries
 
 -- a word of these lines, of which each has eight
 abbrev pub word_at : List Line → ℕ → ℕ → ℕ

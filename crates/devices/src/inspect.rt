@@ -1,9 +1,10 @@
 //! Worlds in memory are made here, and looked at from outside.
-ghost use Rattle.std.specs.Prelude.{◌≡◌, ◌<◌, ◌≤◌, ℕ, [], length, IfOk, IsSome};
+ghost use Rattle.std.specs.Prelude.{◌≡◌, ◌<◌, ◌≤◌, ℕ, [], length, take, IfOk, IsSome};
 ghost use Rattle.std.specs.Ordering.{nat_cmp};
 ghost use Rattle.std.specs.BTreeMap.{get};
 ghost use Rattle.devices.specs.World.{sent, sent_at};
 ghost use Rattle.devices.specs.Leaving.{IsLeftBy};
+ghost use Rattle.devices.specs.Replay.{synced_at};
 ghost use Rattle.devices.specs.Past.{IsSound, Starts, image_of, zero_image};
 ghost use Rattle.devices.specs.MemWorld.{world, IsFresh, IsUncalled, faults_of, moment_after};
 
@@ -140,7 +141,7 @@ impl MemWorld {
         ssd: BlockChoice,
     ) -> Result<Images, NoMemory>
         requires { events ≤ self.now.events }
-        ensures { IfOk result (λ images. IsLeftBy ((world self.now).at (moment_after self.now.past.entries.items events)) (world self.now).lines (world self.now).blocks nvm ssd images) }
+        ensures { IfOk result (λ images. IsLeftBy ((world self.now).at (moment_after self.now.past.entries.items events)) (synced_at (image_of self.now.past.base) (take (moment_after self.now.past.entries.items events) self.now.past.entries.items)) (world self.now).lines (world self.now).blocks nvm ssd images) }
     {
         let moment = moment_of(&self.past.entries, events);
         self.past.images_at(alloc, moment, nvm, ssd)

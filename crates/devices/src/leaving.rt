@@ -3,10 +3,10 @@ ghost use Rattle.std.specs.Prelude.{◌≡◌, ◌⊎◌, ◌<◌, ◌≤◌, �
 ghost use Rattle.std.specs.Ordering.{nat_cmp};
 ghost use Rattle.std.specs.BTreeMap.{get, Updates};
 ghost use Rattle.nvm_model.specs.Contents.{lines_of};
-ghost use Rattle.ssd_model.specs.Contents.{blocks_of};
+ghost use Rattle.ssd_model.specs.Contents.{synced_of, blocks_of};
 ghost use Rattle.devices.specs.State.{fresh};
-ghost use Rattle.devices.specs.Past.{IsSound, image_of, replay};
-ghost use Rattle.devices.specs.Replay.{state_of, left_of, spares, all_spare, fits, all_fit, PutsLeft, AreLeftOf};
+ghost use Rattle.devices.specs.Past.{IsSound, image_of, page_in, replay};
+ghost use Rattle.devices.specs.Replay.{state_of, synced_at, left_of, spares, all_spare, fits, all_fit, PutsLeft, AreLeftOf};
 ghost use Rattle.devices.specs.Leaving.{IsLeftBy};
 
 use crate::images::Images;
@@ -117,6 +117,7 @@ fn states_of(alloc: Global, base: &Images, lines: u64, blocks: u64) -> Result<St
     requires lines { length base.now.nvm.items ≤ lines }
     requires blocks { (b : ℕ) → IsSome (get nat_cmp base.now.ssd b) → b < blocks }
     ensures state { IfOk result (λ made. state_of made.nvm made.ssd ≡ fresh (image_of base.now)) }
+    ensures synced { IfOk result (λ made. synced_of made.ssd ≡ page_in base.now.ssd) }
     ensures lines { IfOk result (λ made. lines_of made.nvm ≡ lines) }
     ensures disk_size { IfOk result (λ made. blocks_of made.ssd ≡ blocks) }
 {
@@ -133,6 +134,7 @@ impl Past {
         requires sound { IsSound self.now }
         requires moment { moment ≤ length self.now.entries.items }
         ensures state { IfOk result (λ made. state_of made.nvm made.ssd ≡ replay (image_of self.now.base) (take moment self.now.entries.items)) }
+        ensures synced { IfOk result (λ made. synced_of made.ssd ≡ synced_at (image_of self.now.base) (take moment self.now.entries.items)) }
         ensures lines { IfOk result (λ made. lines_of made.nvm ≡ self.now.lines) }
         ensures disk_size { IfOk result (λ made. blocks_of made.ssd ≡ self.now.current.ssd_blocks) }
     {
@@ -151,7 +153,7 @@ impl Past {
     ) -> Result<Images, NoMemory>
         requires sound { IsSound self.now }
         requires moment { moment ≤ length self.now.entries.items }
-        ensures { IfOk result (λ images. IsLeftBy (replay (image_of self.now.base) (take moment self.now.entries.items)) self.now.lines self.now.current.ssd_blocks nvm ssd images) }
+        ensures { IfOk result (λ images. IsLeftBy (replay (image_of self.now.base) (take moment self.now.entries.items)) (synced_at (image_of self.now.base) (take moment self.now.entries.items)) self.now.lines self.now.current.ssd_blocks nvm ssd images) }
     {
         let made = self.states_at(alloc, moment)?;
         let entries = &self.entries[..moment];

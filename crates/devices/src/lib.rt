@@ -13,6 +13,8 @@ mod past;
 mod replay;
 mod step;
 mod stream;
+#[cfg(test)]
+mod tests;
 mod traits;
 
 pub use faults::{Fault, FaultKind};

@@ -35,6 +35,7 @@ impl Devices for MemWorld {
     ghost use Rattle.devices.specs.State.Call.{store_word, store_line, flush, fence, write_block, sync};
     ghost use Rattle.devices.specs.World.{now, Goes, Stays, Makes, NvmCause, SsdCause, Counts};
     ghost use Rattle.devices.specs.Faults.{is_named};
+    ghost use Rattle.devices.specs.Past.{Same};
     ghost use Rattle.devices.specs.MemWorld.{world, FailsExactly, FailsOnlyAt, Calls, Marks};
     ghost use Rattle.devices.specs.declared.faults.FaultKind.TheVariants.{Nvm, Ssd};
 
@@ -69,6 +70,7 @@ impl Devices for MemWorld {
         ensures makes { Makes (store_word line word value) (world self.old) (world self.new) result }
         ensures cause { NvmCause (world self.old) (world self.new) result }
         ensures exactly { FailsExactly (is_named self.old.plan.items Nvm self.old.nvm.calls) self.old.short self.new.short result }
+        ensures undone { OnErr result (Same self.old.past self.new.past) }
         ensures calls { Calls true false false false false self.old self.new }
         ensures marks { Marks self.old.past.entries.items self.new.past.entries.items self.old.events self.new.events }
     {
@@ -85,6 +87,7 @@ impl Devices for MemWorld {
         ensures makes { Makes (store_line line value.now) (world self.old) (world self.new) result }
         ensures cause { NvmCause (world self.old) (world self.new) result }
         ensures exactly { FailsExactly (is_named self.old.plan.items Nvm self.old.nvm.calls) self.old.short self.new.short result }
+        ensures undone { OnErr result (Same self.old.past self.new.past) }
         ensures calls { Calls true false false false false self.old self.new }
         ensures marks { Marks self.old.past.entries.items self.new.past.entries.items self.old.events self.new.events }
     {
@@ -101,6 +104,7 @@ impl Devices for MemWorld {
         ensures makes { Makes (flush line) (world self.old) (world self.new) result }
         ensures cause { NvmCause (world self.old) (world self.new) result }
         ensures exactly { FailsExactly (is_named self.old.plan.items Nvm self.old.nvm.calls) self.old.short self.new.short result }
+        ensures undone { OnErr result (Same self.old.past self.new.past) }
         ensures calls { Calls true false false false false self.old self.new }
         ensures marks { Marks self.old.past.entries.items self.new.past.entries.items self.old.events self.new.events }
     {
@@ -117,6 +121,7 @@ impl Devices for MemWorld {
         ensures or_not { OnErr result (Stays (world self.old) (world self.new)) }
         ensures cause { NvmCause (world self.old) (world self.new) result }
         ensures exactly { FailsExactly (is_named self.old.plan.items Nvm self.old.nvm.calls) self.old.short self.new.short result }
+        ensures undone { OnErr result (Same self.old.past self.new.past) }
         ensures calls { Calls true false false false false self.old self.new }
         ensures marks { Marks self.old.past.entries.items self.new.past.entries.items self.old.events self.new.events }
     {
@@ -151,6 +156,7 @@ impl Devices for MemWorld {
         ensures cause { SsdCause (world self.old) (world self.new) result }
         ensures reads { (world self.new).block_reads ≡ (world self.old).block_reads }
         ensures exactly { FailsExactly (is_named self.old.plan.items Ssd self.old.ssd.calls) self.old.short self.new.short result }
+        ensures undone { OnErr result (Same self.old.past self.new.past) }
         ensures calls { Calls false true false false false self.old self.new }
         ensures marks { Marks self.old.past.entries.items self.new.past.entries.items self.old.events self.new.events }
     {
@@ -168,6 +174,7 @@ impl Devices for MemWorld {
         ensures cause { SsdCause (world self.old) (world self.new) result }
         ensures reads { (world self.new).block_reads ≡ (world self.old).block_reads }
         ensures exactly { FailsExactly (is_named self.old.plan.items Ssd self.old.ssd.calls) self.old.short self.new.short result }
+        ensures undone { OnErr result (Same self.old.past self.new.past) }
         ensures calls { Calls false true false false false self.old self.new }
         ensures marks { Marks self.old.past.entries.items self.new.past.entries.items self.old.events self.new.events }
     {
@@ -180,10 +187,11 @@ impl Devices for MemWorld {
 }
 
 impl World for MemWorld {
-    ghost use Rattle.std.specs.Prelude.{◌≡◌, ◌<◌, ◌≤◌, ℕ, true, false, length, IfOk};
+    ghost use Rattle.std.specs.Prelude.{◌≡◌, ◌<◌, ◌≤◌, ℕ, true, false, length, IfOk, OnErr};
     ghost use Rattle.devices.specs.World.{ReadsNext, OnlyChanges, Sends, WorldCall, OwnCause};
     ghost use Rattle.devices.specs.Faults.{is_named};
     ghost use Rattle.devices.specs.Laws.{sent_later};
+    ghost use Rattle.devices.specs.Past.{Same};
     ghost use Rattle.devices.specs.MemWorld.{world, FailsExactly, FailsOnlyAt, Calls, Marks};
     ghost use Rattle.devices.specs.declared.faults.FaultKind.TheVariants.{Settings, Source, Sink};
 
@@ -237,6 +245,7 @@ impl World for MemWorld {
         ensures sends { Sends (world self.old) (world self.new) bytes.now result }
         ensures rest { OnlyChanges false false true (world self.old) (world self.new) }
         ensures exactly { FailsExactly (is_named self.old.plan.items Sink self.old.writes.calls) self.old.short self.new.short result }
+        ensures undone { OnErr result (Same self.old.past self.new.past) }
         ensures calls { Calls false false false false true self.old self.new }
         ensures marks { Marks self.old.past.entries.items self.new.past.entries.items self.old.events self.new.events }
         ensures whole { IfOk result (λ count. count ≡ length bytes.now) }

@@ -6,9 +6,9 @@ ghost use Rattle.nvm_model.specs.Word.{single};
 ghost use Rattle.nvm_model.specs.Memory.{zeros, with_line, with_marks};
 ghost use Rattle.nvm_model.specs.Contents.{memory_of, lines_of};
 ghost use Rattle.ssd_model.specs.Block.{zero_disk, settled_block};
-ghost use Rattle.ssd_model.specs.Contents.{disk_of, blocks_of};
+ghost use Rattle.ssd_model.specs.Contents.{disk_of, synced_of, blocks_of};
 ghost use Rattle.devices.specs.Past.{is_within, made, replay_from, page_in};
-ghost use Rattle.devices.specs.Replay.{state_of, word_at, are_within};
+ghost use Rattle.devices.specs.Replay.{state_of, synced_by, synced_from, word_at, are_within};
 
 use crate::step::{Entry, Step};
 use nvm_model::{Line, NoMemory, NvmState};
@@ -19,6 +19,7 @@ use std::collections::BTreeMap;
 fn make_again(step: &Step, nvm: &mut NvmState, ssd: &mut SsdState) -> Result<(), NoMemory>
     requires { is_within (lines_of nvm.old) (blocks_of ssd.old) step.now ≡ true }
     ensures made { OnOk result (state_of nvm.new ssd.new ≡ made step.now (state_of nvm.old ssd.old)) }
+    ensures synced { OnOk result (synced_of ssd.new ≡ synced_by step.now (state_of nvm.old ssd.old) (synced_of ssd.old)) }
     ensures lines { lines_of nvm.new ≡ lines_of nvm.old }
     ensures blocks { blocks_of ssd.new ≡ blocks_of ssd.old }
 {
@@ -42,6 +43,7 @@ pub(crate) fn make_all(
 ) -> Result<(), NoMemory>
     requires { are_within (lines_of nvm.old) (blocks_of ssd.old) entries.now ≡ true }
     ensures made { OnOk result (state_of nvm.new ssd.new ≡ replay_from (state_of nvm.old ssd.old) entries.now) }
+    ensures synced { OnOk result (synced_of ssd.new ≡ synced_from (state_of nvm.old ssd.old) (synced_of ssd.old) entries.now) }
     ensures lines { lines_of nvm.new ≡ lines_of nvm.old }
     ensures blocks { blocks_of ssd.new ≡ blocks_of ssd.old }
 {
@@ -84,6 +86,7 @@ pub(crate) fn place_blocks(
     requires zeros { disk_of ssd.old ≡ zero_disk }
     requires room { (b : ℕ) → IsSome (get nat_cmp blocks.now b) → b < blocks_of ssd.old }
     ensures placed { OnOk result (disk_of ssd.new ≡ λ b. settled_block (page_in blocks.now b)) }
+    ensures synced { OnOk result (synced_of ssd.new ≡ page_in blocks.now) }
     ensures size { blocks_of ssd.new ≡ blocks_of ssd.old }
 {
     for (block, page) in blocks {

@@ -34,3 +34,6 @@ pub(crate) struct Sending {
     pub(crate) moment: usize,
     pub(crate) upto: usize,
 }
+
+// A call takes little memory.
+const _: () = prove!(size_of::<Entry>() <= 96);

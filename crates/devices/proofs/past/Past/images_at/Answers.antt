@@ -23,4 +23,4 @@ returns c =
     let left : AreLeftOf self.base.ssd entries made.ssd c.args.ssd images.ssd = subst (λ (es : List Entry). AreLeftOf self.base.ssd (take c.args.moment es) made.ssd c.args.ssd images.ssd) c.deref.ensures.value c.in_ok-left_blocks.ensures in
     is_left self.base entries self.lines self.current.ssd_blocks made.nvm made.ssd c.args.nvm c.args.ssd images c.requires.sound.base_size
     (all_take (λ (e : Entry). is_within self.lines self.current.ssd_blocks e.step) self.entries.items c.args.moment c.requires.sound.within)
-    c.in_ok-made.ensures.state c.in_ok-made.ensures.disk_size (c.in_ok-image_by.ensures ∙ ap (λ (n : ℕ). chosen_lines c.args.nvm (memory_of made.nvm) n) c.in_ok-made.ensures.lines) refl left
+    c.in_ok-made.ensures.state _ c.in_ok-made.ensures.synced c.in_ok-made.ensures.disk_size (c.in_ok-image_by.ensures ∙ ap (λ (n : ℕ). chosen_lines c.args.nvm (memory_of made.nvm) n) c.in_ok-made.ensures.lines) refl left

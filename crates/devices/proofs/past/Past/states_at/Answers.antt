@@ -1,8 +1,9 @@
-use Rattle.std.proofs.Common.{◌≡◌, true, List, take, ap, ◌∙◌}
+use Rattle.std.proofs.Common.{◌≡◌, true, ℕ, List, take, ap, ◌∙◌}
+use Rattle.ssd_model.specs.Contents.{synced_of}
 use Rattle.devices.specs.declared.step.Entry.{Entry}
 use Rattle.devices.specs.State.{State, fresh}
-use Rattle.devices.specs.Past.{image_of, is_within, replay, replay_from}
-use Rattle.devices.specs.Replay.{are_within}
+use Rattle.devices.specs.Past.{image_of, page_in, is_within, replay, replay_from}
+use Rattle.devices.specs.Replay.{are_within, synced_from, synced_at}
 use Rattle.devices.proofs.LeavingLaws.{all_take}
 use Rattle.devices.proofs.past.Past.states_at.Goals as goal
 
@@ -18,3 +19,13 @@ unfolding replay
 returns-clause-state c =
     c.in_ok-make_all.ensures.made ∙ ap (λ (s : State). replay_from s (take c.args.moment c.deref.result.now)) c.in_ok-made.ensures.state
     ∙ ap (λ (es : List Entry). replay_from (fresh (image_of c.args.self.now.base)) (take c.args.moment es)) c.deref.ensures.value
+
+pub returns-clause-synced : goal.returns-clause-synced
+unfolding synced_at
+returns-clause-synced c =
+    let self = c.args.self.now in
+    let synced = c.in_ok-made.ensures.synced in
+    c.in_ok-make_all.ensures.synced
+    ∙ ap (λ (s : State). synced_from s (synced_of c.in_ok-made.made.ssd) (take c.args.moment c.deref.result.now)) c.in_ok-made.ensures.state
+    ∙ ap (λ (x : ℕ → List ℕ). synced_from (fresh (image_of self.base)) x (take c.args.moment c.deref.result.now)) synced
+    ∙ ap (λ (es : List Entry). synced_from (fresh (image_of self.base)) (page_in self.base.ssd) (take c.args.moment es)) c.deref.ensures.value
