@@ -3,6 +3,8 @@ ghost use Rattle.std.specs.Prelude.{ℕ, ◌<◌, IsSome};
 ghost use Rattle.std.specs.BTreeMap.{get};
 ghost use Rattle.std.specs.Ordering.{nat_cmp};
 
+use crate::engine::Engine;
+use crate::scripts::run_script;
 use crate::{Words, spitfire};
 use devices::{Fault, FaultKind, Images, MemWorld};
 use nvm_model::Choice;
@@ -154,7 +156,7 @@ fn faults_have_their_statuses(rt: HostRuntime) -> Result<(), Fail> {
     assert_eq!(rt; nvm.faults(FaultKind::Nvm), 1);
     let mut sink = MemWorld::new(alloc, LINES, 0, b"", b"", &[first(FaultKind::Sink)])?;
     assert_eq!(rt; spitfire(alloc, &word("format"), &mut sink), 9);
-    let mut source = formatted(alloc, b"put 1 a\n", &[first(FaultKind::Source)])?;
+    let mut source = formatted(alloc, b"", &[first(FaultKind::Source)])?;
     assert_eq!(rt; spitfire(alloc, &word("run"), &mut source), 8);
     assert_eq!(rt; source.output(), b"formatted\n".as_slice());
     Ok(())
@@ -174,6 +176,25 @@ fn a_reply_that_cannot_be_sent(rt: HostRuntime) -> Result<(), Fail> {
     let mut again = reopened(alloc, &world, b"get 1\n")?;
     assert_eq!(rt; spitfire(alloc, &word("run"), &mut again), 0);
     assert_eq!(rt; again.output(), b"value b\n".as_slice());
+    Ok(())
+}
+
+#[test]
+fn a_script_beyond_the_limit(rt: HostRuntime) -> Result<(), Fail> {
+    let alloc = rt.alloc();
+    for (limit, status, replies) in [
+        (6, 12, b"none\n".as_slice()),
+        (11, 12, b"none\n".as_slice()),
+        (12, 0, b"none\nnone\n".as_slice()),
+    ] {
+        let mut world = formatted(alloc, b"get 1\nget 2\n", &[])?;
+        let begun = world.output().len();
+        let Ok(mut engine) = Engine::open(alloc, &mut world) else {
+            return Err("no engine")?;
+        };
+        assert_eq!(rt; run_script(&mut engine, &mut world, limit), status, "at {limit}");
+        assert_eq!(rt; world.output().get(begun..), Some(replies));
+    }
     Ok(())
 }
 
