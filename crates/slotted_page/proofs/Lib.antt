@@ -1,0 +1,12 @@
+pub mod ByteLemmas
+pub mod SlotLemmas
+pub mod InsertLemmas
+pub mod RowLemmas
+pub mod BuildLemmas
+pub mod FactLemmas
+pub mod RemoveLemmas
+pub mod CutLemmas
+pub mod InnerLemmas
+pub mod CheckLemmas
+pub mod BranchLemmas
+pub mod SetLemmas

@@ -1,0 +1,10 @@
+use Rattle.std.proofs.Common.{arith}
+use Rattle.std.specs.List.{insert}
+use Rattle.std.proofs.lemmas.List.Edits.{length-insert}
+use Rattle.slotted_page.specs.Node.{children, page_level}
+use Rattle.slotted_page.proofs.InnerLemmas.{branch_of}
+use Rattle.slotted_page.proofs.inner.inner_insert.Goals as goal
+
+pub returns-clause-branch : goal.returns-clause-branch
+returns-clause-branch c = branch_of c.insert_child.new.page (insert (children c.args.page.now) c.args.at (c.args.key, c.args.child)) (page_level c.args.page.now) c.insert_child.ensures.inner c.insert_child.ensures.children c.insert_child.ensures.level
+    c.requires.branch.above (omega (arith, length-insert (children c.args.page.now) c.args.at (c.args.key, c.args.child) c.requires.at)) c.requires.order

@@ -1,0 +1,7 @@
+use Rattle.slotted_page.specs.Node.{children, page_level}
+use Rattle.slotted_page.proofs.InnerLemmas.{branch_less}
+use Rattle.slotted_page.proofs.inner.inner_remove.Goals as goal
+
+pub returns-clause-branch : goal.returns-clause-branch
+returns-clause-branch c = branch_less c.remove_child.new.page (children c.args.page.now) c.args.at (page_level c.args.page.now) c.remove_child.ensures.inner c.remove_child.ensures.children c.remove_child.ensures.level
+    c.requires.branch.above c.requires.at c.requires.branch.room c.requires.branch.order

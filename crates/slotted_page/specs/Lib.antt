@@ -1,0 +1,7 @@
+pub mod Bytes
+pub mod Checks
+pub mod Rows
+pub mod Cut
+pub mod Node
+pub mod Sound
+pub mod Inner
