@@ -1,0 +1,239 @@
+-- What stands where in the bytes of lines and pages.
+use Rattle.std.proofs.Common.{◌≡◌, ◌≢◌, ℕ, zero, suc, ◌+◌, ◌-◌, ◌*◌, ◌^◌, ◌<◌, ◌≤◌, true, false, nat_eq, inl, inr, List, [], ◌∷◌, ◌++◌, length, take, drop, get_or, slice_index, refl, sym, ap, ◌∙◌, arith, length-append, mul-suc, mul-zero, zero-add, add-one, append_assoc, append-nil}
+use Rattle.std.proofs.lemmas.List.{get_or_append_left, get_or-append-add, take_at, drop_at, get_or-drop, get_or-take, length-take-le}
+use Rattle.std.proofs.lemmas.Bool.{cases_lt, eq-eqb, ne_eqb, and_right}
+use Rattle.byteorder.specs.Endian.{little_bytes}
+use Rattle.byteorder.specs.Numbers.{little_number-reads_back}
+use Rattle.nvm_model.specs.declared.line.Line.{Line}
+use Rattle.line_pages.specs.Lines.{Lines, with_line, IsLine}
+use Rattle.line_pages.specs.Bytes.{u16_at, u64_at, pieces, bytes_of_half, bytes_of_word, word_bytes, line_bytes, page_bytes, bytes_of, line_at, overwritten, with_line_bytes, word_pair}
+use Rattle.line_pages.proofs.NumberLaws.{little_from-same, length-overwritten}
+
+pub length-pieces : (s : ℕ) (f : ℕ → List ℕ) → ((i : ℕ) → length (f i) ≡ s) → (i n : ℕ) → length (pieces f i n) ≡ s * n
+length-pieces s f each i zero = sym (mul-zero s)
+length-pieces s f each i (suc n) = length-append (f i) (pieces f (suc i) n) ∙ omega (arith, each i, length-pieces s f each (suc i) n, mul-suc s n)
+
+-- a byte of a row of pieces of one length is a byte of one of them
+pub get_or-pieces : (s : ℕ) (f : ℕ → List ℕ) → ((i : ℕ) → length (f i) ≡ s) → (i n k j : ℕ) → k < n → j < s
+    → get_or (pieces f i n) (s * k + j) 0 ≡ get_or (f (i + k)) j 0
+get_or-pieces s f each i zero k j in_row in_piece = absurd (omega arith)
+get_or-pieces s f each i (suc n) zero j in_row in_piece =
+    ap (λ (at : ℕ). get_or (f i ++ pieces f (suc i) n) at 0) (omega (arith, mul-zero s))
+    ∙ get_or_append_left (f i) (pieces f (suc i) n) 0 j (omega (arith, each i))
+    ∙ ap (λ (at : ℕ). get_or (f at) j 0) (omega arith)
+get_or-pieces s f each i (suc n) (suc k) j in_row in_piece =
+    ap (λ (at : ℕ). get_or (f i ++ pieces f (suc i) n) at 0) (omega (arith, mul-suc s k, each i))
+    ∙ get_or-append-add (f i) (pieces f (suc i) n) (s * k + j) 0
+    ∙ get_or-pieces s f each (suc i) n k j (omega arith) in_piece
+    ∙ ap (λ (at : ℕ). get_or (f at) j 0) (omega arith)
+
+-- one piece more at the end
+pub pieces-more : (f : ℕ → List ℕ) (i n : ℕ) → pieces f i (suc n) ≡ pieces f i n ++ f (i + n)
+pieces-more f i zero = append-nil (f i) ∙ ap f (omega arith)
+pieces-more f i (suc n) =
+    ap (λ r. f i ++ r) (pieces-more f (suc i) n)
+    ∙ sym (append_assoc (f i) (pieces f (suc i) n) (f (suc i + n)))
+    ∙ ap (λ (at : ℕ). (f i ++ pieces f (suc i) n) ++ f at) (omega arith)
+
+pub pieces-same : (f g : ℕ → List ℕ) (i n : ℕ) → ((k : ℕ) → i ≤ k → k < i + n → f k ≡ g k) → pieces f i n ≡ pieces g i n
+pieces-same f g i zero same = refl
+pieces-same f g i (suc n) same = rw (same i (omega arith) (omega arith), pieces-same f g (suc i) n (λ k low high. same k (omega arith) (omega arith))) refl
+
+pub length-word_bytes : (words : List ℕ) (w : ℕ) → length (word_bytes words w) ≡ 8
+unfolding bytes_of_word
+length-word_bytes words w = refl
+
+pub length-bytes_of_word : (x : ℕ) → length (bytes_of_word x) ≡ 8
+unfolding bytes_of_word
+length-bytes_of_word x = refl
+
+pub length-line_bytes : (line : Line) → length (line_bytes line) ≡ 64
+unfolding line_bytes
+length-line_bytes line = length-pieces 8 (word_bytes line.words) (length-word_bytes line.words) 0 8
+
+pub length-page_bytes : (lines : ℕ → Line) → length (page_bytes lines) ≡ 4096
+unfolding page_bytes
+length-page_bytes lines = length-pieces 64 (λ l. line_bytes (lines l)) (λ l. length-line_bytes (lines l)) 0 64
+
+-- the byte at place j of word w of line l
+pub get_or-page_bytes : (lines : ℕ → Line) (l w j : ℕ) → l < 64 → w < 8 → j < 8
+    → get_or (page_bytes lines) (64 * l + (8 * w + j)) 0 ≡ get_or (word_bytes (lines l).words w) j 0
+unfolding page_bytes line_bytes
+get_or-page_bytes lines l w j l_in w_in j_in =
+    get_or-pieces 64 (λ l. line_bytes (lines l)) (λ l. length-line_bytes (lines l)) 0 64 l (8 * w + j) l_in (omega arith)
+    ∙ ap (λ (at : ℕ). get_or (line_bytes (lines at)) (8 * w + j) 0) (omega arith)
+    ∙ get_or-pieces 8 (word_bytes (lines l).words) (length-word_bytes (lines l).words) 0 8 w j w_in j_in
+    ∙ ap (λ (at : ℕ). get_or (word_bytes (lines l).words at) j 0) (omega arith)
+
+-- a word of a line stands in the bytes of its page
+pub word_in_page : (lines : ℕ → Line) (l w at : ℕ) → l < 64 → w < 8 → at ≡ 64 * l + 8 * w → slice_index (lines l).words w < 2 ^ 64
+    → u64_at (page_bytes lines) at ≡ slice_index (lines l).words w
+unfolding u64_at bytes_of_word
+word_in_page lines l w at l_in w_in is fits =
+    little_from-same at 0 8 (page_bytes lines) (little_bytes 8 (slice_index (lines l).words w) ++ [])
+    (λ j j_in. ap (λ (p : ℕ). get_or (page_bytes lines) p 0) (omega (arith, is)) ∙ get_or-page_bytes lines l w j l_in w_in j_in
+    ∙ ap (λ (p : ℕ). get_or (word_bytes (lines l).words w) p 0) (omega arith)
+    ∙ sym (ap (λ (xs : List ℕ). get_or xs (0 + j) 0) (append-nil (little_bytes 8 (slice_index (lines l).words w)))))
+    ∙ little_number-reads_back 8 (slice_index (lines l).words w) [] fits
+
+pieces-split : (s : ℕ) (f : ℕ → List ℕ) → ((i : ℕ) → length (f i) ≡ s) → (x : List ℕ) (t : ℕ) (g : ℕ → List ℕ) → g t ≡ x → ((k : ℕ) → k ≢ t → g k ≡ f k) → (i n j : ℕ) → t ≡ i + j → j < n
+    → pieces g i n ≡ take (s * j) (pieces f i n) ++ (x ++ drop (s * suc j) (pieces f i n))
+pieces-split s f each x t g here other i zero j is in_row = absurd (omega arith)
+pieces-split s f each x t g here other i (suc n) zero is in_row =
+    let same = pieces-same g f (suc i) n (λ k low high. other k (omega arith)) in
+    let g_here : g i ≡ x = ap g (omega arith) ∙ here in
+    let none = mul-zero s in
+    let one : s * suc zero ≡ s = omega (arith, mul-suc s 0, mul-zero s) in
+    rw (none, one, drop_at (f i) (pieces f (suc i) n) s (each i), same, g_here) refl
+pieces-split s f each x t g here other i (suc n) (suc j) is in_row =
+    let ih = pieces-split s f each x t g here other (suc i) n j (omega arith) (omega arith) in
+    let g_here : g i ≡ f i = other i (omega arith) in
+    let taken = take_more_of (f i) (pieces f (suc i) n) (s * j) (s * suc j) (omega (arith, each i, mul-suc s j)) in
+    let dropped = drop_more_of (f i) (pieces f (suc i) n) (s * suc j) (s * suc (suc j)) (omega (arith, each i, mul-suc s (suc j))) in
+    rw (g_here, ih, taken, dropped) (sym (append_assoc (f i) (take (s * j) (pieces f (suc i) n)) (x ++ drop (s * suc j) (pieces f (suc i) n))))
+  where
+    take_more_of : (xs ys : List ℕ) (n m : ℕ) → m ≡ length xs + n → take m (xs ++ ys) ≡ xs ++ take n ys
+    take_more_of [] ys n m e = ap (λ (k : ℕ). take k ys) (omega (arith, e))
+    take_more_of (z ∷ xs) ys n zero e = absurd (omega (arith, e))
+    take_more_of (z ∷ xs) ys n (suc m) e = ap (λ r. z ∷ r) (take_more_of xs ys n m (omega (arith, e)))
+
+    drop_more_of : (xs ys : List ℕ) (n m : ℕ) → m ≡ length xs + n → drop m (xs ++ ys) ≡ drop n ys
+    drop_more_of [] ys n m e = ap (λ (k : ℕ). drop k ys) (omega (arith, e))
+    drop_more_of (z ∷ xs) ys n zero e = absurd (omega (arith, e))
+    drop_more_of (z ∷ xs) ys n (suc m) e = drop_more_of xs ys n m (omega (arith, e))
+
+-- a number of eight bytes from place j of a word on, which may reach into the next one
+pub number_across : (lines : ℕ → Line) (l w m v j at : ℕ) → l < 64 → w < 8 → m < 64 → v < 8 → 64 * m + 8 * v ≡ 64 * l + 8 * w + 8 → j ≤ 8 → at ≡ 64 * l + 8 * w + j
+    → u64_at (page_bytes lines) at ≡ u64_at (word_pair (slice_index (lines l).words w) (slice_index (lines m).words v)) j
+unfolding u64_at bytes_of_word
+number_across lines l w m v j at l_in w_in m_in v_in next j_in is =
+    let first = bytes_of_word (slice_index (lines l).words w) in
+    let second = bytes_of_word (slice_index (lines m).words v) in
+    little_from-same at j 8 (page_bytes lines) (first ++ second) (λ i i_in.
+    elim (cases_lt (j + i) 8) [
+      | inl low ↦
+          ap (λ (p : ℕ). get_or (page_bytes lines) p 0) (omega (arith, is)) ∙ get_or-page_bytes lines l w (j + i) l_in w_in low
+          ∙ sym (get_or_append_left first second 0 (j + i) low)
+      | inr high ↦
+          ap (λ (p : ℕ). get_or (page_bytes lines) p 0) (omega (arith, is, next, high)) ∙ get_or-page_bytes lines m v (j + i - 8) m_in v_in (omega (arith, high, j_in, i_in))
+          ∙ sym (ap (λ (p : ℕ). get_or (first ++ second) p 0) (omega (arith, high)) ∙ get_or-append-add first second (j + i - 8) 0)
+    ])
+
+-- a number of eight bytes at the start of a word
+pub number_in_word : (lines : ℕ → Line) (l w at other : ℕ) → l < 64 → w < 8 → at ≡ 64 * l + 8 * w → u64_at (page_bytes lines) at ≡ u64_at (word_pair (slice_index (lines l).words w) other) 0
+unfolding u64_at
+number_in_word lines l w at other l_in w_in is =
+    let first = bytes_of_word (slice_index (lines l).words w) in
+    little_from-same at 0 8 (page_bytes lines) (first ++ bytes_of_word other) (λ i i_in.
+    ap (λ (p : ℕ). get_or (page_bytes lines) p 0) (omega (arith, is)) ∙ get_or-page_bytes lines l w i l_in w_in i_in
+    ∙ sym (ap (λ (p : ℕ). get_or (first ++ bytes_of_word other) p 0) (zero-add i) ∙ get_or_append_left first (bytes_of_word other) 0 i (omega (arith, length-bytes_of_word (slice_index (lines l).words w), i_in))))
+
+-- a number of two bytes in a word of a page
+pub half_in_page : (lines : ℕ → Line) (l w j at : ℕ) → l < 64 → w < 8 → j + 2 ≤ 8 → at ≡ 64 * l + 8 * w + j → u16_at (page_bytes lines) at ≡ u16_at (bytes_of_word (slice_index (lines l).words w)) j
+unfolding u16_at
+half_in_page lines l w j at l_in w_in j_in is =
+    little_from-same at j 2 (page_bytes lines) (bytes_of_word (slice_index (lines l).words w)) (λ i i_in.
+    ap (λ (p : ℕ). get_or (page_bytes lines) p 0) (omega (arith, is)) ∙ get_or-page_bytes lines l w (j + i) l_in w_in (omega (arith, j_in, i_in)))
+
+-- a word of a page's first line, as it was read
+pub header_word : (lines : Lines) (page w : ℕ) (header : Line) → header ≡ lines page 0 → w < 8 → slice_index header.words w < 2 ^ 64 → u64_at (bytes_of lines page) (8 * w) ≡ slice_index header.words w
+header_word lines page w header is w_in fits =
+    let same : slice_index (lines page 0).words w ≡ slice_index header.words w = ap (λ (line : Line). slice_index line.words w) (sym is) in
+    word_in_page (lines page) 0 w (8 * w) (omega arith) w_in (omega arith) (omega (arith, same, fits)) ∙ same
+
+-- a write of one line changes its 64 bytes of its page, and no other page
+pub bytes_of-with_line : (lines : Lines) (page l : ℕ) (value : Line) → l < 64 → bytes_of (with_line page l value lines) page ≡ with_line_bytes (bytes_of lines page) l value
+unfolding page_bytes
+bytes_of-with_line lines page l value l_in =
+    let split = pieces-split 64 (λ k. line_bytes (lines page k)) (λ k. length-line_bytes (lines page k)) (line_bytes value) l (λ k. line_bytes (with_line page l value lines page k))
+    (written (eq-eqb page page refl) (eq-eqb l l refl)) (λ k ne. ap line_bytes (unwritten k ne)) 0 64 l (omega arith) l_in in
+    split ∙ ap (λ k. take (64 * l) (bytes_of lines page) ++ (line_bytes value ++ drop k (bytes_of lines page))) (omega (arith, length-line_bytes value))
+  where
+    written : nat_eq page page ≡ true → nat_eq l l ≡ true → line_bytes (with_line page l value lines page l) ≡ line_bytes value
+    written e f = rw (e, f) refl
+
+    unwritten : (k : ℕ) → k ≢ l → with_line page l value lines page k ≡ lines page k
+    unwritten k ne = rw (ne_eqb k l ne, and_right (nat_eq page page) false refl) refl
+
+pub bytes_of-other : (lines : Lines) (page l n : ℕ) (value : Line) → n ≢ page → bytes_of (with_line page l value lines) n ≡ bytes_of lines n
+bytes_of-other lines page l n value ne = ap page_bytes (λ i k. at k i)
+  where
+    at : (k : ℕ) → with_line page l value lines n k ≡ lines n k
+    at k = rw (ne_eqb n page ne) refl
+
+eight : (ws : List ℕ) → length ws ≡ 8 → get_or ws 0 0 ∷ get_or ws 1 0 ∷ get_or ws 2 0 ∷ get_or ws 3 0 ∷ get_or ws 4 0 ∷ get_or ws 5 0 ∷ get_or ws 6 0 ∷ get_or ws 7 0 ∷ [] ≡ ws
+eight [] e = absurd (omega (arith, e))
+eight (a ∷ []) e = absurd (omega (arith, e))
+eight (a ∷ b ∷ []) e = absurd (omega (arith, e))
+eight (a ∷ b ∷ c ∷ []) e = absurd (omega (arith, e))
+eight (a ∷ b ∷ c ∷ d ∷ []) e = absurd (omega (arith, e))
+eight (a ∷ b ∷ c ∷ d ∷ f ∷ []) e = absurd (omega (arith, e))
+eight (a ∷ b ∷ c ∷ d ∷ f ∷ g ∷ []) e = absurd (omega (arith, e))
+eight (a ∷ b ∷ c ∷ d ∷ f ∷ g ∷ h ∷ []) e = absurd (omega (arith, e))
+eight (a ∷ b ∷ c ∷ d ∷ f ∷ g ∷ h ∷ i ∷ []) e = refl
+eight (a ∷ b ∷ c ∷ d ∷ f ∷ g ∷ h ∷ i ∷ j ∷ ws) e = absurd (omega (arith, e))
+
+-- a line is read back from the bytes of its page
+pub line_at-page_bytes : (lines : ℕ → Line) (l : ℕ) → l < 64 → IsLine (lines l) → line_at (page_bytes lines) l ≡ lines l
+line_at-page_bytes lines l l_in is =
+    rw (
+      word 0 (64 * l) (omega arith) (omega arith),
+      word 1 (64 * l + 8) (omega arith) (omega arith),
+      word 2 (64 * l + 16) (omega arith) (omega arith),
+      word 3 (64 * l + 24) (omega arith) (omega arith),
+      word 4 (64 * l + 32) (omega arith) (omega arith),
+      word 5 (64 * l + 40) (omega arith) (omega arith),
+      word 6 (64 * l + 48) (omega arith) (omega arith),
+      word 7 (64 * l + 56) (omega arith) (omega arith),
+    )
+    (ap (λ ws. record { words = ws }) (eight (lines l).words is.eight))
+  where
+    word : (w at : ℕ) → w < 8 → at ≡ 64 * l + 8 * w → u64_at (page_bytes lines) at ≡ get_or (lines l).words w 0
+    word w at w_in e = word_in_page lines l w at l_in w_in e (is.fit w)
+
+pub u64_at-drop : (k : ℕ) (xs : List ℕ) → u64_at (drop k xs) 0 ≡ u64_at xs k
+unfolding u64_at
+u64_at-drop k xs = little_from-same 0 k 8 (drop k xs) xs (λ j j_in. get_or-drop k xs (0 + j) 0 ∙ ap (λ (p : ℕ). get_or xs p 0) (omega arith))
+
+pub u64_at-take : (n : ℕ) (xs : List ℕ) → 8 ≤ n → u64_at (take n xs) 0 ≡ u64_at xs 0
+unfolding u64_at
+u64_at-take n xs h = little_from-same 0 0 8 (take n xs) xs (λ j j_in. get_or-take n xs (0 + j) 0 (omega arith))
+
+pub u16_at-drop : (k : ℕ) (xs : List ℕ) → u16_at (drop k xs) 0 ≡ u16_at xs k
+unfolding u16_at
+u16_at-drop k xs = little_from-same 0 k 2 (drop k xs) xs (λ j j_in. get_or-drop k xs (0 + j) 0 ∙ ap (λ (p : ℕ). get_or xs p 0) (omega arith))
+
+pub u16_at-take : (n : ℕ) (xs : List ℕ) → 2 ≤ n → u16_at (take n xs) 0 ≡ u16_at xs 0
+unfolding u16_at
+u16_at-take n xs h = little_from-same 0 0 2 (take n xs) xs (λ j j_in. get_or-take n xs (0 + j) 0 (omega arith))
+
+-- the bytes of one word and of one half word
+pub one_word : (x : ℕ) → overwritten (0 ∷ 0 ∷ 0 ∷ 0 ∷ 0 ∷ 0 ∷ 0 ∷ 0 ∷ []) 0 (bytes_of_word x) ≡ bytes_of_word x
+unfolding bytes_of_word
+one_word x = refl
+
+pub one_half : (x : ℕ) → overwritten (0 ∷ 0 ∷ []) 0 (bytes_of_half x) ≡ bytes_of_half x
+unfolding bytes_of_half
+one_half x = refl
+
+pub length-bytes_of_half : (x : ℕ) → length (bytes_of_half x) ≡ 2
+unfolding bytes_of_half
+length-bytes_of_half x = refl
+
+-- one piece more in its place
+pub piece_put : (s : ℕ) (xs : List ℕ) (f : ℕ → List ℕ) (k : ℕ) (new : List ℕ) → length new ≡ s → s * k + s ≤ length xs
+    → take (s * k) xs ≡ pieces f 0 k → new ≡ f k → take (s * (k + 1)) (overwritten xs (s * k) new) ≡ pieces f 0 (k + 1)
+piece_put s xs f k new size fits so_far here =
+    let front : length (take (s * k) xs ++ new) ≡ s * (k + 1) = length-append (take (s * k) xs) new ∙ omega (arith, size, length-take-le (s * k) xs (omega arith), mul-suc s k, add-one k) in
+    ap (take (s * (k + 1))) (sym (append_assoc (take (s * k) xs) new (drop (s * k + length new) xs)))
+    ∙ take_at (take (s * k) xs ++ new) (drop (s * k + length new) xs) (s * (k + 1)) front
+    ∙ ap (λ ys. ys ++ new) so_far ∙ ap (λ ys. pieces f 0 k ++ ys) here
+    ∙ ap (λ n. pieces f 0 k ++ f n) (sym (zero-add k)) ∙ sym (pieces-more f 0 k) ∙ ap (pieces f 0) (sym (add-one k))
+
+pub length-with_line : (xs : List ℕ) (l : ℕ) (value : Line) → length xs ≡ 4096 → l < 64 → length (with_line_bytes xs l value) ≡ 4096
+length-with_line xs l value size l_in = length-overwritten xs (64 * l) (line_bytes value) (omega (arith, size, length-line_bytes value)) ∙ size
+
+-- one line more of a page in its place
+pub line_copied : (xs : List ℕ) (f : ℕ → List ℕ) (l : ℕ) (value : Line) → length xs ≡ 4096 → l < 64
+    → take (64 * l) xs ≡ pieces f 0 l → line_bytes value ≡ f l → take (64 * (l + 1)) (with_line_bytes xs l value) ≡ pieces f 0 (l + 1)
+line_copied xs f l value size l_in so_far here = piece_put 64 xs f l (line_bytes value) (length-line_bytes value) (omega (arith, size)) so_far here
