@@ -5,12 +5,12 @@ use Rattle.std.proofs.lemmas.Bool.{cases_lt, cases_eq}
 use Rattle.std.proofs.lemmas.List.{same_lists, get_or_append_left, get_or-append_right, get_or-take, length-take-le, length-drop}
 use Rattle.std.proofs.lemmas.List.Edits.{length-insert, get_or-insert_below, get_or-insert_at, get_or-insert_above, length-remove, get_or-remove_below, get_or-remove_above, length-between, get_or-between}
 use Rattle.ssd_model.specs.Page.{Same, Moved}
-use Rattle.slotted_page.specs.Bytes.{u64_at}
+use Rattle.line_pages.specs.Bytes.{u64_at}
 use Rattle.slotted_page.specs.Node.{Child, children, children_from, entry_count, first_keys, page_level}
 use Rattle.slotted_page.specs.Rows.{Ascends, last_key}
 use Rattle.slotted_page.specs.Cut.{children_left}
 use Rattle.slotted_page.specs.Inner.{IsInner, IsBranch, entry_of}
-use Rattle.slotted_page.proofs.ByteLemmas.{u64_at-same, u64_at-moved}
+use Rattle.line_pages.proofs.NumberLaws.{u64_at-same, u64_at-moved}
 
 children_from-length : (bytes : List ℕ) (at n : ℕ) → length (children_from bytes at n) ≡ n
 children_from-length bytes at zero = refl

@@ -10,7 +10,7 @@ use Rattle.slotted_page.specs.Node.{Slot, slots, row_in, leaf_rows, page_kind, p
 use Rattle.slotted_page.specs.Sound.{IsSound, slot_of}
 use Rattle.slotted_page.proofs.SlotLemmas.{length-slots, slot_at, in_heap_one, in_heap_is}
 use Rattle.std.proofs.Math.Bool.{or-true}
-use Rattle.slotted_page.proofs.ByteLemmas.{u16_at-same, u64_at-same, range-same, u16_at-moved}
+use Rattle.line_pages.proofs.NumberLaws.{u16_at-same, u64_at-same, range-same, u16_at-moved}
 
 -- What the bytes of a leaf are after a slot and its record were put into it.
 pub record Puts (at place size : ℕ) (row : Row) (old new : List ℕ) : Type 0 where

@@ -1,4 +1,3 @@
-pub mod ByteLemmas
 pub mod SlotLemmas
 pub mod InsertLemmas
 pub mod RowLemmas

@@ -4,7 +4,7 @@ use Rattle.std.specs.List.{list_all}
 use Rattle.std.proofs.lemmas.Bool.{leb-true, and_parts, cases_lt, cases_eq, cases_Bool}
 use Rattle.std.proofs.lemmas.List.{same_lists, length-set, get_or-set_same, get_or-set_other}
 use Rattle.ssd_model.specs.Page.{Same}
-use Rattle.slotted_page.specs.Bytes.{u64_at}
+use Rattle.line_pages.specs.Bytes.{u64_at}
 use Rattle.slotted_page.specs.Node.{Slot, slots, row_in, leaf_rows, page_kind, page_level, entry_count, heap_start, are_apart, all_apart}
 use Rattle.slotted_page.specs.Sound.{IsSound, slot_of}
 use Rattle.slotted_page.proofs.SlotLemmas.{length-slots, length_rows, slot_at, row_at, slot_inside}

@@ -3,7 +3,7 @@ use Rattle.std.proofs.Common.{◌≡◌, ℕ, zero, suc, ◌+◌, ◌*◌, ◌<�
 use Rattle.std.specs.List.{list_all}
 use Rattle.std.proofs.lemmas.Bool.{leb-true, le-leb, and_parts}
 use Rattle.std.proofs.lemmas.List.{length-map, get_or-map}
-use Rattle.slotted_page.specs.Bytes.{u16_at}
+use Rattle.line_pages.specs.Bytes.{u16_at}
 use Rattle.slotted_page.specs.Rows.{Row}
 use Rattle.slotted_page.specs.Node.{Slot, slots, slots_from, row_in, leaf_rows, entry_count, heap_start, is_in_heap}
 use Rattle.slotted_page.specs.Sound.{IsSound, InHeap, slot_of}

@@ -1,6 +1,6 @@
 -- An inner page, whatever its children are, and one whose keys ascend.
 use Rattle.std.specs.Prelude.{◌≡◌, ℕ, ◌+◌, ◌*◌, ◌<◌, ◌≤◌, ◌++◌, List, length, take, drop}
-use Rattle.slotted_page.specs.Bytes.{u64_at}
+use Rattle.line_pages.specs.Bytes.{u64_at}
 use Rattle.slotted_page.specs.Rows.{Ascends, last_key}
 use Rattle.slotted_page.specs.Cut.{inner_room, children_left}
 use Rattle.slotted_page.specs.Node.{Child, page_kind, page_level, entry_count, children, first_keys}

@@ -1,8 +1,8 @@
 -- Leaf and inner pages: their rows and children, and the numbered checks that a page of a tree passes.
-use Rattle.std.specs.Prelude.{◌≡◌, ℕ, zero, suc, ◌+◌, ◌*◌, ◌≤◌, Bool, true, false, List, [], ◌∷◌, map, sum_by, slice_range, Option, None, nat_lt, nat_le, ◌==◌, ◌&&◌, ◌||◌, if◌then◌else◌}
+use Rattle.std.specs.Prelude.{◌≡◌, ℕ, zero, suc, ◌+◌, ◌*◌, Bool, true, List, [], ◌∷◌, map, sum_by, slice_range, Option, None, nat_lt, nat_le, ◌==◌, ◌&&◌, ◌||◌, if◌then◌else◌}
 use Rattle.std.specs.List.{list_all}
 use Rattle.slotted_page.specs.declared.root.Expect.{Expect}
-use Rattle.slotted_page.specs.Bytes.{u16_at, u64_at}
+use Rattle.line_pages.specs.Bytes.{u16_at, u64_at}
 use Rattle.slotted_page.specs.Checks.{first_failure, but_for}
 use Rattle.slotted_page.specs.Rows.{Row, keys, ascends, last_key}
 use Rattle.slotted_page.specs.Cut.{leaf_room, leaf_floor, inner_room, inner_floor}

@@ -3,7 +3,7 @@ use Rattle.std.specs.Prelude.{◌≡◌, ℕ, ◌+◌, ◌*◌, ◌<◌, ◌≤�
 use Rattle.std.specs.List.{list_all}
 use Rattle.slotted_page.specs.Node.{page_kind, page_level, Slot, entry_count, heap_start, slots, is_in_heap, all_apart, leaf_rows, has_printable_value, IsLeaf}
 use Rattle.slotted_page.specs.Cut.{sizes, leaf_room, rows_left}
-use Rattle.slotted_page.specs.Bytes.{u16_at}
+use Rattle.line_pages.specs.Bytes.{u16_at}
 use Rattle.slotted_page.specs.Rows.{Row, keys, Ascends, last_key}
 
 pub record IsSound (bytes : List ℕ) : Type 0 where

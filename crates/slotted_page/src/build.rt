@@ -4,7 +4,7 @@ ghost use Rattle.slotted_page.specs.Sound.{IsSound, IsPacked, row_bytes};
 
 use crate::edit::insert_here;
 use crate::leaf::{leaf_key, leaf_rows, leaf_value};
-use crate::number::set_word;
+use line_pages::set_page_word;
 use ssd_model::PageBuf;
 
 /// Makes a leaf of no rows.
@@ -12,10 +12,10 @@ pub fn clear_leaf(page: &mut PageBuf)
     ensures rows { rows_of page.new ≡ [] }
     ensures packed { IsPacked page.new }
 {
-    set_word(page, 0, 1);
-    set_word(page, 8, 0);
-    set_word(page, 16, 0);
-    set_word(page, 24, 4096);
+    set_page_word(page, 0, 1);
+    set_page_word(page, 8, 0);
+    set_page_word(page, 16, 0);
+    set_page_word(page, 24, 4096);
 }
 
 /// Adds a row behind the others of a packed leaf.

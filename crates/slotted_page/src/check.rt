@@ -3,12 +3,12 @@ ghost use Rattle.std.specs.List.{list_all};
 ghost use Rattle.slotted_page.specs.Rows.{Row, ascends, keys};
 ghost use Rattle.slotted_page.specs.Node.{Child, page_kind, page_level, entry_count, heap_start, slots, bytes_used, is_in_heap, all_apart, are_apart, is_printable, has_printable_value, begins_at, first_keys, is_page_below, first_failing, leaf_rows as rows_of, children as children_of};
 ghost use Rattle.slotted_page.specs.Sound.{IsSound, slot_of, row_bytes};
-ghost use Rattle.slotted_page.specs.Bytes.{u64_at};
+ghost use Rattle.line_pages.specs.Bytes.{u64_at};
 ghost use Rattle.slotted_page.specs.Inner.{IsInner};
 
 use crate::entries::{child, child_key};
 use crate::leaf::{leaf_key, leaf_value};
-use crate::number::{half, word};
+use line_pages::{page_half, page_word};
 use crate::root::Expect;
 use ssd_model::PageBuf;
 
@@ -17,8 +17,8 @@ fn heap_fits(page: &PageBuf) -> bool
     ensures fits { result ≡ (nat_le (64 + 4 * entry_count page.now) (heap_start page.now) && nat_le (heap_start page.now) 4096) }
     ensures few { result ≡ true → entry_count page.now ≤ 1008 }
 {
-    let count = word(page, 8);
-    let heap = word(page, 24);
+    let count = page_word(page, 8);
+    let heap = page_word(page, 24);
     count <= 1008 && 64 + 4 * count <= heap && heap <= 4096
 }
 
@@ -27,8 +27,8 @@ fn is_placed(page: &PageBuf, at: usize, heap: usize) -> bool
     requires { 68 + 4 * at ≤ 4096 }
     ensures { result ≡ is_in_heap heap (slot_of page.now at) }
 {
-    let place = half(page, 64 + 4 * at) as usize;
-    let size = half(page, 64 + 4 * at + 2) as usize;
+    let place = page_half(page, 64 + 4 * at) as usize;
+    let size = page_half(page, 64 + 4 * at + 2) as usize;
     heap <= place && place + size <= 4096 && 8 <= size && size <= 488
 }
 
@@ -52,10 +52,10 @@ fn are_parted(page: &PageBuf, at: usize, other: usize) -> bool
     requires other { 68 + 4 * other ≤ 4096 }
     ensures { result ≡ are_apart (slot_of page.now at) (slot_of page.now other) }
 {
-    let one = half(page, 64 + 4 * at) as usize;
-    let one_size = half(page, 64 + 4 * at + 2) as usize;
-    let two = half(page, 64 + 4 * other) as usize;
-    let two_size = half(page, 64 + 4 * other + 2) as usize;
+    let one = page_half(page, 64 + 4 * at) as usize;
+    let one_size = page_half(page, 64 + 4 * at + 2) as usize;
+    let two = page_half(page, 64 + 4 * other) as usize;
+    let two_size = page_half(page, 64 + 4 * other + 2) as usize;
     one + one_size <= two || two + two_size <= one
 }
 
@@ -96,7 +96,7 @@ fn used(page: &PageBuf, count: usize) -> usize
 {
     let mut total = 0;
     for i in 0..count {
-        total += 4 + half(page, 64 + 4 * i + 2) as usize;
+        total += 4 + page_half(page, 64 + 4 * i + 2) as usize;
     }
     total
 }
@@ -161,7 +161,7 @@ fn records_fit(page: &PageBuf, count: usize) -> bool
     requires few { count ≤ 1008 }
     ensures { result ≡ (list_all (is_in_heap (heap_start page.now)) (slots page.now) && all_apart (slots page.now)) }
 {
-    let heap = word(page, 24) as usize;
+    let heap = page_word(page, 24) as usize;
     all_placed(page, count, heap) && all_separate(page, count)
 }
 
@@ -171,7 +171,7 @@ fn word_is(page: &PageBuf, at: usize, value: u64) -> bool
     ensures is { result ≡ (u64_at page.now at == value) }
     ensures size { length page.now ≡ 4096 }
 {
-    word(page, at) == value
+    page_word(page, at) == value
 }
 
 /// Whether the rows take at most what a leaf has room for.
@@ -207,7 +207,7 @@ fn check_leaf(page: &PageBuf, expect: &Expect) -> Result<(), u8>
     if !heap_fits(page) {
         return Err(13);
     }
-    let count = word(page, 8) as usize;
+    let count = page_word(page, 8) as usize;
     if !records_fit(page, count) {
         return Err(14);
     }
@@ -230,7 +230,7 @@ fn check_leaf(page: &PageBuf, expect: &Expect) -> Result<(), u8>
 fn number_fits(page: &PageBuf) -> bool
     ensures { result ≡ (nat_le 2 (entry_count page.now) && nat_le (entry_count page.now) 240) }
 {
-    let count = word(page, 8);
+    let count = page_word(page, 8);
     2 <= count && count <= 240
 }
 
@@ -297,7 +297,7 @@ fn order_fits(page: &PageBuf, count: usize, low: u64, high: u64) -> bool
 fn is_broad(page: &PageBuf, root: bool) -> bool
     ensures { result ≡ (root || nat_le 80 (entry_count page.now)) }
 {
-    root || 80 <= word(page, 8)
+    root || 80 <= page_word(page, 8)
 }
 
 /// The number of the first check that an inner page fails.
@@ -315,7 +315,7 @@ fn check_inner(page: &PageBuf, expect: &Expect) -> Result<(), u8>
     if !number_fits(page) {
         return Err(18);
     }
-    let count = word(page, 8) as usize;
+    let count = page_word(page, 8) as usize;
     if !order_fits(page, count, expect.low, expect.high) {
         return Err(19);
     }
@@ -345,6 +345,6 @@ pub fn leaf_used(page: &PageBuf) -> usize
     ensures slots { result ≡ bytes_used (slots page.now) }
     ensures rows { result ≡ row_bytes (rows_of page.now) }
 {
-    let count = word(page, 8) as usize;
+    let count = page_word(page, 8) as usize;
     used(page, count)
 }

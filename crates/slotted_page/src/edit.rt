@@ -2,12 +2,12 @@ ghost use Rattle.std.specs.Prelude.{get_or, slice_set, ◌≡◌, ◌+◌, ◌*�
 ghost use Rattle.std.specs.List.{insert, remove};
 ghost use Rattle.slotted_page.specs.Rows.{Row};
 ghost use Rattle.ssd_model.specs.Page.{Same, Moved};
-ghost use Rattle.slotted_page.specs.Bytes.{u16_at, u64_at};
+ghost use Rattle.line_pages.specs.Bytes.{u16_at, u64_at};
 ghost use Rattle.slotted_page.specs.Node.{entry_count, heap_start, row_in, Slot, leaf_rows as rows_of};
 ghost use Rattle.slotted_page.specs.Sound.{IsSound, slot_of};
 
 use crate::leaf::place_of;
-use crate::number::{set_half, set_word, word};
+use line_pages::{page_word, set_page_half, set_page_word};
 use ssd_model::PageBuf;
 
 /// Writes a record: its key, and behind it its value.
@@ -19,7 +19,7 @@ fn put_record(page: &mut PageBuf, place: usize, key: u64, value: &[u8])
     ensures size { length page.new ≡ 4096 }
     ensures size_old { length page.old ≡ 4096 }
 {
-    set_word(page, place, key);
+    set_page_word(page, place, key);
     page.set_part(place + 8, value);
 }
 
@@ -35,8 +35,8 @@ fn put_slot(page: &mut PageBuf, at: usize, count: usize, place: u16, size: u16)
     ensures size_old { length page.old ≡ 4096 }
 {
     page.shift(64 + 4 * at, 64 + 4 * count, 68 + 4 * at);
-    set_half(page, 64 + 4 * at, place);
-    set_half(page, 64 + 4 * at + 2, size);
+    set_page_half(page, 64 + 4 * at, place);
+    set_page_half(page, 64 + 4 * at + 2, size);
 }
 
 /// Writes how many entries a page has, and where its heap begins.
@@ -49,8 +49,8 @@ fn set_header(page: &mut PageBuf, count: u64, heap: u64)
     ensures size { length page.new ≡ 4096 }
     ensures size_old { length page.old ≡ 4096 }
 {
-    set_word(page, 8, count);
-    set_word(page, 24, heap);
+    set_page_word(page, 8, count);
+    set_page_word(page, 24, heap);
 }
 
 /// Puts a row at an index. Its record stands just below the heap's start.
@@ -64,8 +64,8 @@ pub fn insert_here(page: &mut PageBuf, at: usize, key: u64, value: &[u8])
     ensures heap { heap_start page.new + (8 + length value.now) ≡ heap_start page.old }
     ensures count { entry_count page.new ≡ entry_count page.old + 1 }
 {
-    let count = word(page, 8) as usize;
-    let heap = word(page, 24) as usize;
+    let count = page_word(page, 8) as usize;
+    let heap = page_word(page, 24) as usize;
     let size = 8 + value.len();
     let place = heap - size;
     put_record(page, place, key, value);
@@ -80,9 +80,9 @@ pub fn remove_here(page: &mut PageBuf, at: usize)
     ensures rows { rows_of page.new ≡ remove (rows_of page.old) at }
     ensures sound { IsSound page.new }
 {
-    let count = word(page, 8) as usize;
+    let count = page_word(page, 8) as usize;
     page.shift(68 + 4 * at, 64 + 4 * count, 64 + 4 * at);
-    set_word(page, 8, count as u64 - 1);
+    set_page_word(page, 8, count as u64 - 1);
 }
 
 /// Puts a value in place of another of its length.

@@ -3,7 +3,7 @@ ghost use Rattle.std.specs.List.{insert, remove};
 ghost use Rattle.slotted_page.specs.Node.{Child, entry_count, page_level, children as children_of};
 ghost use Rattle.slotted_page.specs.Inner.{IsInner};
 
-use crate::number::{set_word, word};
+use line_pages::{page_word, set_page_word};
 use ssd_model::PageBuf;
 
 /// The number of children of an inner page.
@@ -14,7 +14,7 @@ pub fn children(page: &PageBuf) -> usize
     ensures count { result ≡ entry_count page.now }
     ensures few { result ≤ 252 }
 {
-    word(page, 8) as usize
+    page_word(page, 8) as usize
 }
 
 /// The first key of a child.
@@ -23,7 +23,7 @@ pub fn child_key(page: &PageBuf, at: usize) -> u64
     requires at { at < entry_count page.now }
     ensures { (d : Child) → result ≡ (get_or (children_of page.now) at d).0 }
 {
-    word(page, 64 + 16 * at)
+    page_word(page, 64 + 16 * at)
 }
 
 /// The page of a child.
@@ -32,7 +32,7 @@ pub fn child(page: &PageBuf, at: usize) -> u64
     requires at { at < entry_count page.now }
     ensures { (d : Child) → result ≡ (get_or (children_of page.now) at d).1 }
 {
-    word(page, 72 + 16 * at)
+    page_word(page, 72 + 16 * at)
 }
 
 /// Makes an inner page of no children.
@@ -42,10 +42,10 @@ pub fn clear_inner(page: &mut PageBuf, level: u64)
     ensures inner { IsInner page.new }
     ensures level { page_level page.new ≡ level }
 {
-    set_word(page, 0, 2);
-    set_word(page, 8, 0);
-    set_word(page, 16, level);
-    set_word(page, 24, 0);
+    set_page_word(page, 0, 2);
+    set_page_word(page, 8, 0);
+    set_page_word(page, 16, level);
+    set_page_word(page, 24, 0);
 }
 
 /// Puts a child at an index.
@@ -58,11 +58,11 @@ pub fn insert_child(page: &mut PageBuf, at: usize, key: u64, child: u64)
     ensures inner { IsInner page.new }
     ensures level { page_level page.new ≡ page_level page.old }
 {
-    let count = word(page, 8) as usize;
+    let count = page_word(page, 8) as usize;
     page.shift(64 + 16 * at, 64 + 16 * count, 80 + 16 * at);
-    set_word(page, 64 + 16 * at, key);
-    set_word(page, 72 + 16 * at, child);
-    set_word(page, 8, count as u64 + 1);
+    set_page_word(page, 64 + 16 * at, key);
+    set_page_word(page, 72 + 16 * at, child);
+    set_page_word(page, 8, count as u64 + 1);
 }
 
 /// Takes the child at an index out of a page.
@@ -74,9 +74,9 @@ pub fn remove_child(page: &mut PageBuf, at: usize)
     ensures inner { IsInner page.new }
     ensures level { page_level page.new ≡ page_level page.old }
 {
-    let count = word(page, 8) as usize;
+    let count = page_word(page, 8) as usize;
     page.shift(80 + 16 * at, 64 + 16 * count, 64 + 16 * at);
-    set_word(page, 8, count as u64 - 1);
+    set_page_word(page, 8, count as u64 - 1);
 }
 
 /// Leaves the first children alone.
@@ -88,7 +88,7 @@ pub fn keep_children(page: &mut PageBuf, count: usize)
     ensures inner { IsInner page.new }
     ensures level { page_level page.new ≡ page_level page.old }
 {
-    set_word(page, 8, count as u64);
+    set_page_word(page, 8, count as u64);
 }
 
 /// Adds some children of another page behind those of a page.
@@ -103,7 +103,7 @@ pub fn push_children(page: &mut PageBuf, from: &PageBuf, start: usize, end: usiz
     ensures inner { IsInner page.new }
     ensures level { page_level page.new ≡ page_level page.old }
 {
-    let count = word(page, 8) as usize;
+    let count = page_word(page, 8) as usize;
     page.set_part(64 + 16 * count, from.part(64 + 16 * start, 64 + 16 * end));
-    set_word(page, 8, (count + (end - start)) as u64);
+    set_page_word(page, 8, (count + (end - start)) as u64);
 }

@@ -8,7 +8,7 @@ ghost use Rattle.slotted_page.specs.Inner.{IsInner, IsBranch, IsJoinedBranch, Is
 use crate::entries::{
     children, clear_inner, insert_child, keep_children, push_children, remove_child,
 };
-use crate::number::word;
+use line_pages::page_word;
 use ssd_model::PageBuf;
 
 /// Puts a child at an index of an inner page.
@@ -50,7 +50,7 @@ pub fn inner_cut(left: &mut PageBuf, right: &mut PageBuf, at: usize, key: u64, c
     ensures right_level { page_level right.new ≡ page_level left.old }
 {
     let count = children(left);
-    let level = word(left, 16);
+    let level = page_word(left, 16);
     insert_child(left, at, key, child);
     let part = (count + 2) / 2;
     clear_inner(right, level);
@@ -75,7 +75,7 @@ fn share_children(left: &mut PageBuf, right: &mut PageBuf, n: usize, m: usize, p
     ensures right_level { page_level right.new ≡ page_level right.old }
 {
     let copy = right.copy();
-    let level = word(right, 16);
+    let level = page_word(right, 16);
     clear_inner(right, level);
     if part <= n {
         push_children(right, left, part, n);

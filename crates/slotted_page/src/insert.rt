@@ -6,7 +6,7 @@ ghost use Rattle.slotted_page.specs.Sound.{IsSound, IsRows, row_bytes};
 
 use crate::build::pack;
 use crate::edit::{insert_here, remove_here};
-use crate::number::word;
+use line_pages::page_word;
 use ssd_model::PageBuf;
 
 /// The number of rows of a well-formed leaf.
@@ -17,7 +17,7 @@ pub fn open_leaf(page: &PageBuf) -> usize
     ensures entries { length (rows_of page.now) ≡ entry_count page.now }
     ensures rows { IsRows (rows_of page.now) }
 {
-    word(page, 8) as usize
+    page_word(page, 8) as usize
 }
 
 /// Packs a leaf where a further record would not fit between its slots and its heap.
@@ -31,8 +31,8 @@ fn make_room(page: &mut PageBuf, more: usize)
     ensures room { 64 + 4 * (entry_count page.new + 1) + (8 + more) ≤ heap_start page.new }
     ensures count { length (rows_of page.new) ≡ entry_count page.new }
 {
-    let count = word(page, 8) as usize;
-    let heap = word(page, 24) as usize;
+    let count = page_word(page, 8) as usize;
+    let heap = page_word(page, 24) as usize;
     if 64 + 4 * (count + 1) + (8 + more) > heap {
         pack(page);
     }

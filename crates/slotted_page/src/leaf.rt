@@ -3,7 +3,7 @@ ghost use Rattle.slotted_page.specs.Rows.{Row};
 ghost use Rattle.slotted_page.specs.Node.{entry_count, heap_start, leaf_rows as rows_of};
 ghost use Rattle.slotted_page.specs.Sound.{IsSound, InHeap, slot_of};
 
-use crate::number::{half, word};
+use line_pages::{page_half, page_word};
 use ssd_model::PageBuf;
 
 /// The number of rows of a leaf.
@@ -13,7 +13,7 @@ pub fn leaf_rows(page: &PageBuf) -> usize
     ensures rows { result ≡ length (rows_of page.now) }
     ensures count { result ≡ entry_count page.now }
 {
-    word(page, 8) as usize
+    page_word(page, 8) as usize
 }
 
 /// Where the record of a row stands.
@@ -24,7 +24,7 @@ pub fn place_of(page: &PageBuf, at: usize) -> usize
     ensures inside { InHeap (heap_start page.now) (slot_of page.now at) }
     ensures size { length page.now ≡ 4096 }
 {
-    half(page, 64 + 4 * at) as usize
+    page_half(page, 64 + 4 * at) as usize
 }
 
 /// How long the record of a row is.
@@ -33,7 +33,7 @@ fn size_of(page: &PageBuf, at: usize) -> usize
     requires at { at < entry_count page.now }
     ensures { result ≡ (slot_of page.now at).size }
 {
-    half(page, 64 + 4 * at + 2) as usize
+    page_half(page, 64 + 4 * at + 2) as usize
 }
 
 /// The key of a row.
@@ -44,7 +44,7 @@ pub fn leaf_key(page: &PageBuf, at: usize) -> u64
     ensures { (d : Row) → result ≡ (get_or (rows_of page.now) at d).0 }
 {
     let place = place_of(page, at);
-    word(page, place)
+    page_word(page, place)
 }
 
 /// The value of a row.

@@ -10,7 +10,6 @@ mod inner;
 mod insert;
 mod join;
 mod leaf;
-mod number;
 mod root;
 
 pub use check::{leaf_used, well_formed};

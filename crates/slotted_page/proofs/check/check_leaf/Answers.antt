@@ -42,14 +42,14 @@ unfolding first_failing
 returns-clause-ok c = rw (eq-eqb c.args.expect.now.level 0 c.requires, sym c.word_is.ensures.is ∙ c.if-not-word_is.false, sym c.word_is-2.ensures.is ∙ c.if-not-word_is-2.false, sym c.heap_fits.ensures.fits ∙ c.if-not-heap_fits.false, sym c.records_fit.ensures ∙ c.if-not-records_fit.false, sym c.is_within.ensures ∙ c.if-not-is_within.false, sym c.keys_ascend.ensures ∙ c.if-not-keys_ascend.false, sym c.values_printable.ensures ∙ c.if-not-values_printable.false, sym c.is_full.ensures ∙ c.if-not-is_full.false) refl
 
 pub keys_ascend-requires-clause-count : goal.keys_ascend-requires-clause-count
-keys_ascend-requires-clause-count c = c.word-count.ensures.value ∙ sym (length_rows c.args.page.now)
+keys_ascend-requires-clause-count c = c.page_word-count.ensures.value ∙ sym (length_rows c.args.page.now)
 
 pub keys_ascend-requires-clause-sound : goal.keys_ascend-requires-clause-sound
 keys_ascend-requires-clause-sound c = sound_from c.args.page.now c.word_is.ensures.size (sym c.word_is.ensures.is ∙ c.if-not-word_is.false) (sym c.word_is-2.ensures.is ∙ c.if-not-word_is-2.false) c.requires
     (sym c.heap_fits.ensures.fits ∙ c.if-not-heap_fits.false) (sym c.records_fit.ensures ∙ c.if-not-records_fit.false)
 
 pub values_printable-requires-clause-count : goal.values_printable-requires-clause-count
-values_printable-requires-clause-count c = c.word-count.ensures.value ∙ sym (length_rows c.args.page.now)
+values_printable-requires-clause-count c = c.page_word-count.ensures.value ∙ sym (length_rows c.args.page.now)
 
 pub values_printable-requires-clause-sound : goal.values_printable-requires-clause-sound
 values_printable-requires-clause-sound c = sound_from c.args.page.now c.word_is.ensures.size (sym c.word_is.ensures.is ∙ c.if-not-word_is.false) (sym c.word_is-2.ensures.is ∙ c.if-not-word_is-2.false) c.requires

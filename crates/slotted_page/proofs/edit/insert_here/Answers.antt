@@ -1,18 +1,18 @@
 use Rattle.std.proofs.Common.{◌+◌, ◌-◌, ◌*◌, ◌∙◌, arith, length}
-use Rattle.slotted_page.proofs.ByteLemmas.{u64_at-same, same_then, same_part}
+use Rattle.line_pages.proofs.NumberLaws.{u64_at-same, same_then, same_part}
 use Rattle.slotted_page.proofs.InsertLemmas.{Puts, slot_of-same, slot_of-moved, row_in-same, rows_put, sound_put}
 use Rattle.slotted_page.proofs.edit.insert_here.Goals as goal
 use Rattle.slotted_page.proofs.edit.insert_here.Goals.{After-set_header}
 
-puts : (c : After-set_header) → Puts c.args.at (c.word-heap.result - (8 + length c.args.value.now)) (8 + length c.args.value.now) (c.args.key, c.args.value.now) c.args.page.now c.set_header.new.page
+puts : (c : After-set_header) → Puts c.args.at (c.page_word-heap.result - (8 + length c.args.value.now)) (8 + length c.args.value.now) (c.args.key, c.args.value.now) c.args.page.now c.set_header.new.page
 puts c =
     let old = c.args.page.now in
     let a = c.put_record.new.page in
     let b = c.put_slot.new.page in
     let new = c.set_header.new.page in
     let size = 8 + length c.args.value.now in
-    let place = c.word-heap.result - size in
-    let n = c.word-count.result in
+    let place = c.page_word-heap.result - size in
+    let n = c.page_word-count.result in
     let one = c.put_record.ensures in
     let two = c.put_slot.ensures in
     let three = c.set_header.ensures in

@@ -1,25 +1,25 @@
 use Rattle.std.proofs.Common.{◌+◌, ◌*◌, ◌∙◌, arith}
 use Rattle.slotted_page.specs.Node.{heap_start}
-use Rattle.slotted_page.proofs.ByteLemmas.{u64_at-same, same_then, same_part}
+use Rattle.line_pages.proofs.NumberLaws.{u64_at-same, same_then, same_part}
 use Rattle.slotted_page.proofs.InsertLemmas.{slot_of-same, slot_of-moved}
 use Rattle.slotted_page.proofs.RemoveLemmas.{TakesOut, rows_out, sound_out}
 use Rattle.slotted_page.proofs.edit.remove_here.Goals as goal
-use Rattle.slotted_page.proofs.edit.remove_here.Goals.{After-set_word}
+use Rattle.slotted_page.proofs.edit.remove_here.Goals.{After-set_page_word}
 
-out : (c : After-set_word) → TakesOut c.args.at c.args.page.now c.set_word.new.page
+out : (c : After-set_page_word) → TakesOut c.args.at c.args.page.now c.set_page_word.new.page
 out c =
     let old = c.args.page.now in
     let a = c.shift.new.self in
-    let new = c.set_word.new.page in
-    let n = c.word-count.result in
+    let new = c.set_page_word.new.page in
+    let n = c.page_word-count.result in
     let heap = heap_start old in
     let one = c.shift.ensures in
-    let two = c.set_word.ensures in
+    let two = c.set_page_word.ensures in
     let past = one.after (60 + 4 * n) (omega arith) in
     record {
       kind = u64_at-same 0 8 0 a new two.before (omega arith) (omega arith) ∙ u64_at-same 0 (64 + 4 * c.args.at) 0 old a one.before (omega arith) (omega arith);
       level = u64_at-same 16 4096 16 a new two.after (omega arith) (omega arith) ∙ u64_at-same 0 (64 + 4 * c.args.at) 16 old a one.before (omega arith) (omega arith);
-      count = omega (arith, two.value, c.word-count.ensures.value);
+      count = omega (arith, two.value, c.page_word-count.ensures.value);
       heap = u64_at-same 16 4096 24 a new two.after (omega arith) (omega arith) ∙ u64_at-same 0 (64 + 4 * c.args.at) 24 old a one.before (omega arith) (omega arith);
       before = λ k low. slot_of-same 16 4096 k a new two.after (omega arith) (omega arith) ∙ slot_of-same 0 (64 + 4 * c.args.at) k old a one.before (omega arith) (omega arith);
       after = λ k low high. slot_of-same 16 4096 k a new two.after (omega arith) (omega arith)
@@ -29,7 +29,7 @@ out c =
     }
 
 pub returns-clause-rows : goal.returns-clause-rows
-returns-clause-rows c = rows_out c.args.at c.args.page.now c.set_word.new.page (out c) c.requires.at c.requires.sound
+returns-clause-rows c = rows_out c.args.at c.args.page.now c.set_page_word.new.page (out c) c.requires.at c.requires.sound
 
 pub returns-clause-sound : goal.returns-clause-sound
-returns-clause-sound c = sound_out c.args.at c.args.page.now c.set_word.new.page (out c) c.requires.at c.requires.sound
+returns-clause-sound c = sound_out c.args.at c.args.page.now c.set_page_word.new.page (out c) c.requires.at c.requires.sound

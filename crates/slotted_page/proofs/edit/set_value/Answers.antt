@@ -1,7 +1,7 @@
 use Rattle.std.proofs.Common.{◌≡◌, ◌+◌, ◌∙◌, ap, sym, arith, length, slice_range, ℕ}
 use Rattle.slotted_page.specs.Rows.{Row}
 use Rattle.slotted_page.specs.Sound.{slot_of}
-use Rattle.slotted_page.proofs.ByteLemmas.{u64_at-same, same_part}
+use Rattle.line_pages.proofs.NumberLaws.{u64_at-same, same_part}
 use Rattle.slotted_page.proofs.SlotLemmas.{row_at}
 use Rattle.slotted_page.proofs.InsertLemmas.{slot_of-same}
 use Rattle.slotted_page.proofs.SetLemmas.{Sets, sound_set, rows_set}

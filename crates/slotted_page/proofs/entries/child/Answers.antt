@@ -4,4 +4,4 @@ use Rattle.slotted_page.proofs.InnerLemmas.{child_at}
 use Rattle.slotted_page.proofs.entries.child.Goals as goal
 
 pub returns : goal.returns
-returns c = λ d. c.word.ensures.value ∙ sym (ap (λ (e : Child). e.1) (child_at c.args.page.now c.args.at d c.requires.at))
+returns c = λ d. c.page_word.ensures.value ∙ sym (ap (λ (e : Child). e.1) (child_at c.args.page.now c.args.at d c.requires.at))

@@ -40,4 +40,4 @@ returns-clause-right_branch c =
     let size = length-insert old c.args.at (c.args.key, c.args.child) c.requires.at in
     branch_back c.push_children.new.page all ((c.children-count.result + 2) / 2) (page_level c.args.left.now) c.push_children.ensures.inner
     (right_is all _ _ _ ((c.children-count.result + 2) / 2) (c.children-count.result + 1) c.push_children.ensures.children c.clear_inner.ensures.children c.insert_child.ensures.children (omega (arith, size, c.children-count.ensures.children)))
-    (c.push_children.ensures.level ∙ c.clear_inner.ensures.level ∙ c.word-level.ensures.value) c.requires.branch.above (omega (arith, size, c.children-count.ensures.children, c.requires.branch.room)) c.requires.order
+    (c.push_children.ensures.level ∙ c.clear_inner.ensures.level ∙ c.page_word-level.ensures.value) c.requires.branch.above (omega (arith, size, c.children-count.ensures.children, c.requires.branch.room)) c.requires.order
