@@ -146,11 +146,13 @@ step_small (r ∷ rows) (suc i) small =
     let split = sum_by-cons (λ (y : ℕ). y) (row_size r) in
     omega (arith, step_small rows i parts.1, split (take (suc i) (sizes rows)), split (take i (sizes rows)))
 
--- both parts fit
+-- both parts fit, and are full enough where the rows do not fit in one leaf
 pub record Fit (rows : List Row) (n : ℕ) : Type 0 where
   pub within : n ≤ length rows
   pub left : row_bytes (take n rows) ≤ 4032
   pub right : row_bytes (drop n rows) ≤ 4032
+  pub left_full : 4032 < row_bytes rows → 1344 ≤ row_bytes (take n rows)
+  pub right_full : 4032 < row_bytes rows → 1344 ≤ row_bytes (drop n rows)
 
 pub cut_fits : (rows : List Row) → list_all is_small rows ≡ true → row_bytes rows ≤ 5375 → Fit rows (rows_left rows)
 unfolding rows_left row_bytes
@@ -166,6 +168,8 @@ cut_fits rows small most =
       within = omega (arith, is.within, length-map rows row_size);
       left = omega (arith, low, front, most);
       right = omega (arith, both, back, is.reaches (omega arith), most);
+      left_full = λ over. omega (arith, front, is.reaches (omega arith), over);
+      right_full = λ over. omega (arith, both, back, low, over);
     }
   where
     lower : (xs : List ℕ) → ((i : ℕ) → list_all is_small rows ≡ true → sum (take (suc i) xs) ≤ sum (take i xs) + 492) → (k : ℕ) → ((m : ℕ) → m < k → 2 * sum (take m xs) < sum xs) → 2 * sum (take k xs) ≤ sum xs + 2 * 492

@@ -1,5 +1,5 @@
 -- What a well-formed leaf has, and what makes one.
-use Rattle.std.proofs.Common.{◌≡◌, ℕ, zero, suc, ◌+◌, ◌*◌, ◌<◌, ◌≤◌, Bool, true, List, [], ◌∷◌, ◌++◌, map, length, take, drop, None, nat_le, ◌&&◌, ◌||◌, inl, inr, refl, ap, sym, subst, ◌∙◌, arith}
+use Rattle.std.proofs.Common.{◌≡◌, ℕ, zero, suc, ◌+◌, ◌*◌, ◌<◌, ◌≤◌, Bool, true, List, [], ◌∷◌, ◌++◌, map, length, set, get_or, take, drop, None, nat_le, ◌&&◌, ◌||◌, inl, inr, refl, ap, sym, subst, ◌∙◌, arith}
 use Rattle.std.specs.List.{insert, list_all}
 use Rattle.std.proofs.lemmas.Bool.{leb-true, le-leb, eq-eqb, eqb-true, and_parts, cases_Bool}
 use Rattle.std.proofs.lemmas.List.Edits.{length-between}
@@ -9,8 +9,8 @@ use Rattle.slotted_page.specs.Checks.{first_failure}
 use Rattle.slotted_page.specs.Rows.{Row, keys, Ascends, ascends, last_key}
 use Rattle.slotted_page.specs.Cut.{row_size, rows_left}
 use Rattle.slotted_page.specs.Node.{Slot, slots, row_in, leaf_rows, page_kind, page_level, entry_count, heap_start, is_in_heap, all_apart, bytes_used, has_printable_value, leaf_checks, first_failing, IsWellFormed, IsLeaf, any_leaf}
-use Rattle.slotted_page.specs.Sound.{IsSound, IsRows, IsJoined, IsDivided, row_bytes}
-use Rattle.slotted_page.proofs.SlotLemmas.{in_heap_one}
+use Rattle.slotted_page.specs.Sound.{IsSound, IsRows, IsJoined, IsDivided, row_bytes, slot_of}
+use Rattle.slotted_page.proofs.SlotLemmas.{in_heap_one, slot_inside, row_at}
 use Rattle.slotted_page.proofs.RowLemmas.{row_bytes-nil, row_bytes-cons, row_bytes-insert}
 use Rattle.slotted_page.proofs.InsertLemmas.{all_insert}
 use Rattle.slotted_page.proofs.CutLemmas.{is_small, Fit, cut_fits}
@@ -208,6 +208,8 @@ divided_is one two left right p q fit sound_left sound_right over order l r =
       right_rows = r;
       left_leaf = left_leaf left all (rows_left all) sound_left l fit.left order printable;
       right_leaf = right_leaf right all (rows_left all) sound_right r fit.right order printable;
+      left_full = omega (arith, ap row_bytes l, fit.left_full over);
+      right_full = omega (arith, ap row_bytes r, fit.right_full over);
     }
 
 -- a leaf of a tree is a leaf, and the other way where it keeps the bounds and is full enough
@@ -276,3 +278,37 @@ leaf_back bytes expect size zero_level leaf order full =
         ),
       ),
     ))
+
+-- another value of the same length, at the same key
+keys-set : (rows : List Row) (at : ℕ) (row : Row) → row.0 ≡ (get_or rows at row).0 → keys (set rows at row) ≡ keys rows
+keys-set [] at row same = refl
+keys-set (r ∷ rows) zero row same = rw same refl
+keys-set (r ∷ rows) (suc at) row same = ap (λ ks. r.0 ∷ ks) (keys-set rows at row same)
+
+bytes-set : (rows : List Row) (at : ℕ) (row : Row) → length row.1 ≡ length (get_or rows at row).1 → row_bytes (set rows at row) ≡ row_bytes rows
+bytes-set [] at row same = refl
+bytes-set (r ∷ rows) zero row same = omega (arith, row_bytes-cons r rows, row_bytes-cons row rows, same)
+bytes-set (r ∷ rows) (suc at) row same = omega (arith, row_bytes-cons r rows, row_bytes-cons r (set rows at row), bytes-set rows at row same)
+
+all_set : (p : Row → Bool) (rows : List Row) (at : ℕ) (row : Row) → list_all p rows ≡ true → p row ≡ true → list_all p (set rows at row) ≡ true
+all_set p [] at row all one = refl
+all_set p (r ∷ rows) zero row all one = rw (one, (and_parts (p r) (list_all p rows) all).1) refl
+all_set p (r ∷ rows) (suc at) row all one =
+    let parts = and_parts (p r) (list_all p rows) all in
+    rw (parts.0, all_set p rows at row parts.1 one) refl
+
+pub rows_set_is : (rows : List Row) (at : ℕ) (row : Row) → IsRows rows → row.0 ≡ (get_or rows at row).0 → length row.1 ≡ length (get_or rows at row).1 → has_printable_value row ≡ true → IsRows (set rows at row)
+rows_set_is rows at row is key size printable = record {
+  used = omega (arith, bytes-set rows at row size, is.used);
+  order = subst (Ascends 0 last_key) (sym (keys-set rows at row key)) is.order;
+  printable = all_set has_printable_value rows at row is.printable printable;
+}
+
+-- the value of a row is its record but for the key
+pub value_size : (bytes : List ℕ) (at n : ℕ) (d : Row) → IsSound bytes → at < entry_count bytes → n ≡ length (get_or (leaf_rows bytes) at d).1 → 8 + n ≡ (slot_of bytes at).size
+value_size bytes at n d sound within is =
+    let slot = slot_of bytes at in
+    let inside = slot_inside bytes at sound within in
+    let value = ap (λ (row : Row). length row.1) (row_at bytes at d within) in
+    let size = length-between bytes (slot.place + 8) (slot.place + slot.size) (omega (arith, inside.below, sound.size)) in
+    omega (arith, is, value, size, inside.key)

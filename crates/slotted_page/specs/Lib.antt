@@ -4,3 +4,5 @@ pub mod Cut
 pub mod Node
 pub mod Sound
 pub mod Inner
+pub mod Value
+pub mod Work

@@ -2,7 +2,7 @@
 use Rattle.std.specs.Prelude.{◌≡◌, ℕ, ◌+◌, ◌*◌, ◌<◌, ◌≤◌, ◌++◌, true, List, length, sum, take, drop}
 use Rattle.std.specs.List.{list_all}
 use Rattle.slotted_page.specs.Node.{page_kind, page_level, Slot, entry_count, heap_start, slots, is_in_heap, all_apart, leaf_rows, has_printable_value, IsLeaf}
-use Rattle.slotted_page.specs.Cut.{sizes, leaf_room, rows_left}
+use Rattle.slotted_page.specs.Cut.{sizes, leaf_room, leaf_floor, rows_left}
 use Rattle.line_pages.specs.Bytes.{u16_at}
 use Rattle.slotted_page.specs.Rows.{Row, keys, Ascends, last_key}
 
@@ -52,3 +52,5 @@ pub record IsDivided (one two left right : List ℕ) : Type 0 where
   pub right_rows : leaf_rows right ≡ drop (rows_left (leaf_rows one ++ leaf_rows two)) (leaf_rows one ++ leaf_rows two)
   pub left_leaf : IsLeaf left
   pub right_leaf : IsLeaf right
+  pub left_full : leaf_floor ≤ row_bytes (leaf_rows left)
+  pub right_full : leaf_floor ≤ row_bytes (leaf_rows right)

@@ -8,8 +8,9 @@ ghost use Rattle.slotted_page.specs.Inner.{IsInner};
 
 use crate::entries::{child, child_key};
 use crate::leaf::{leaf_key, leaf_value};
-use line_pages::{page_half, page_word};
 use crate::root::Expect;
+use crate::value::all_printable;
+use line_pages::{page_half, page_word};
 use ssd_model::PageBuf;
 
 /// Whether the slots end before the heap, and the heap in the page.
@@ -123,13 +124,6 @@ fn keys_ascend(page: &PageBuf, count: usize, low: u64, high: u64) -> bool
         least = key as u128 + 1;
     }
     true
-}
-
-/// Whether each byte may stand in a value.
-fn all_printable(bytes: &[u8]) -> bool
-    ensures { result ≡ list_all is_printable bytes.now }
-{
-    bytes.iter().all(|byte| 0x20 <= *byte && *byte <= 0x7E)
 }
 
 /// Whether a row's value is printable.

@@ -144,6 +144,8 @@ pub fn leaf_cut(left: &mut PageBuf, right: &mut PageBuf, at: usize, key: u64, va
     ensures right { let all = insert (rows_of left.old) at (key, value.now) in rows_of right.new ≡ drop (rows_left all) all }
     ensures left_leaf { IsLeaf left.new }
     ensures right_leaf { IsLeaf right.new }
+    ensures left_full { 4032 < row_bytes (insert (rows_of left.old) at (key, value.now)) → 1344 ≤ row_bytes (rows_of left.new) }
+    ensures right_full { 4032 < row_bytes (insert (rows_of left.old) at (key, value.now)) → 1344 ≤ row_bytes (rows_of right.new) }
 {
     let count = open_leaf(left);
     let part = left_part(left, at, count, key, value);

@@ -79,6 +79,7 @@ pub fn remove_here(page: &mut PageBuf, at: usize)
     requires at { at < entry_count page.old }
     ensures rows { rows_of page.new ≡ remove (rows_of page.old) at }
     ensures sound { IsSound page.new }
+    ensures rest { Same (64 + 4 * entry_count page.old) 4096 page.old page.new }
 {
     let count = page_word(page, 8) as usize;
     page.shift(68 + 4 * at, 64 + 4 * count, 64 + 4 * at);
@@ -92,6 +93,8 @@ pub fn set_value(page: &mut PageBuf, at: usize, value: &[u8])
     requires length { 8 + length value.now ≡ (slot_of page.old at).size }
     ensures rows { (d : Row) → rows_of page.new ≡ slice_set (rows_of page.old) at ((get_or (rows_of page.old) at d).0, value.now) }
     ensures sound { IsSound page.new }
+    ensures before { Same 0 ((slot_of page.old at).place + 8) page.old page.new }
+    ensures after { Same ((slot_of page.old at).place + (slot_of page.old at).size) 4096 page.old page.new }
 {
     let place = place_of(page, at);
     page.set_part(place + 8, value);

@@ -1,5 +1,6 @@
 ghost use Rattle.std.specs.Prelude.{◌≡◌, ◌+◌, ◌*◌, ◌<◌, ◌≤◌, ℕ, List, [], ◌++◌, length, get_or, slice_range, take};
 ghost use Rattle.std.specs.List.{insert, remove};
+ghost use Rattle.ssd_model.specs.Page.{Same};
 ghost use Rattle.slotted_page.specs.Node.{Child, entry_count, page_level, children as children_of};
 ghost use Rattle.slotted_page.specs.Inner.{IsInner};
 
@@ -41,6 +42,7 @@ pub fn clear_inner(page: &mut PageBuf, level: u64)
     ensures count { entry_count page.new ≡ 0 }
     ensures inner { IsInner page.new }
     ensures level { page_level page.new ≡ level }
+    ensures rest { Same 32 4096 page.old page.new }
 {
     set_page_word(page, 0, 2);
     set_page_word(page, 8, 0);
@@ -57,6 +59,7 @@ pub fn insert_child(page: &mut PageBuf, at: usize, key: u64, child: u64)
     ensures count { entry_count page.new ≡ entry_count page.old + 1 }
     ensures inner { IsInner page.new }
     ensures level { page_level page.new ≡ page_level page.old }
+    ensures rest { Same (80 + 16 * entry_count page.old) 4096 page.old page.new }
 {
     let count = page_word(page, 8) as usize;
     page.shift(64 + 16 * at, 64 + 16 * count, 80 + 16 * at);
@@ -73,6 +76,7 @@ pub fn remove_child(page: &mut PageBuf, at: usize)
     ensures count { entry_count page.new + 1 ≡ entry_count page.old }
     ensures inner { IsInner page.new }
     ensures level { page_level page.new ≡ page_level page.old }
+    ensures rest { Same (64 + 16 * entry_count page.old) 4096 page.old page.new }
 {
     let count = page_word(page, 8) as usize;
     page.shift(80 + 16 * at, 64 + 16 * count, 64 + 16 * at);
@@ -87,6 +91,7 @@ pub fn keep_children(page: &mut PageBuf, count: usize)
     ensures count { entry_count page.new ≡ count }
     ensures inner { IsInner page.new }
     ensures level { page_level page.new ≡ page_level page.old }
+    ensures rest { Same 16 4096 page.old page.new }
 {
     set_page_word(page, 8, count as u64);
 }
@@ -102,6 +107,7 @@ pub fn push_children(page: &mut PageBuf, from: &PageBuf, start: usize, end: usiz
     ensures count { entry_count page.new + start ≡ entry_count page.old + end }
     ensures inner { IsInner page.new }
     ensures level { page_level page.new ≡ page_level page.old }
+    ensures rest { Same (64 + 16 * entry_count page.new) 4096 page.old page.new }
 {
     let count = page_word(page, 8) as usize;
     page.set_part(64 + 16 * count, from.part(64 + 16 * start, 64 + 16 * end));

@@ -1,8 +1,9 @@
 ghost use Rattle.std.specs.Prelude.{◌≡◌, ◌+◌, ◌*◌, ◌<◌, ◌≤◌, ◌⊎◌, ℕ, List, ◌++◌, true, false, length, take, drop};
 ghost use Rattle.std.specs.List.{insert, remove};
+ghost use Rattle.ssd_model.specs.Page.{Same};
 ghost use Rattle.slotted_page.specs.Rows.{Ascends, last_key};
 ghost use Rattle.slotted_page.specs.Cut.{children_left};
-ghost use Rattle.slotted_page.specs.Node.{entry_count, page_level, first_keys, children as children_of};
+ghost use Rattle.slotted_page.specs.Node.{begins_at, entry_count, page_level, first_keys, children as children_of};
 ghost use Rattle.slotted_page.specs.Inner.{IsInner, IsBranch, IsJoinedBranch, IsDividedBranch};
 
 use crate::entries::{
@@ -20,6 +21,7 @@ pub fn inner_insert(page: &mut PageBuf, at: usize, key: u64, child: u64)
     ensures children { children_of page.new ≡ insert (children_of page.old) at (key, child) }
     ensures branch { IsBranch page.new }
     ensures level { page_level page.new ≡ page_level page.old }
+    ensures rest { Same 3904 4096 page.old page.new }
 {
     children(page);
     insert_child(page, at, key, child);
@@ -32,6 +34,7 @@ pub fn inner_remove(page: &mut PageBuf, at: usize)
     ensures children { children_of page.new ≡ remove (children_of page.old) at }
     ensures branch { IsBranch page.new }
     ensures level { page_level page.new ≡ page_level page.old }
+    ensures rest { Same 3904 4096 page.old page.new }
 {
     children(page);
     remove_child(page, at);
@@ -65,14 +68,16 @@ fn share_children(left: &mut PageBuf, right: &mut PageBuf, n: usize, m: usize, p
     requires n { n ≡ entry_count left.old }
     requires m { m ≡ entry_count right.old }
     requires part { part ≤ n + m }
-    requires left_room { part ≤ 252 }
-    requires right_room { n + m ≤ 252 + part }
+    requires left_room { part ≤ 240 }
+    requires right_room { n + m ≤ 240 + part }
     ensures left { children_of left.new ≡ take part (children_of left.old ++ children_of right.old) }
     ensures right { children_of right.new ≡ drop part (children_of left.old ++ children_of right.old) }
     ensures left_inner { IsInner left.new }
     ensures right_inner { IsInner right.new }
     ensures left_level { page_level left.new ≡ page_level left.old }
     ensures right_level { page_level right.new ≡ page_level right.old }
+    ensures left_rest { Same 3904 4096 left.old left.new }
+    ensures right_rest { Same 3904 4096 right.old right.new }
 {
     let copy = right.copy();
     let level = page_word(right, 16);
@@ -88,10 +93,13 @@ fn share_children(left: &mut PageBuf, right: &mut PageBuf, n: usize, m: usize, p
 }
 
 /// Joins two inner pages: true where all children are in the left one. Else they are divided.
-pub fn inner_join(left: &mut PageBuf, right: &mut PageBuf) -> bool
+pub fn inner_join(left: &mut PageBuf, right: &mut PageBuf, key: u64) -> bool
     requires left { IsBranch left.old }
     requires right { IsBranch right.old }
+    requires key { begins_at key (children_of right.old) ≡ true }
     requires order { Ascends 0 last_key (first_keys (children_of left.old ++ children_of right.old)) }
+    ensures left_rest { Same 3904 4096 left.old left.new }
+    ensures right_rest { Same 3904 4096 right.old right.new }
     ensures joined { result ≡ true → IsJoinedBranch left.old right.old left.new }
     ensures divided { result ≡ false → IsDividedBranch left.old right.old left.new right.new }
 {

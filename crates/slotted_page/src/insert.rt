@@ -1,11 +1,12 @@
-ghost use Rattle.std.specs.Prelude.{◌≡◌, ◌+◌, ◌*◌, ◌<◌, ◌≤◌, ℕ, List, true, length};
+ghost use Rattle.std.specs.Prelude.{get_or, slice_set, ◌≡◌, ◌+◌, ◌*◌, ◌<◌, ◌≤◌, ℕ, List, true, length};
 ghost use Rattle.std.specs.List.{insert, remove, list_all};
-ghost use Rattle.slotted_page.specs.Rows.{Ascends, keys, last_key};
+ghost use Rattle.ssd_model.specs.Page.{Same};
+ghost use Rattle.slotted_page.specs.Rows.{Row, Ascends, keys, last_key};
 ghost use Rattle.slotted_page.specs.Node.{IsLeaf, entry_count, heap_start, is_printable, leaf_rows as rows_of};
-ghost use Rattle.slotted_page.specs.Sound.{IsSound, IsRows, row_bytes};
+ghost use Rattle.slotted_page.specs.Sound.{slot_of, IsSound, IsRows, row_bytes};
 
 use crate::build::pack;
-use crate::edit::{insert_here, remove_here};
+use crate::edit::{insert_here, remove_here, set_value};
 use line_pages::page_word;
 use ssd_model::PageBuf;
 
@@ -60,7 +61,23 @@ pub fn leaf_remove(page: &mut PageBuf, at: usize)
     requires at { at < length (rows_of page.old) }
     ensures rows { rows_of page.new ≡ remove (rows_of page.old) at }
     ensures leaf { IsLeaf page.new }
+    ensures rest { Same (64 + 4 * entry_count page.old) 4096 page.old page.new }
 {
     open_leaf(page);
     remove_here(page, at);
+}
+
+/// Puts a value in place of another of its length. It changes the bytes of that value alone.
+pub fn leaf_set(page: &mut PageBuf, at: usize, value: &[u8])
+    requires leaf { IsLeaf page.old }
+    requires at { at < length (rows_of page.old) }
+    requires same { (d : Row) → length value.now ≡ length (get_or (rows_of page.old) at d).1 }
+    requires printable { list_all is_printable value.now ≡ true }
+    ensures rows { (d : Row) → rows_of page.new ≡ slice_set (rows_of page.old) at ((get_or (rows_of page.old) at d).0, value.now) }
+    ensures leaf { IsLeaf page.new }
+    ensures before { Same 0 ((slot_of page.old at).place + 8) page.old page.new }
+    ensures after { Same ((slot_of page.old at).place + (slot_of page.old at).size) 4096 page.old page.new }
+{
+    open_leaf(page);
+    set_value(page, at, value);
 }

@@ -11,13 +11,16 @@ mod insert;
 mod join;
 mod leaf;
 mod root;
+mod value;
+mod work;
 
 pub use check::{leaf_used, well_formed};
 pub use cut::leaf_cut;
-pub use edit::set_value;
 pub use entries::{child, child_key, children};
 pub use inner::{inner_cut, inner_insert, inner_join, inner_remove};
-pub use insert::{leaf_insert, leaf_remove};
+pub use insert::{leaf_insert, leaf_remove, leaf_set};
 pub use join::leaf_join;
 pub use leaf::{leaf_key, leaf_rows, leaf_value};
 pub use root::Expect;
+pub use value::Value;
+pub use work::Work;

@@ -1,5 +1,5 @@
 use Rattle.std.proofs.Common.{◌+◌, ◌*◌, ◌∙◌, arith}
-use Rattle.slotted_page.specs.Node.{heap_start}
+use Rattle.slotted_page.specs.Node.{entry_count, heap_start}
 use Rattle.line_pages.proofs.NumberLaws.{u64_at-same, same_then, same_part}
 use Rattle.slotted_page.proofs.InsertLemmas.{slot_of-same, slot_of-moved}
 use Rattle.slotted_page.proofs.RemoveLemmas.{TakesOut, rows_out, sound_out}
@@ -33,3 +33,10 @@ returns-clause-rows c = rows_out c.args.at c.args.page.now c.set_page_word.new.p
 
 pub returns-clause-sound : goal.returns-clause-sound
 returns-clause-sound c = sound_out c.args.at c.args.page.now c.set_page_word.new.page (out c) c.requires.at c.requires.sound
+
+pub returns-clause-rest : goal.returns-clause-rest
+returns-clause-rest c =
+    let n = entry_count c.args.page.now in
+    let past = c.shift.ensures.after (60 + 4 * n) (omega arith) in
+    same_then (64 + 4 * n) 4096 c.args.page.now c.shift.new.self c.set_page_word.new.page (same_part (64 + 4 * n) 4096 (60 + 4 * n) 4096 _ _ past (omega arith) (omega arith))
+    (same_part (64 + 4 * n) 4096 16 4096 _ _ c.set_page_word.ensures.after (omega arith) (omega arith))

@@ -37,3 +37,9 @@ returns-clause-rows c = λ d. rows_set c.args.at _ c.args.value.now c.args.page.
 
 pub returns-clause-sound : goal.returns-clause-sound
 returns-clause-sound c = sound_set c.args.at c.args.value.now c.args.page.now c.set_part.new.self (sets c) c.requires.sound
+
+pub returns-clause-before : goal.returns-clause-before
+returns-clause-before c = same_part 0 ((slot_of c.args.page.now c.args.at).place + 8) 0 (c.place_of-place.result + 8) _ _ c.set_part.ensures.before (omega arith) (omega (arith, c.place_of-place.ensures.place))
+
+pub returns-clause-after : goal.returns-clause-after
+returns-clause-after c = (sets c).after

@@ -1,5 +1,6 @@
+use Rattle.slotted_page.specs.Node.{entry_count}
 use Rattle.std.proofs.Common.{◌+◌, ◌*◌, ◌∙◌, arith, refl}
-use Rattle.line_pages.proofs.NumberLaws.{u64_at-same}
+use Rattle.line_pages.proofs.NumberLaws.{u64_at-same, same_then, same_part}
 use Rattle.slotted_page.proofs.InnerLemmas.{entry-same, entry-moved, children_put}
 use Rattle.slotted_page.proofs.entries.insert_child.Goals as goal
 
@@ -31,3 +32,13 @@ returns-clause-inner c = record {
 pub returns-clause-level : goal.returns-clause-level
 returns-clause-level c = u64_at-same 16 4096 16 _ _ c.set_page_word-3.ensures.after (omega arith) (omega arith) ∙ u64_at-same 0 (72 + 16 * c.args.at) 16 _ _ c.set_page_word-2.ensures.before (omega arith) (omega arith)
     ∙ u64_at-same 0 (64 + 16 * c.args.at) 16 _ _ c.set_page_word.ensures.before (omega arith) (omega arith) ∙ u64_at-same 0 (80 + 16 * c.args.at) 16 _ _ c.shift.ensures.before (omega arith) (omega arith)
+
+pub returns-clause-rest : goal.returns-clause-rest
+returns-clause-rest c =
+    let old = c.args.page.now in
+    let at = c.args.at in
+    let past = 80 + 16 * entry_count old in
+    same_then past 4096 old c.shift.new.self c.set_page_word-3.new.page (c.shift.ensures.after past (omega arith))
+    (same_then past 4096 c.shift.new.self c.set_page_word.new.page c.set_page_word-3.new.page (same_part past 4096 (64 + 16 * at + 8) 4096 _ _ c.set_page_word.ensures.after (omega arith) (omega arith))
+    (same_then past 4096 c.set_page_word.new.page c.set_page_word-2.new.page c.set_page_word-3.new.page (same_part past 4096 (72 + 16 * at + 8) 4096 _ _ c.set_page_word-2.ensures.after (omega arith) (omega arith))
+    (same_part past 4096 16 4096 _ _ c.set_page_word-3.ensures.after (omega arith) (omega arith))))

@@ -1,6 +1,6 @@
 use Rattle.std.proofs.Common.{◌+◌, ◌*◌, ◌∙◌, length, ap, arith}
 use Rattle.slotted_page.specs.Node.{entry_count}
-use Rattle.line_pages.proofs.NumberLaws.{u64_at-same}
+use Rattle.line_pages.proofs.NumberLaws.{u64_at-same, same_then, same_part}
 use Rattle.slotted_page.proofs.InnerLemmas.{entry-same, entry-moved, moved_part, children_more}
 use Rattle.slotted_page.proofs.entries.push_children.Goals as goal
 use Rattle.std.proofs.lemmas.List.Edits.{length-between}
@@ -28,3 +28,13 @@ returns-clause-inner c = record {
 
 pub returns-clause-level : goal.returns-clause-level
 returns-clause-level c = u64_at-same 16 4096 16 _ _ c.set_page_word.ensures.after (omega arith) (omega arith) ∙ u64_at-same 0 (64 + 16 * c.page_word-count.result) 16 _ _ c.set_part.ensures.before (omega arith) (omega arith)
+
+pub returns-clause-rest : goal.returns-clause-rest
+returns-clause-rest c =
+    let start = 64 + 16 * c.args.start in
+    let end = 64 + 16 * c.args.end in
+    let size = ap length c.part.ensures.value ∙ length-between c.args.from.now start end (omega (arith, c.part.ensures.size)) in
+    let past = 64 + 16 * entry_count c.set_page_word.new.page in
+    same_then past 4096 c.args.page.now c.set_part.new.self c.set_page_word.new.page
+    (same_part past 4096 (64 + 16 * c.page_word-count.result + length c.part.result.now) 4096 _ _ c.set_part.ensures.after (omega (arith, size, c.set_page_word.ensures.value)) (omega arith))
+    (same_part past 4096 16 4096 _ _ c.set_page_word.ensures.after (omega arith) (omega arith))

@@ -1,5 +1,6 @@
+use Rattle.slotted_page.specs.Node.{entry_count}
 use Rattle.std.proofs.Common.{◌+◌, ◌*◌, ◌∙◌, arith}
-use Rattle.line_pages.proofs.NumberLaws.{u64_at-same}
+use Rattle.line_pages.proofs.NumberLaws.{u64_at-same, same_then, same_part}
 use Rattle.slotted_page.proofs.InnerLemmas.{entry-same, entry-moved, children_out}
 use Rattle.slotted_page.proofs.entries.remove_child.Goals as goal
 
@@ -22,3 +23,11 @@ returns-clause-inner c = record {
 
 pub returns-clause-level : goal.returns-clause-level
 returns-clause-level c = u64_at-same 16 4096 16 _ _ c.set_page_word.ensures.after (omega arith) (omega arith) ∙ u64_at-same 0 (64 + 16 * c.args.at) 16 _ _ c.shift.ensures.before (omega arith) (omega arith)
+
+pub returns-clause-rest : goal.returns-clause-rest
+returns-clause-rest c =
+    let old = c.args.page.now in
+    let end = 64 + 16 * entry_count old in
+    same_then end 4096 old c.shift.new.self c.set_page_word.new.page
+    (same_part end 4096 (48 + 16 * entry_count old) 4096 _ _ (c.shift.ensures.after (48 + 16 * entry_count old) (omega arith)) (omega arith) (omega arith))
+    (same_part end 4096 16 4096 _ _ c.set_page_word.ensures.after (omega arith) (omega arith))

@@ -1,5 +1,6 @@
-use Rattle.std.proofs.Common.{◌≤◌, ◌≡◌, ◌+◌, ◌/◌, ◌++◌, ◌∙◌, ℕ, length, take, drop, ap, sym, arith, length-append}
-use Rattle.slotted_page.specs.Node.{children, page_level}
+use Rattle.line_pages.proofs.NumberLaws.{same_part, same_same}
+use Rattle.std.proofs.Common.{◌≤◌, ◌≡◌, ◌+◌, ◌/◌, ◌++◌, ◌∙◌, ℕ, length, take, drop, ap, sym, arith, length-append, ◌*◌}
+use Rattle.slotted_page.specs.Node.{children, page_level, entry_count}
 use Rattle.slotted_page.proofs.CutLemmas.{whole_is}
 use Rattle.slotted_page.proofs.InnerLemmas.{branch_of, branch_front, branch_back, join_at_half}
 use Rattle.slotted_page.proofs.inner.inner_join.Goals as goal
@@ -37,3 +38,9 @@ returns-clause-divided c = λ no_it.
       left_level = c.share_children.ensures.left_level;
       right_level = c.share_children.ensures.right_level;
     }
+
+pub returns-then-n-m-le240-clause-left_rest : goal.returns-then-n-m-le240-clause-left_rest
+returns-then-n-m-le240-clause-left_rest c = same_part 3904 4096 (64 + 16 * entry_count c.push_children.new.page) 4096 _ _ c.push_children.ensures.rest (omega (arith, c.push_children.ensures.count, c.children-n.ensures.count)) (omega arith)
+
+pub returns-then-n-m-le240-clause-right_rest : goal.returns-then-n-m-le240-clause-right_rest
+returns-then-n-m-le240-clause-right_rest c = same_same 3904 4096 c.args.right.now
