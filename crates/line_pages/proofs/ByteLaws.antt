@@ -161,7 +161,8 @@ bytes_of-other lines page l n value ne = ap page_bytes (λ i k. at k i)
     at : (k : ℕ) → with_line page l value lines n k ≡ lines n k
     at k = rw (ne_eqb n page ne) refl
 
-eight : (ws : List ℕ) → length ws ≡ 8 → get_or ws 0 0 ∷ get_or ws 1 0 ∷ get_or ws 2 0 ∷ get_or ws 3 0 ∷ get_or ws 4 0 ∷ get_or ws 5 0 ∷ get_or ws 6 0 ∷ get_or ws 7 0 ∷ [] ≡ ws
+-- a list of eight, by its places
+pub eight : (ws : List ℕ) → length ws ≡ 8 → get_or ws 0 0 ∷ get_or ws 1 0 ∷ get_or ws 2 0 ∷ get_or ws 3 0 ∷ get_or ws 4 0 ∷ get_or ws 5 0 ∷ get_or ws 6 0 ∷ get_or ws 7 0 ∷ [] ≡ ws
 eight [] e = absurd (omega (arith, e))
 eight (a ∷ []) e = absurd (omega (arith, e))
 eight (a ∷ b ∷ []) e = absurd (omega (arith, e))

@@ -1,2 +1,6 @@
 pub mod ByteLaws
 pub mod NumberLaws
+pub mod PairLaws
+pub mod StandingLaws
+pub mod StoredLaws
+pub mod TouchLaws

@@ -1,2 +1,7 @@
 pub mod Bytes
+pub mod LineSets
 pub mod Lines
+pub mod Pairs
+pub mod Standing
+pub mod Stored
+pub mod Touch
