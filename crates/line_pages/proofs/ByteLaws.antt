@@ -1,6 +1,7 @@
 -- What stands where in the bytes of lines and pages.
-use Rattle.std.proofs.Common.{◌≡◌, ◌≢◌, ℕ, zero, suc, ◌+◌, ◌-◌, ◌*◌, ◌^◌, ◌<◌, ◌≤◌, true, false, nat_eq, inl, inr, List, [], ◌∷◌, ◌++◌, length, take, drop, get_or, slice_index, refl, sym, ap, ◌∙◌, arith, length-append, mul-suc, mul-zero, zero-add, add-one, append_assoc, append-nil}
+use Rattle.std.proofs.Common.{◌≡◌, ◌≢◌, ℕ, zero, suc, ◌+◌, ◌-◌, ◌*◌, ◌^◌, ◌<◌, ◌≤◌, true, false, nat_eq, inl, inr, List, [], ◌∷◌, ◌++◌, length, take, drop, get_or, slice_index, slice_range, refl, sym, ap, ◌∙◌, arith, length-append, mul-suc, mul-zero, zero-add, add-one, append_assoc, append-nil, take_all, drop-drop, take-add}
 use Rattle.std.proofs.lemmas.List.{get_or_append_left, get_or-append-add, take_at, drop_at, get_or-drop, get_or-take, length-take-le}
+use Rattle.std.proofs.Math.ListN.{get_or-eq_default}
 use Rattle.std.proofs.lemmas.Bool.{cases_lt, eq-eqb, ne_eqb, and_right}
 use Rattle.byteorder.specs.Endian.{little_bytes}
 use Rattle.byteorder.specs.Numbers.{little_number-reads_back}
@@ -238,3 +239,70 @@ length-with_line xs l value size l_in = length-overwritten xs (64 * l) (line_byt
 pub line_copied : (xs : List ℕ) (f : ℕ → List ℕ) (l : ℕ) (value : Line) → length xs ≡ 4096 → l < 64
     → take (64 * l) xs ≡ pieces f 0 l → line_bytes value ≡ f l → take (64 * (l + 1)) (with_line_bytes xs l value) ≡ pieces f 0 (l + 1)
 line_copied xs f l value size l_in so_far here = piece_put 64 xs f l (line_bytes value) (length-line_bytes value) (omega (arith, size)) so_far here
+
+-- the bytes of two words
+pub two_words : (first second : ℕ) → overwritten (overwritten (0 ∷ 0 ∷ 0 ∷ 0 ∷ 0 ∷ 0 ∷ 0 ∷ 0 ∷ 0 ∷ 0 ∷ 0 ∷ 0 ∷ 0 ∷ 0 ∷ 0 ∷ 0 ∷ []) 0 (bytes_of_word first)) 8 (bytes_of_word second) ≡ word_pair first second
+unfolding bytes_of_word
+two_words first second = refl
+
+-- parts in a row are one part
+join_parts : (xs : List ℕ) (a b c : ℕ) → a ≤ b → b ≤ c → slice_range xs a b ++ slice_range xs b c ≡ slice_range xs a c
+join_parts xs a b c low high =
+    let all : c - a ≡ (b - a) + (c - b) = omega arith in
+    let on : b ≡ (b - a) + a = omega arith in
+    sym (ap (λ n. take n (drop a xs)) all ∙ take-add (b - a) (c - b) (drop a xs) ∙ ap (λ ys. take (b - a) (drop a xs) ++ take (c - b) ys) (drop-drop (b - a) a xs ∙ ap (λ n. drop n xs) (omega (arith, on))))
+
+-- equal pieces that are the parts of a list make the list
+parts_of : (s : ℕ) (xs : List ℕ) (f : ℕ → List ℕ) (i n : ℕ) → ((k : ℕ) → i ≤ k → k < i + n → f k ≡ slice_range xs (s * k) (s * k + s)) → pieces f i n ≡ slice_range xs (s * i) (s * i + s * n)
+parts_of s xs f i zero are = let none : 0 ≡ s * i + s * 0 - s * i = omega (arith, mul-zero s) in ap (λ n. take n (drop (s * i) xs)) none
+parts_of s xs f i (suc n) are =
+    let here = are i (omega arith) (omega arith) in
+    let rest = parts_of s xs f (suc i) n (λ k low high. are k (omega arith) (omega arith)) in
+    let next : s * suc i ≡ s * i + s = mul-suc s i ∙ omega arith in
+    let end : s * suc i + s * n ≡ s * i + s * suc n = omega (arith, next, mul-suc s n) in
+    ap (λ r. r ++ pieces f (suc i) n) here ∙ ap (λ r. slice_range xs (s * i) (s * i + s) ++ r) (rest ∙ ap (λ a. slice_range xs a (s * suc i + s * n)) next ∙ ap (λ b. slice_range xs (s * i + s) b) end)
+    ∙ join_parts xs (s * i) (s * i + s) (s * i + s * suc n) (omega arith) (omega (arith, mul-suc s n))
+
+-- a line whose words are those of a part has its bytes
+pub words_are_part : (xs words : List ℕ) (at : ℕ) → ((w : ℕ) → w < 8 → word_bytes words w ≡ slice_range xs (at + 8 * w) (at + 8 * w + 8)) → line_bytes (record { words = words }) ≡ slice_range xs at (at + 64)
+unfolding line_bytes
+words_are_part xs words at are =
+    parts_of 8 (drop at xs) (word_bytes words) 0 8 (λ k low high. are k (omega arith) ∙ part_from k) ∙ whole
+  where
+    part_from : (k : ℕ) → slice_range xs (at + 8 * k) (at + 8 * k + 8) ≡ slice_range (drop at xs) (8 * k) (8 * k + 8)
+    part_from k =
+        let size : at + 8 * k + 8 - (at + 8 * k) ≡ 8 * k + 8 - 8 * k = omega arith in
+        ap (λ n. take n (drop (at + 8 * k) xs)) size ∙ ap (take (8 * k + 8 - 8 * k)) (ap (λ n. drop n xs) (omega arith) ∙ sym (drop-drop (8 * k) at xs))
+
+    whole : slice_range (drop at xs) 0 64 ≡ slice_range xs at (at + 64)
+    whole = let size : 64 ≡ at + 64 - at = omega arith in ap (λ n. take n (drop at xs)) size
+
+-- lines with the bytes of the parts of a page have the page's bytes
+pub lines_are_page : (bytes : List ℕ) (lines : ℕ → Line) → length bytes ≡ 4096 → ((l : ℕ) → l < 64 → line_bytes (lines l) ≡ slice_range bytes (64 * l) (64 * l + 64)) → page_bytes lines ≡ bytes
+unfolding page_bytes
+lines_are_page bytes lines size are =
+    parts_of 64 bytes (λ l. line_bytes (lines l)) 0 64 (λ l low high. are l (omega arith)) ∙ take_all 4096 bytes (omega (arith, size))
+
+-- what holds of eight places
+pub each_of_eight : (P : ℕ → Type 0) → P 0 → P 1 → P 2 → P 3 → P 4 → P 5 → P 6 → P 7 → (w : ℕ) → w < 8 → P w
+each_of_eight P a b c d e f g h zero below = a
+each_of_eight P a b c d e f g h (suc zero) below = b
+each_of_eight P a b c d e f g h (suc (suc zero)) below = c
+each_of_eight P a b c d e f g h (suc (suc (suc zero))) below = d
+each_of_eight P a b c d e f g h (suc (suc (suc (suc zero)))) below = e
+each_of_eight P a b c d e f g h (suc (suc (suc (suc (suc zero))))) below = f
+each_of_eight P a b c d e f g h (suc (suc (suc (suc (suc (suc zero)))))) below = g
+each_of_eight P a b c d e f g h (suc (suc (suc (suc (suc (suc (suc zero))))))) below = h
+each_of_eight P a b c d e f g h (suc (suc (suc (suc (suc (suc (suc (suc w)))))))) below = absurd (omega arith)
+
+-- eight words of eight bytes each are a line
+pub eight_words : (a b c d e f g h : ℕ) → a < 2 ^ 64 → b < 2 ^ 64 → c < 2 ^ 64 → d < 2 ^ 64 → e < 2 ^ 64 → f < 2 ^ 64 → g < 2 ^ 64 → h < 2 ^ 64
+    → IsLine (record { words = a ∷ b ∷ c ∷ d ∷ e ∷ f ∷ g ∷ h ∷ [] })
+eight_words a b c d e f g h a_fits b_fits c_fits d_fits e_fits f_fits g_fits h_fits = record { eight = refl; fit = fit }
+  where
+    fit : (w : ℕ) → slice_index (a ∷ b ∷ c ∷ d ∷ e ∷ f ∷ g ∷ h ∷ []) w < 2 ^ 64
+    fit w =
+        elim (cases_lt w 8) [
+          | inl below ↦ each_of_eight (λ w. slice_index (a ∷ b ∷ c ∷ d ∷ e ∷ f ∷ g ∷ h ∷ []) w < 2 ^ 64) a_fits b_fits c_fits d_fits e_fits f_fits g_fits h_fits w below
+          | inr past ↦ let none : slice_index (a ∷ b ∷ c ∷ d ∷ e ∷ f ∷ g ∷ h ∷ []) w ≡ 0 = get_or-eq_default (a ∷ b ∷ c ∷ d ∷ e ∷ f ∷ g ∷ h ∷ []) 0 past in omega (arith, none)
+        ]

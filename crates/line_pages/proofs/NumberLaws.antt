@@ -1,7 +1,10 @@
 -- Numbers at a place of bytes, and what a write leaves.
-use Rattle.std.proofs.Common.{◌≡◌, ℕ, zero, suc, ◌+◌, ◌-◌, ◌^◌, ◌<◌, ◌≤◌, inl, inr, List, [], ◌++◌, length, take, drop, get_or, slice_range, refl, sym, ap, ◌∙◌, arith, length-append, append-nil}
+use Rattle.std.proofs.Common.{◌%◌, ◌/◌, ◌≡◌, ℕ, zero, suc, ◌+◌, ◌-◌, ◌^◌, ◌<◌, ◌≤◌, inl, inr, List, [], ◌++◌, length, take, drop, get_or, slice_range, refl, sym, ap, ◌∙◌, arith, length-append, append-nil}
 use Rattle.std.proofs.lemmas.List.{get_or_append_left, get_or-append_right, get_or-drop, get_or-take, take_all, drop_all, length-take-le, length-drop, drop-drop}
 use Rattle.std.proofs.lemmas.Bool.{cases_lt}
+use Rattle.std.proofs.Math.Nat.{div-div-eq-div-mul, div-one, pow-suc}
+use Rattle.std.proofs.Math.Seq.{drop-cons}
+use Rattle.std.specs.Int.{byte_at, bytes_low_first}
 use Rattle.std.proofs.lemmas.List.Edits.{length-between, get_or-between}
 use Rattle.std.proofs.lemmas.Grind.{same_number_lists}
 use borrow.Rule.Slice.PartMut.{put_mid, mid_of}
@@ -160,3 +163,28 @@ pub length-overwritten : (old : List ℕ) (at : ℕ) (new : List ℕ) → at + l
 length-overwritten old at new fits =
     let w : Wrote old at new (overwritten old at new) = wrote old at new fits in
     w.size
+
+-- the bytes of the number in some bytes are those bytes again
+bytes_back : (n j i x : ℕ) (xs : List ℕ) → x / 256 ^ j ≡ little_from i n xs → i + n ≤ length xs → ((k : ℕ) → get_or xs k 0 < 256) → bytes_low_first j n x ≡ take n (drop i xs)
+bytes_back zero j i x xs is fits small = refl
+bytes_back (suc n) j i x xs is fits small =
+    let first = small i in
+    let byte : byte_at j x ≡ get_or xs i 0 = byte_at-pow j x ∙ omega (arith, is, first) in
+    let up : x / 256 ^ suc j ≡ little_from (suc i) n xs = ap (λ (p : ℕ). x / p) (pow-suc 256 j) ∙ sym (div-div-eq-div-mul x (256 ^ j) 256) ∙ omega (arith, is, first) in
+    rw (drop-cons xs i 0 (omega arith), byte, bytes_back n (suc j) (suc i) x xs up (omega arith) small) refl
+  where
+    byte_at-pow : (k x : ℕ) → byte_at k x ≡ x / 256 ^ k % 256
+    byte_at-pow zero x = ap (λ (y : ℕ). y % 256) (sym (div-one x))
+    byte_at-pow (suc k) x = refl
+
+pub half_bytes : (xs : List ℕ) (at : ℕ) → at + 2 ≤ length xs → ((k : ℕ) → get_or xs k 0 < 256) → bytes_of_half (u16_at xs at) ≡ slice_range xs at (at + 2)
+unfolding u16_at bytes_of_half
+half_bytes xs at fits small =
+    let all : 2 ≡ at + 2 - at = omega arith in
+    bytes_back 2 0 at (little_from at 2 xs) xs (div-one (little_from at 2 xs)) fits small ∙ ap (λ n. take n (drop at xs)) all
+
+pub word_bytes : (xs : List ℕ) (at : ℕ) → at + 8 ≤ length xs → ((k : ℕ) → get_or xs k 0 < 256) → bytes_of_word (u64_at xs at) ≡ slice_range xs at (at + 8)
+unfolding u64_at bytes_of_word
+word_bytes xs at fits small =
+    let all : 8 ≡ at + 8 - at = omega arith in
+    bytes_back 8 0 at (little_from at 8 xs) xs (div-one (little_from at 8 xs)) fits small ∙ ap (λ n. take n (drop at xs)) all

@@ -6,6 +6,7 @@ mod line_set;
 mod number;
 mod page;
 mod pages;
+mod reads;
 mod stop;
 #[cfg(test)]
 mod tests;
@@ -16,6 +17,7 @@ pub use line_set::LineSet;
 pub use number::{get_half, get_word, put_half, put_word};
 pub use page::{page_half, page_line, page_word, set_page_half, set_page_line, set_page_word};
 pub use pages::Pages;
+pub use reads::{copy_page, read_half, read_word};
 pub use stop::{Evidence, Stop};
 pub use touches::{Mark, Touches};
 pub use vec_pages::VecPages;

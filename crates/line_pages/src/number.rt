@@ -1,5 +1,5 @@
 //! Numbers of two and of eight bytes at a place of bytes, the lowest byte first.
-ghost use Rattle.std.specs.Prelude.{◌≡◌, ◌+◌, ◌≤◌, length};
+ghost use Rattle.std.specs.Prelude.{◌≡◌, ◌+◌, ◌≤◌, length, slice_range};
 ghost use Rattle.ssd_model.specs.Page.{Same};
 ghost use Rattle.line_pages.specs.Bytes.{u16_at, u64_at, bytes_of_half, bytes_of_word, overwritten};
 
@@ -9,7 +9,8 @@ use byteorder::{ByteOrder, LittleEndian};
 #[tactic(auto, using(crate::proofs::NumberLaws::reads_half), unfolding(crate::specs::Bytes::u16_at))]
 pub fn get_half(bytes: &[u8], at: usize) -> u16
     requires { at + 2 ≤ length bytes.now }
-    ensures { result ≡ u16_at bytes.now at }
+    ensures value { result ≡ u16_at bytes.now at }
+    ensures bytes { bytes_of_half result ≡ slice_range bytes.now at (at + 2) }
 {
     LittleEndian::read_u16(&bytes[at..])
 }
@@ -18,7 +19,8 @@ pub fn get_half(bytes: &[u8], at: usize) -> u16
 #[tactic(auto, using(crate::proofs::NumberLaws::reads_word), unfolding(crate::specs::Bytes::u64_at))]
 pub fn get_word(bytes: &[u8], at: usize) -> u64
     requires { at + 8 ≤ length bytes.now }
-    ensures { result ≡ u64_at bytes.now at }
+    ensures value { result ≡ u64_at bytes.now at }
+    ensures bytes { bytes_of_word result ≡ slice_range bytes.now at (at + 8) }
 {
     LittleEndian::read_u64(&bytes[at..])
 }

@@ -1,5 +1,5 @@
 //! The bytes of a page as lines of words, and numbers at its places.
-ghost use Rattle.std.specs.Prelude.{◌≡◌, ◌+◌, ◌<◌, ◌≤◌, length, slice_range};
+ghost use Rattle.std.specs.Prelude.{◌≡◌, ◌+◌, ◌*◌, ◌<◌, ◌≤◌, length, slice_range};
 ghost use Rattle.ssd_model.specs.Page.{Same};
 ghost use Rattle.line_pages.specs.Lines.{IsLine};
 ghost use Rattle.line_pages.specs.Bytes.{u16_at, u64_at, bytes_of_half, bytes_of_word, overwritten, line_bytes, line_at, with_line_bytes};
@@ -12,6 +12,7 @@ use ssd_model::PageBuf;
 pub fn page_half(page: &PageBuf, at: usize) -> u16
     requires { at + 2 ≤ 4096 }
     ensures value { result ≡ u16_at page.now at }
+    ensures bytes { bytes_of_half result ≡ slice_range page.now at (at + 2) }
     ensures size { length page.now ≡ 4096 }
 {
     get_half(page.bytes(), at)
@@ -21,6 +22,7 @@ pub fn page_half(page: &PageBuf, at: usize) -> u16
 pub fn page_word(page: &PageBuf, at: usize) -> u64
     requires { at + 8 ≤ 4096 }
     ensures value { result ≡ u64_at page.now at }
+    ensures bytes { bytes_of_word result ≡ slice_range page.now at (at + 8) }
     ensures size { length page.now ≡ 4096 }
 {
     get_word(page.bytes(), at)
@@ -56,6 +58,7 @@ pub fn set_page_word(page: &mut PageBuf, at: usize, value: u64)
 pub fn page_line(page: &PageBuf, line: usize) -> Line
     requires { line < 64 }
     ensures value { result ≡ line_at page.now line }
+    ensures bytes { line_bytes result ≡ slice_range page.now (64 * line) (64 * line + 64) }
     ensures is_line { IsLine result }
     ensures size { length page.now ≡ 4096 }
 {

@@ -1,0 +1,51 @@
+use Rattle.std.proofs.Common.{◌≡◌, ◌+◌, ◌*◌, take, IsTrue, arith, refl, ap, sym, subst, ◌∙◌}
+use Rattle.std.proofs.lemmas.List.{take_all}
+use Rattle.line_pages.specs.Bytes.{pieces, line_bytes, page_bytes}
+use Rattle.line_pages.proofs.ByteLaws.{line_copied}
+use Rattle.line_pages.proofs.StandingLaws.{Continues-trans, ReadsPage-trans, one_read}
+use Rattle.line_pages.proofs.reads.copy_page.Goals as goal
+
+pub loop-line-init : goal.loop-line-init
+loop-line-init g c =
+    let read = c.in_ok-header.ensures in
+    record {
+      ready = read.ready;
+      steady = read.steady;
+      continues = read.continues;
+      reads = one_read c.in_ok-header.header read.continues.told read.reads;
+      nvm_kept = read.cause.kept.0;
+      ssd_kept = read.cause.kept.1;
+      size = c.set_page_line.ensures.size;
+      copied = λ told. ap (take 64) c.set_page_line.ensures.bytes
+          ∙ line_copied c.args.into.now (λ k. line_bytes ((g.P.Pages.standing c.args.pages.now).current c.args.page k)) 0 c.in_ok-header.header c.set_page_line.ensures.size_old (omega arith) refl (ap line_bytes (read.value told));
+    }
+
+pub loop-line-preserved : goal.loop-line-preserved
+loop-line-preserved g c =
+    let read = c.in_ok-value.ensures in
+    let before = c.loop-line.invariant in
+    let l = c.loop-line.line in
+    let old = g.P.Pages.standing c.args.pages.now in
+    record {
+      ready = read.ready;
+      steady = λ steady. read.steady (before.steady steady);
+      continues = Continues-trans before.continues before.steady read.continues;
+      reads = ReadsPage-trans before.reads (one_read c.in_ok-value.value read.continues.told read.reads);
+      nvm_kept = read.cause.kept.0 ∙ before.nvm_kept;
+      ssd_kept = read.cause.kept.1 ∙ before.ssd_kept;
+      size = c.set_page_line-in-loop-line.ensures.size;
+      copied = λ told. ap (take (64 * (l + 1))) c.set_page_line-in-loop-line.ensures.bytes
+          ∙ line_copied c.loop-line.into (λ k. line_bytes (old.current c.args.page k)) l c.in_ok-value.value before.size c.loop-line-test.true
+          (before.copied told)
+          (ap line_bytes (read.value (subst IsTrue (sym before.continues.told) told) ∙ ap (λ lines. lines c.args.page l) (before.reads.current told)));
+    }
+
+pub returns-clause-bytes : goal.returns-clause-bytes
+unfolding page_bytes
+returns-clause-bytes g c =
+    λ told.
+    let before = c.loop-line.invariant in
+    let all : c.loop-line.line ≡ 64 = omega arith in
+    sym (take_all 4096 c.loop-line.into (omega (arith, before.size)))
+    ∙ ap (λ k. take (64 * k) c.loop-line.into) (sym all) ∙ before.copied told
+    ∙ ap (pieces (λ k. line_bytes ((g.P.Pages.standing c.args.pages.now).current c.args.page k)) 0) all

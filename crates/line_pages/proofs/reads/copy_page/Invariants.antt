@@ -1,0 +1,17 @@
+-- So far the lines below are in their place, by reads of this page alone.
+use Rattle.std.proofs.Common.{◌≡◌, ◌*◌, length, take, IsTrue}
+use Rattle.line_pages.specs.Bytes.{pieces, line_bytes}
+use Rattle.line_pages.specs.Standing.{Continues, ReadsPage}
+use Rattle.line_pages.proofs.reads.copy_page.Given as goal
+
+abbrev pub invariant-loop-line : goal.invariant-loop-line
+invariant-loop-line g l = record {
+  ready : g.P.Pages.is_ready l.pages;
+  steady : g.P.Pages.is_steady l.fn.pages → g.P.Pages.is_steady l.pages;
+  continues : Continues (g.P.Pages.may_leave l.fn.pages) (g.P.Pages.may_leave l.pages) (g.P.Pages.is_steady l.fn.pages) (g.P.Pages.standing l.fn.pages) (g.P.Pages.standing l.pages);
+  reads : ReadsPage l.page (g.P.Pages.standing l.fn.pages) (g.P.Pages.standing l.pages);
+  nvm_kept : (g.P.Pages.standing l.pages).nvm_faults ≡ (g.P.Pages.standing l.fn.pages).nvm_faults;
+  ssd_kept : (g.P.Pages.standing l.pages).ssd_faults ≡ (g.P.Pages.standing l.fn.pages).ssd_faults;
+  size : length l.into ≡ 4096;
+  copied : IsTrue (g.P.Pages.standing l.fn.pages).told → take (64 * l.line) l.into ≡ pieces (λ k. line_bytes ((g.P.Pages.standing l.fn.pages).current l.page k)) 0 l.line;
+}
