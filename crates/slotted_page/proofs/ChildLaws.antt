@@ -1,17 +1,17 @@
 -- The children of an inner page by index, and a search among them.
-use Rattle.std.proofs.Common.{◌≡◌, ◌≢◌, ℕ, zero, suc, ◌+◌, ◌-◌, ◌*◌, ◌<◌, ◌≤◌, inl, inr, Bool, true, false, List, [], ◌∷◌, length, get_or, Some, nat_eq, ◌&&◌, refl, sym, ap, ◌∙◌, arith, slice_get}
+use Rattle.std.proofs.Common.{◌≡◌, ◌≢◌, ℕ, zero, suc, ◌+◌, ◌-◌, ◌*◌, ◌<◌, ◌≤◌, inl, inr, Bool, true, false, List, [], ◌∷◌, length, get_or, Some, nat_eq, nat_lt, nat_le, ◌&&◌, refl, sym, ap, ◌∙◌, arith, slice_get}
 use Rattle.std.specs.List.{list_all}
-use Rattle.std.proofs.lemmas.Bool.{cases_eq, eqb-true, ltb-true, ne_eqb, eq-eqb, and_parts}
+use Rattle.std.proofs.lemmas.Bool.{cases_eq, eqb-true, lt-ltb, ltb-true, le-leb, leb-true, ne_eqb, and_parts}
 use Rattle.std.proofs.lemmas.List.{length-map, get_or-map}
 use Rattle.line_pages.specs.Bytes.{u64_at}
 use Rattle.slotted_page.specs.declared.root.Expect.{Expect}
-use Rattle.slotted_page.specs.Rows.{Ascends, last_key}
+use Rattle.slotted_page.specs.Rows.{last_key}
 use Rattle.slotted_page.specs.Node.{Child, children, entry_count, first_keys, begins_at, is_page_below, IsWellFormed}
-use Rattle.slotted_page.specs.Spans.{Span, spans, reach}
+use Rattle.slotted_page.specs.Spans.{spans}
 use Rattle.slotted_page.specs.Search.{is_root_span}
 use Rattle.slotted_page.proofs.InnerLemmas.{length_children, child_at}
 use Rattle.slotted_page.proofs.KeyLaws.{Ascends-first, Ascends-last, Ascends-at}
-use Rattle.slotted_page.proofs.PageFacts.{InnerFacts, inner_facts}
+use Rattle.slotted_page.proofs.PageFacts.{inner_facts}
 
 -- up to which key the child before an index reaches
 pub record Reaches (cs : List Child) (next high most : ℕ) : Type 0 where
@@ -23,7 +23,10 @@ span_at : (cs : List Child) (at high most : ℕ) (d : Child) → at < length cs 
 span_at [] at high most d h is = absurd (omega arith)
 span_at (c ∷ []) zero high most d h is = ap (λ (n : ℕ). Some (record { page = c.1; low = c.0; high = n })) (sym (is.last_is (omega arith)))
 span_at (c ∷ next ∷ rest) zero high most d h is = ap (λ (n : ℕ). Some (record { page = c.1; low = c.0; high = n })) (sym (is.next_is (omega arith) d))
-span_at (c ∷ rest) (suc at) high most d h is = span_at rest at high most d (omega arith) (record { next_is = λ low. is.next_is (omega arith); last_is = λ past. is.last_is (omega arith) })
+span_at (c ∷ rest) (suc at) high most d h is = span_at rest at high most d (omega arith) (record { next_is = λ low e. is.next_is (omega arith) e ∙ ap (λ (k : ℕ). (get_or (c ∷ rest) k e).0 - 1) (step at); last_is = λ past. is.last_is (omega arith) })
+  where
+    step : (at : ℕ) → suc at + 1 ≡ suc (at + 1)
+    step at = omega arith
 
 -- the span of a child by its parts
 pub span_is : (cs : List Child) (at high page least most : ℕ) (d : Child) → at < length cs → Reaches cs (at + 1) high most → page ≡ (get_or cs at d).1 → least ≡ (get_or cs at d).0
@@ -171,3 +174,12 @@ probed_key bytes i key d h is = is ∙ sym (ap (λ (child : Child). child.0) (ch
 
 pub probed_page : (bytes : List ℕ) (i page : ℕ) (d : Child) → i < entry_count bytes → page ≡ u64_at bytes (72 + 16 * i) → page ≡ (get_or (children bytes) i d).1
 probed_page bytes i page d h is = is ∙ sym (ap (λ (child : Child). child.1) (child_at bytes i d h))
+
+-- the tests of a key and of a page that were read
+pub inside_is : (expect : Expect) (key : ℕ) → Inside expect key → (nat_lt expect.low key && nat_le key expect.high) ≡ true
+inside_is expect key is = rw (lt-ltb expect.low key is.low, le-leb key expect.high is.high) refl
+
+pub inside_of : (expect : Expect) (key : ℕ) → (nat_lt expect.low key && nat_le key expect.high) ≡ true → Inside expect key
+inside_of expect key e =
+    let parts = and_parts (nat_lt expect.low key) (nat_le key expect.high) e in
+    record { low = ltb-true expect.low key parts.0; high = leb-true key expect.high parts.1 }

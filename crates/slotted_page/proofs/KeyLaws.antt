@@ -1,5 +1,5 @@
 -- The keys of a leaf by index, and a search among them.
-use Rattle.std.proofs.Common.{◌≡◌, ◌≢◌, ℕ, zero, suc, ◌+◌, ◌*◌, ◌<◌, ◌≤◌, inl, inr, List, [], ◌∷◌, length, take, drop, get_or, Some, ap, ◌∙◌, arith, slice_get}
+use Rattle.std.proofs.Common.{◌≡◌, ℕ, zero, suc, ◌+◌, ◌*◌, ◌<◌, ◌≤◌, inl, inr, List, [], ◌∷◌, length, take, drop, get_or, Some, sym, ap, ◌∙◌, arith, slice_get}
 use Rattle.std.proofs.lemmas.Bool.{cases_eq}
 use Rattle.std.proofs.lemmas.List.{length-map, get_or-map}
 use Rattle.line_pages.specs.Bytes.{u16_at, u64_at}
@@ -86,3 +86,7 @@ place_inside bytes expect i leaf well inside =
     let facts = leaf_facts bytes expect leaf well in
     let own = in_heap_one (heap_start bytes) (get_or (slots bytes) i d) (each_in_heap (heap_start bytes) (slots bytes) i d facts.in_heap (omega (arith, inside, length-slots bytes))) in
     omega (arith, own.below, own.key, ap (λ (slot : Slot). slot.place) (slot_at bytes i d inside), ap (λ (slot : Slot). slot.size) (slot_at bytes i d inside))
+
+-- the key that a search reads is that of the row
+pub probed : (bytes : List ℕ) (at place found : ℕ) → at < entry_count bytes → place ≡ u16_at bytes (64 + 4 * at) → found ≡ u64_at bytes place → found ≡ get_or (keys (leaf_rows bytes)) at 0
+probed bytes at place found h slot is = is ∙ ap (u64_at bytes) slot ∙ sym (key_at bytes at h)

@@ -9,3 +9,8 @@ pub mod InnerLemmas
 pub mod CheckLemmas
 pub mod BranchLemmas
 pub mod SetLemmas
+pub mod PageFacts
+pub mod KeyLaws
+pub mod ChildLaws
+pub mod DamageLaws
+pub mod OpenLaws

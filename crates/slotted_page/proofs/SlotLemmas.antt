@@ -46,7 +46,7 @@ in_heap_one heap slot ok =
 pub in_heap_is : (heap : ℕ) (slot : Slot) → InHeap heap slot → is_in_heap heap slot ≡ true
 in_heap_is heap slot is = rw (le-leb heap slot.place is.above, le-leb (slot.place + slot.size) 4096 is.below, le-leb 8 slot.size is.key, le-leb slot.size 488 is.value) refl
 
-each_in_heap : (heap : ℕ) (all : List Slot) (i : ℕ) (d : Slot) → list_all (is_in_heap heap) all ≡ true → i < length all → is_in_heap heap (get_or all i d) ≡ true
+pub each_in_heap : (heap : ℕ) (all : List Slot) (i : ℕ) (d : Slot) → list_all (is_in_heap heap) all ≡ true → i < length all → is_in_heap heap (get_or all i d) ≡ true
 each_in_heap heap [] i d ok h = absurd (omega arith)
 each_in_heap heap (slot ∷ rest) zero d ok h = (and_parts (is_in_heap heap slot) (list_all (is_in_heap heap) rest) ok).0
 each_in_heap heap (slot ∷ rest) (suc i) d ok h = each_in_heap heap rest i d (and_parts (is_in_heap heap slot) (list_all (is_in_heap heap) rest) ok).1 (omega arith)

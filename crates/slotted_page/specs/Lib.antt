@@ -6,3 +6,5 @@ pub mod Sound
 pub mod Inner
 pub mod Value
 pub mod Work
+pub mod Spans
+pub mod Search

@@ -83,8 +83,20 @@ fn header_fits(header: &Header, expect: &Expect) -> bool
         return false;
     }
     if expect.level == 0 {
-        return header.kind == 1 && header.count <= 1008;
+        return is_leaf(header);
     }
+    is_inner(header)
+}
+
+fn is_leaf(header: &Header) -> bool
+    ensures { result ≡ (header.now.kind == 1 && nat_le header.now.count 1008) }
+{
+    header.kind == 1 && header.count <= 1008
+}
+
+fn is_inner(header: &Header) -> bool
+    ensures { result ≡ (header.now.kind == 2 && nat_le 2 header.now.count && nat_le header.now.count 240) }
+{
     header.kind == 2 && 2 <= header.count && header.count <= 240
 }
 
