@@ -1,5 +1,5 @@
 -- What stands where in the bytes of lines and pages.
-use Rattle.std.proofs.Common.{◌≡◌, ◌≢◌, ℕ, zero, suc, ◌+◌, ◌-◌, ◌*◌, ◌^◌, ◌<◌, ◌≤◌, true, false, nat_eq, inl, inr, List, [], ◌∷◌, ◌++◌, length, take, drop, get_or, slice_index, slice_range, refl, sym, ap, ◌∙◌, arith, length-append, mul-suc, mul-zero, zero-add, add-one, append_assoc, append-nil, take_all, drop-drop, take-add}
+use Rattle.std.proofs.Common.{◌≡◌, ◌≢◌, ℕ, zero, suc, ◌+◌, ◌-◌, ◌*◌, ◌^◌, ◌<◌, ◌≤◌, true, false, nat_eq, inl, inr, List, [], ◌∷◌, ◌++◌, length, take, drop, get_or, slice_index, slice_range, refl, sym, ap, ◌∙◌, arith, length-append, mul-suc, mul-zero, zero-add, add-one, append_assoc, append-nil, take_all, drop-drop, take-add, add-zero}
 use Rattle.std.proofs.lemmas.List.{get_or_append_left, get_or-append-add, take_at, drop_at, get_or-drop, get_or-take, length-take-le}
 use Rattle.std.proofs.Math.ListN.{get_or-eq_default}
 use Rattle.std.proofs.lemmas.Bool.{cases_lt, eq-eqb, ne_eqb, and_right}
@@ -8,7 +8,7 @@ use Rattle.byteorder.specs.Numbers.{little_number-reads_back}
 use Rattle.nvm_model.specs.declared.line.Line.{Line}
 use Rattle.line_pages.specs.Lines.{Lines, with_line, IsLine}
 use Rattle.line_pages.specs.Bytes.{u16_at, u64_at, pieces, bytes_of_half, bytes_of_word, word_bytes, line_bytes, page_bytes, bytes_of, line_at, overwritten, with_line_bytes, word_pair}
-use Rattle.line_pages.proofs.NumberLaws.{little_from-same, length-overwritten}
+use Rattle.line_pages.proofs.NumberLaws.{little_from-same, length-overwritten, Wrote, wrote, u64_at-same}
 
 pub length-pieces : (s : ℕ) (f : ℕ → List ℕ) → ((i : ℕ) → length (f i) ≡ s) → (i n : ℕ) → length (pieces f i n) ≡ s * n
 length-pieces s f each i zero = sym (mul-zero s)
@@ -305,4 +305,76 @@ eight_words a b c d e f g h a_fits b_fits c_fits d_fits e_fits f_fits g_fits h_f
         elim (cases_lt w 8) [
           | inl below ↦ each_of_eight (λ w. slice_index (a ∷ b ∷ c ∷ d ∷ e ∷ f ∷ g ∷ h ∷ []) w < 2 ^ 64) a_fits b_fits c_fits d_fits e_fits f_fits g_fits h_fits w below
           | inr past ↦ let none : slice_index (a ∷ b ∷ c ∷ d ∷ e ∷ f ∷ g ∷ h ∷ []) w ≡ 0 = get_or-eq_default (a ∷ b ∷ c ∷ d ∷ e ∷ f ∷ g ∷ h ∷ []) 0 past in omega (arith, none)
+        ]
+
+-- a number within what was put at a place
+put_number : (bytes new : List ℕ) (at k : ℕ) → at + length new ≤ length bytes → k + 8 ≤ length new → u64_at (overwritten bytes at new) (at + k) ≡ u64_at new k
+unfolding u64_at
+put_number bytes new at k fits within =
+    let w : Wrote bytes at new (overwritten bytes at new) = wrote bytes at new fits in
+    little_from-same (at + k) k 8 (overwritten bytes at new) new (λ j j_in. ap (λ (p : ℕ). get_or (overwritten bytes at new) p 0) (omega arith) ∙ w.here (k + j) (omega arith))
+
+-- a word of a line in the line's bytes
+word_in_line : (line : Line) (w k : ℕ) → w < 8 → k ≡ 8 * w → slice_index line.words w < 2 ^ 64 → u64_at (line_bytes line) k ≡ slice_index line.words w
+unfolding u64_at line_bytes bytes_of_word
+word_in_line line w k w_in is fits =
+    let word = slice_index line.words w in
+    little_from-same k 0 8 (line_bytes line) (little_bytes 8 word ++ [])
+    (λ j j_in.
+    let place : k + j ≡ 8 * w + j = omega (arith, is) in
+    let here : 0 + w ≡ w = omega arith in
+    let same : j ≡ 0 + j = omega arith in
+    ap (λ p. get_or (line_bytes line) p 0) place ∙ get_or-pieces 8 (word_bytes line.words) (length-word_bytes line.words) 0 8 w j w_in j_in
+    ∙ ap (λ p. get_or (word_bytes line.words p) j 0) here ∙ ap (λ p. get_or (little_bytes 8 word) p 0) same
+    ∙ sym (ap (λ xs. get_or xs (0 + j) 0) (append-nil (little_bytes 8 word))))
+    ∙ little_number-reads_back 8 word [] fits
+
+-- a line that was put into a page is the line there
+pub line_at-written : (bytes : List ℕ) (l : ℕ) (value : Line) → length bytes ≡ 4096 → l < 64 → IsLine value → line_at (with_line_bytes bytes l value) l ≡ value
+line_at-written bytes l value size l_in is =
+    rw (
+      first,
+      word 1 8 (omega arith) (omega arith),
+      word 2 16 (omega arith) (omega arith),
+      word 3 24 (omega arith) (omega arith),
+      word 4 32 (omega arith) (omega arith),
+      word 5 40 (omega arith) (omega arith),
+      word 6 48 (omega arith) (omega arith),
+      word 7 56 (omega arith) (omega arith),
+    )
+    (ap (λ ws. record { words = ws }) (eight value.words is.eight))
+  where
+    word : (w k : ℕ) → w < 8 → k ≡ 8 * w → u64_at (with_line_bytes bytes l value) (64 * l + k) ≡ get_or value.words w 0
+    word w k w_in e =
+        put_number bytes (line_bytes value) (64 * l) k (omega (arith, size, length-line_bytes value)) (omega (arith, e, length-line_bytes value))
+        ∙ word_in_line value w k w_in e (is.fit w)
+
+    first : u64_at (with_line_bytes bytes l value) (64 * l) ≡ get_or value.words 0 0
+    first = ap (λ (p : ℕ). u64_at (with_line_bytes bytes l value) p) (sym (add-zero (64 * l))) ∙ word 0 0 (omega arith) (omega arith)
+
+-- the other lines of the page are as they were
+pub line_at-other : (bytes : List ℕ) (l m : ℕ) (value : Line) → length bytes ≡ 4096 → l < 64 → m < 64 → m ≢ l → line_at (with_line_bytes bytes l value) m ≡ line_at bytes m
+line_at-other bytes l m value size l_in m_in apart =
+    rw (
+      word (64 * m) (omega arith) (omega arith),
+      word (64 * m + 8) (omega arith) (omega arith),
+      word (64 * m + 16) (omega arith) (omega arith),
+      word (64 * m + 24) (omega arith) (omega arith),
+      word (64 * m + 32) (omega arith) (omega arith),
+      word (64 * m + 40) (omega arith) (omega arith),
+      word (64 * m + 48) (omega arith) (omega arith),
+      word (64 * m + 56) (omega arith) (omega arith),
+    )
+    refl
+  where
+    changed : Wrote bytes (64 * l) (line_bytes value) (with_line_bytes bytes l value)
+    changed = wrote bytes (64 * l) (line_bytes value) (omega (arith, size, length-line_bytes value))
+
+    word : (at : ℕ) → 64 * m ≤ at → at + 8 ≤ 64 * m + 64 → u64_at (with_line_bytes bytes l value) at ≡ u64_at bytes at
+    word at low high =
+        elim (cases_lt m l) [
+          | inl before ↦ u64_at-same 0 (64 * l) at bytes (with_line_bytes bytes l value) changed.before (omega arith) (omega arith)
+          | inr past ↦
+              let after : l < m = omega (arith, apart) in
+              u64_at-same (64 * l + length (line_bytes value)) (length bytes) at bytes (with_line_bytes bytes l value) changed.after (omega (arith, after, length-line_bytes value)) (omega (arith, size))
         ]

@@ -1,4 +1,6 @@
 pub mod ByteLaws
+pub mod CauseLaws
+pub mod LineLaws
 pub mod NumberLaws
 pub mod PairLaws
 pub mod StandingLaws
