@@ -15,6 +15,8 @@ mod probe;
 mod read;
 mod root;
 mod scan;
+#[cfg(test)]
+mod tests;
 mod value;
 mod work;
 
