@@ -104,6 +104,7 @@ pub fn inner_join(left: &mut PageBuf, right: &mut PageBuf, key: u64) -> bool
     ensures right_rest { Same 3904 4096 right.old right.new }
     ensures joined { result ≡ true → IsJoinedBranch left.old right.old left.new }
     ensures divided { result ≡ false → IsDividedBranch left.old right.old left.new right.new }
+    ensures kept { result ≡ true → right.new ≡ right.old }
 {
     let n = children(left);
     let m = children(right);

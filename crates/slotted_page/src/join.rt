@@ -93,6 +93,7 @@ pub fn leaf_join(left: &mut PageBuf, right: &mut PageBuf) -> bool
     requires low { (row_bytes (rows_of left.old) < 1344) ⊎ (row_bytes (rows_of right.old) < 1344) }
     ensures joined { result ≡ true → IsJoined left.old right.old left.new }
     ensures divided { result ≡ false → IsDivided left.old right.old left.new right.new }
+    ensures kept { result ≡ true → right.new ≡ right.old }
 {
     let n = open_leaf(left);
     let m = open_leaf(right);
