@@ -192,6 +192,7 @@ fn check_leaf(page: &PageBuf, expect: &Expect) -> Result<(), u8>
     requires { expect.now.level ≡ 0 }
     ensures ok { OnOk result (first_failing page.now expect.now ≡ None) }
     ensures err { IfErr result (λ number. first_failing page.now expect.now ≡ Some number) }
+    ensures size { length page.now ≡ 4096 }
 {
     if !word_is(page, 0, 1) {
         return Err(11);
@@ -300,6 +301,7 @@ fn check_inner(page: &PageBuf, expect: &Expect) -> Result<(), u8>
     requires { 1 ≤ expect.now.level }
     ensures ok { OnOk result (first_failing page.now expect.now ≡ None) }
     ensures err { IfErr result (λ number. first_failing page.now expect.now ≡ Some number) }
+    ensures size { length page.now ≡ 4096 }
 {
     if !word_is(page, 0, 2) {
         return Err(11);
@@ -328,6 +330,7 @@ fn check_inner(page: &PageBuf, expect: &Expect) -> Result<(), u8>
 pub fn well_formed(page: &PageBuf, expect: &Expect) -> Result<(), u8>
     ensures ok { OnOk result (first_failing page.now expect.now ≡ None) }
     ensures err { IfErr result (λ number. first_failing page.now expect.now ≡ Some number) }
+    ensures size { length page.now ≡ 4096 }
 {
     if expect.level == 0 {
         return check_leaf(page, expect);
