@@ -42,7 +42,7 @@ fn any_leaf() -> Expect {
 }
 
 /// What the page of a tree of two levels is expected to be.
-fn fork(root: bool) -> Expect {
+fn any_inner(root: bool) -> Expect {
     Expect {
         level: 1,
         low: 0,
@@ -100,7 +100,7 @@ fn leaf_by_hand() -> PageBuf {
 }
 
 /// An inner page of two children: page 7 from key 0 on, page 9 from key 50 on.
-fn fork_by_hand() -> PageBuf {
+fn inner_by_hand() -> PageBuf {
     let mut page = PageBuf::zero();
     set_page_word(&mut page, 0, 2);
     set_page_word(&mut page, 8, 2);
@@ -130,12 +130,12 @@ fn leaf_with_half(at: usize, value: u16) -> Result<(), u8>
 }
 
 /// The check that an inner page fails after one of its words was changed.
-fn fork_with_word(at: usize, value: u64) -> Result<(), u8>
+fn inner_with_word(at: usize, value: u64) -> Result<(), u8>
     requires { at + 8 ≤ 4096 }
 {
-    let mut page = fork_by_hand();
+    let mut page = inner_by_hand();
     set_page_word(&mut page, at, value);
-    well_formed(&page, &fork(true))
+    well_formed(&page, &any_inner(true))
 }
 
 #[test]
@@ -172,16 +172,16 @@ fn leaves_fail_each_check(rt: HostRuntime) {
 
 #[test]
 fn inner_pages_fail_each_check(rt: HostRuntime) {
-    assert!(rt; fork_with_word(0, 2) == Ok(()));
-    assert!(rt; fork_with_word(0, 1) == Err(11));
-    assert!(rt; fork_with_word(16, 2) == Err(12));
-    assert!(rt; fork_with_word(8, 1) == Err(18));
-    assert!(rt; fork_with_word(8, 241) == Err(18));
-    assert!(rt; fork_with_word(64, 1) == Err(19));
-    assert!(rt; fork_with_word(80, 0) == Err(19));
-    assert!(rt; fork_with_word(88, 0) == Err(20));
-    assert!(rt; fork_with_word(72, 300) == Err(20));
-    assert!(rt; well_formed(&fork_by_hand(), &fork(false)) == Err(22));
+    assert!(rt; inner_with_word(0, 2) == Ok(()));
+    assert!(rt; inner_with_word(0, 1) == Err(11));
+    assert!(rt; inner_with_word(16, 2) == Err(12));
+    assert!(rt; inner_with_word(8, 1) == Err(18));
+    assert!(rt; inner_with_word(8, 241) == Err(18));
+    assert!(rt; inner_with_word(64, 1) == Err(19));
+    assert!(rt; inner_with_word(80, 0) == Err(19));
+    assert!(rt; inner_with_word(88, 0) == Err(20));
+    assert!(rt; inner_with_word(72, 300) == Err(20));
+    assert!(rt; well_formed(&inner_by_hand(), &any_inner(false)) == Err(22));
 }
 
 /// Puts a row where it belongs. False where the page is no leaf, the key is there, or the row does not fit.
@@ -435,7 +435,7 @@ fn a_full_heap_is_packed(rt: HostRuntime) {
 }
 
 /// An inner page of so many children at level 1: page `i + 1` from key `first + 10 * i` on.
-fn fork_of(count: usize, first: u64) -> PageBuf
+fn inner_of(count: usize, first: u64) -> PageBuf
     requires count { count ≤ 240 }
     requires first { first ≤ 1000000 }
 {
@@ -451,7 +451,7 @@ fn fork_of(count: usize, first: u64) -> PageBuf
 }
 
 /// Whether a page is an inner page that is well formed in itself.
-fn is_fork(page: &PageBuf) -> bool
+fn is_branch(page: &PageBuf) -> bool
     ensures { result ≡ true → IsBranch page.now }
 {
     let expect = Expect {
@@ -481,7 +481,7 @@ fn is_above(page: &PageBuf, key: u64) -> bool
 
 /// Puts a child behind the others. False where the page is none of children, is full, or the key is not above the others.
 fn add_child(page: &mut PageBuf, key: u64, child: u64) -> bool {
-    if !is_fork(page) {
+    if !is_branch(page) {
         return false;
     }
     let count = children(page);
@@ -496,8 +496,8 @@ fn add_child(page: &mut PageBuf, key: u64, child: u64) -> bool {
 }
 
 /// Cuts an inner page with a child put behind the others.
-fn cut_fork(left: &mut PageBuf, right: &mut PageBuf, key: u64, child: u64) -> bool {
-    if !is_fork(left) {
+fn cut_inner(left: &mut PageBuf, right: &mut PageBuf, key: u64, child: u64) -> bool {
+    if !is_branch(left) {
         return false;
     }
     let count = children(left);
@@ -523,11 +523,11 @@ fn begins_before(left: &PageBuf, right: &PageBuf) -> bool
 }
 
 /// Joins two inner pages. `None` where one is none, or they are not in order.
-fn join_forks(left: &mut PageBuf, right: &mut PageBuf) -> Option<bool> {
-    if !is_fork(left) {
+fn join_inners(left: &mut PageBuf, right: &mut PageBuf) -> Option<bool> {
+    if !is_branch(left) {
         return None;
     }
-    if !is_fork(right) {
+    if !is_branch(right) {
         return None;
     }
     if children(right) == 0 || !begins_before(left, right) {
@@ -539,7 +539,7 @@ fn join_forks(left: &mut PageBuf, right: &mut PageBuf) -> Option<bool> {
 
 /// Takes out the first child. False where the page is no inner page.
 fn remove_first(page: &mut PageBuf) -> bool {
-    if !is_fork(page) {
+    if !is_branch(page) {
         return false;
     }
     if children(page) == 0 {
@@ -551,7 +551,7 @@ fn remove_first(page: &mut PageBuf) -> bool {
 
 /// The number of children, and the key and the page of the last one; zeros for a page that is no inner page.
 fn last_child(page: &PageBuf) -> (usize, u64, u64) {
-    if !is_fork(page) {
+    if !is_branch(page) {
         return (0, 0, 0);
     }
     let count = children(page);
@@ -563,22 +563,22 @@ fn last_child(page: &PageBuf) -> (usize, u64, u64) {
 
 #[test]
 fn children_of_241_are_cut_into_121_and_120(rt: HostRuntime) {
-    let mut left = fork_of(239, 0);
+    let mut left = inner_of(239, 0);
     let mut right = PageBuf::zero();
     assert!(rt; add_child(&mut left, 5000, 7));
     assert!(rt; !add_child(&mut left, 6000, 8));
     assert_eq!(rt; last_child(&left), (240, 5000, 7));
-    assert!(rt; cut_fork(&mut left, &mut right, 6000, 8));
+    assert!(rt; cut_inner(&mut left, &mut right, 6000, 8));
     assert_eq!(rt; last_child(&left), (121, 1200, 121));
     assert_eq!(rt; last_child(&right), (120, 6000, 8));
     assert_eq!(rt; page_word(&right, 16), 1);
     assert_eq!(rt; page_word(&right, 64), 1210);
-    assert_eq!(rt; join_forks(&mut left, &mut right), Some(false));
+    assert_eq!(rt; join_inners(&mut left, &mut right), Some(false));
     assert_eq!(rt; last_child(&left), (121, 1200, 121));
     assert!(rt; remove_first(&mut right));
-    assert_eq!(rt; join_forks(&mut left, &mut right), Some(true));
+    assert_eq!(rt; join_inners(&mut left, &mut right), Some(true));
     assert_eq!(rt; last_child(&left), (240, 6000, 8));
-    assert!(rt; join_forks(&mut left, &mut right).is_none());
+    assert!(rt; join_inners(&mut left, &mut right).is_none());
 }
 
 /// Why a test ended early.
@@ -645,7 +645,7 @@ fn keys_are_found_through_lines(rt: HostRuntime) -> Result<(), Early> {
         pages: 10,
     };
     store(&mut pages, 1, &leaf_by_hand())?;
-    store(&mut pages, 2, &fork_by_hand())?;
+    store(&mut pages, 2, &inner_by_hand())?;
     assert_eq!(rt; find(&mut pages, 1, &leaf, 0, &mut work)?, Spot::Row(0));
     assert_eq!(rt; find(&mut pages, 1, &leaf, 5, &mut work)?, Spot::Gap(1));
     assert_eq!(rt;
@@ -661,7 +661,7 @@ fn keys_are_found_through_lines(rt: HostRuntime) -> Result<(), Early> {
         Spot::Child(1, 9, 50, u64::MAX)
     );
     read_page(&mut pages, 2, &inner, &mut work)?;
-    assert!(rt; work.page().bytes() == fork_by_hand().bytes());
+    assert!(rt; work.page().bytes() == inner_by_hand().bytes());
     Ok(())
 }
 
