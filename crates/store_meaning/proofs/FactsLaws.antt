@@ -9,19 +9,21 @@ use Rattle.store_meaning.specs.Layout.{Sizes, pages, ring_line, ring_lines, ring
 use Rattle.store_meaning.specs.Log.{Words, Change, Entry, Log, no_log, grouped, extended, names, named_in, changes, is_logged, named_in_groups, applied, applied_with_cuts}
 use Rattle.store_meaning.specs.Log.Item.{write}
 use Rattle.store_meaning.specs.Log.Entry.{item, commit, abort}
-use Rattle.store_meaning.specs.Format.{Format, entries, IsWhole, zero_line}
+use Rattle.store_meaning.specs.Format.{Format, entries, IsWhole, zero_line, log_check}
 use Rattle.store_meaning.specs.Format.Format.{whole_lines, named_words, with_cuts}
-use Rattle.store_meaning.specs.Recovered.{Super, super_of, log_lines, log_of, home, replay, recovered}
+use Rattle.store_meaning.specs.Recovered.{Super, super_of, log_lines, log_of, home, replay, recovered, IsStore}
+use Rattle.store_meaning.specs.Checked.{SuperPasses}
 use Rattle.store_meaning.specs.InOrder.{IsNamed, LineStands, HomeStands}
 use Rattle.store_meaning.specs.InOrder.IsNamed.{magic_word, tables, rows, writes, frames, log_blocks, start, drained, tail}
 use Rattle.store_meaning.specs.View.{Alike, Extends}
 use Rattle.store_meaning.specs.Put.{append_calls, IsLine, CanPut}
-use Rattle.store_meaning.specs.StoreFacts.{Gate, gate_line, gate_word, Changing, Bookkeeping, IsWord, is_written, GatesAreOne, NamedIsDurable, HomesAreRight, LogIsRight, CopiesAreRight, StoreFacts, moving, committed_from}
+use Rattle.store_meaning.specs.StoreFacts.{Gate, gate_line, gate_word, Changing, Bookkeeping, IsWord, is_written, GatesAreOne, NamedIsDurable, HomesAreRight, LogIsRight, CopiesAreRight, StoreFacts, EndsRight, moving, committed_from}
 use Rattle.store_meaning.proofs.LogLaws.{plain_replay, replay_with_cuts, replayed-record_named, replayed-abort, replayed_other, not_logged_before, is_logged-extended, or_second, items_of}
 use Rattle.devices.proofs.GrowthLaws.{Grows-leaves, Grows-trans, Grows-weaken, Grows-single, Grows-steady, Grows-settled}
 use Rattle.store_meaning.proofs.LayoutLaws.{ring_apart}
 use Rattle.store_meaning.proofs.AppendLaws.{extended_log, replay-record}
 use Rattle.store_meaning.proofs.PutLaws.{put_unseen, put_behind, put_moments, put_stores, tail_stores, put_state, put_grows, put_single, durable_super, free_high}
+use Rattle.store_meaning.proofs.CheckLaws.{alike_store, extends_store, store_whole, store_passes, allowed_ring}
 use Rattle.nvm_model.proofs.WordLaws.{single_version}
 
 -- what the log doesn't name is its home, in each format
@@ -71,7 +73,7 @@ current_leaves s = record { words = λ l w. inl refl; blocks = λ b h. refl }
 
 module _ (b : Bookkeeping) (s : State) (facts : StoreFacts b s) (xs : List Line) (can : CanPut s (length xs))
     (are_lines : (k : ℕ) → k < length xs → IsLine (get_or xs k zero_line))
-    (whole : (j : Image) → Leaves s j → IsWhole b.format 0 (log_lines j))
+    (passes : (at : ℕ) → log_check b.format b.sizes at 0 xs ≡ None)
     (e : Entry) (is : entries b.format 0 xs ≡ e ∷ []) (committed : ℕ → Words)
     (at_old : (p l w : ℕ) → committed (super_of (current s)).tail p l w ≡ b.committed (super_of (current s)).tail p l w)
     (at_new_out : (j : Image) → Leaves s j → (p l w : ℕ) → IsWord b.sizes p l w → is_logged (extended (log_of b.format j) e) p l w ≡ false
@@ -93,12 +95,16 @@ module _ (b : Bookkeeping) (s : State) (facts : StoreFacts b s) (xs : List Line)
   in_pages : (j : Image) → Leaves s j → (p l w : ℕ) → IsWord b.sizes p l w → p < pages (super_of j).sizes
   in_pages j left p l w word = subst (λ (g : Sizes). p < pages g) (sym (facts.sizes j left)) word.page
 
+  whole : (j : Image) → Leaves s j → IsWhole b.format 0 (log_lines j)
+  whole j left = store_whole b.format j (facts.stores j left)
+
   -- What holds of an image beside the state that left it.
   record ImageFacts (i : Image) : Type 0 where
     sizes : (super_of i).sizes ≡ b.sizes
     homes : HomesAreRight moved i
     log : LogIsRight moved i
     copies : CopiesAreRight moved i
+    store : IsStore b.format i
 
   image_alike : (i j : Image) → Leaves s j → Alike i j → ImageFacts i
   image_alike i j left alike =
@@ -120,6 +126,7 @@ module _ (b : Bookkeeping) (s : State) (facts : StoreFacts b s) (xs : List Line)
           pending = λ p l w word h named. same_home p l w word ∙ (facts.log j left).pending p l w word (sym (ap (λ (x : Log). is_logged x p l w) log) ∙ h) named ∙ same_committed p l w;
         };
         copies = λ p l w line word copy h. facts.copies j left p l w line word copy (sym (written p l w) ∙ h) ∙ sym (same_home p l w word);
+        store = alike_store b.format i j alike (facts.stores j left);
       }
 
   extends_log : (i j : Image) → Leaves s j → Extends i j xs → log_of b.format i ≡ extended (log_of b.format j) e
@@ -151,6 +158,9 @@ module _ (b : Bookkeeping) (s : State) (facts : StoreFacts b s) (xs : List Line)
           pending = λ p l w word h named. same_home p l w word ∙ (facts.log j left).pending p l w word (before p l w h) named ∙ out p l w word h;
         };
         copies = λ p l w line word copy h. facts.copies j left p l w line word copy (unwritten p l w h) ∙ sym (same_home p l w word);
+        store = extends_store b.format i j xs extends (facts.stores j left)
+            (subst (λ (x : Super). x.tail + length xs ≤ x.start + ring_lines x.sizes) (sym (durable j left)) can.room)
+            (λ at. subst (λ (g : Sizes). log_check b.format g at 0 xs ≡ None) (sym (facts.sizes j left)) (passes at));
       }
 
   -- all that is stored: free lines, and the tail
@@ -265,6 +275,7 @@ module _ (b : Bookkeeping) (s : State) (facts : StoreFacts b s) (xs : List Line)
           homes = λ i leaves. (image_alike i (found i leaves).0 (found i leaves).1 (found i leaves).2).homes;
           log = λ i leaves. (image_alike i (found i leaves).0 (found i leaves).1 (found i leaves).2).log;
           copies = λ i leaves. (image_alike i (found i leaves).0 (found i leaves).1 (found i leaves).2).copies;
+          stores = λ i leaves. (image_alike i (found i leaves).0 (found i leaves).1 (found i leaves).2).store;
         })
     | inr second ↦
         (let grows : Grows all_stores no_write s mid =
@@ -284,6 +295,7 @@ module _ (b : Bookkeeping) (s : State) (facts : StoreFacts b s) (xs : List Line)
           homes = λ i leaves. (images i leaves).homes;
           log = λ i leaves. (images i leaves).log;
           copies = λ i leaves. (images i leaves).copies;
+          stores = λ i leaves. (images i leaves).store;
         })
   ]
 
@@ -291,15 +303,15 @@ module _ (b : Bookkeeping) (s : State) (facts : StoreFacts b s) (xs : List Line)
 -- names yet, has its committed word as before value.
 pub record_facts : (b : Bookkeeping) (s : State) → StoreFacts b s → (xs : List Line) → CanPut s (length xs)
     → ((k : ℕ) → k < length xs → IsLine (get_or xs k zero_line))
-    → ((j : Image) → Leaves s j → IsWhole b.format 0 (log_lines j))
+    → ((at : ℕ) → log_check b.format b.sizes at 0 xs ≡ None)
     → (r : Change) → entries b.format 0 xs ≡ item (write r) ∷ []
     → ((p l w : ℕ) → b.committed ((super_of (current s)).tail + length xs) p l w ≡ b.committed (super_of (current s)).tail p l w)
     → ((j : Image) → Leaves s j → (p l w : ℕ) → IsWord b.sizes p l w → names r p l w ≡ true → named_in (changes (log_of b.format j).open_items) p l w ≡ false
     → b.committed (super_of (current s)).tail p l w ≡ slice_index r.before.words w)
     → (mid : State) → Amid s (append_calls (super_of (current s)).sizes (super_of (current s)).tail xs) mid
     → StoreFacts (moving b (super_of (current s)).tail ((super_of (current s)).tail + length xs) b.committed) mid
-record_facts b s facts xs can are_lines whole r is constant before =
-    put_facts b s facts xs can are_lines whole (item (write r)) is b.committed (λ p l w. refl) (λ j left p l w word h. constant p l w) gives
+record_facts b s facts xs can are_lines passes r is constant before =
+    put_facts b s facts xs can are_lines passes (item (write r)) is b.committed (λ p l w. refl) (λ j left p l w word h. constant p l w) gives
   where
     gives : (j : Image) → Leaves s j → (p l w : ℕ) → IsWord b.sizes p l w → is_logged (extended (log_of b.format j) (item (write r))) p l w ≡ true
         → (homes : Words) → replay b.format (extended (log_of b.format j) (item (write r))) homes p l w ≡ b.committed ((super_of (current s)).tail + length xs) p l w
@@ -324,14 +336,14 @@ replay-abort with_cuts log a p l w = replayed-abort applied_with_cuts replay_wit
 -- The end of an abort keeps the facts, with no further condition.
 pub abort_facts : (b : Bookkeeping) (s : State) → StoreFacts b s → (xs : List Line) → CanPut s (length xs)
     → ((k : ℕ) → k < length xs → IsLine (get_or xs k zero_line))
-    → ((j : Image) → Leaves s j → IsWhole b.format 0 (log_lines j))
+    → ((at : ℕ) → log_check b.format b.sizes at 0 xs ≡ None)
     → entries b.format 0 xs ≡ abort ∷ []
     → ((p l w : ℕ) → b.committed ((super_of (current s)).tail + length xs) p l w ≡ b.committed (super_of (current s)).tail p l w)
     → (mid : State) → Amid s (append_calls (super_of (current s)).sizes (super_of (current s)).tail xs) mid
     → StoreFacts (moving b (super_of (current s)).tail ((super_of (current s)).tail + length xs) b.committed) mid
 unfolding items_of
-abort_facts b s facts xs can are_lines whole is constant =
-    put_facts b s facts xs can are_lines whole abort is b.committed (λ p l w. refl) (λ j left p l w word h. constant p l w)
+abort_facts b s facts xs can are_lines passes is constant =
+    put_facts b s facts xs can are_lines passes abort is b.committed (λ p l w. refl) (λ j left p l w word h. constant p l w)
     (λ j left p l w word h homes.
     replay-abort b.format (log_of b.format j) homes p l w
     ∙ (facts.log j left).logged p l w word (or_none (is_logged (log_of b.format j) p l w) (sym (is_logged-extended (log_of b.format j) abort p l w) ∙ h)) homes
@@ -345,15 +357,14 @@ abort_facts b s facts xs can are_lines whole is constant =
 -- committed ones. An image with the new tail has those, one with the old tail the old ones.
 pub commit_facts : (b : Bookkeeping) (s : State) → StoreFacts b s → (xs : List Line) → CanPut s (length xs) → 0 < length xs
     → ((k : ℕ) → k < length xs → IsLine (get_or xs k zero_line))
-    → ((j : Image) → Leaves s j → IsWhole b.format 0 (log_lines j))
+    → ((at : ℕ) → log_check b.format b.sizes at 0 xs ≡ None)
     → entries b.format 0 xs ≡ commit ∷ [] → b.pending ≡ []
-    → ((j : Image) → Leaves s j → (p l w : ℕ) → IsWord b.sizes p l w → is_logged (extended (log_of b.format j) commit) p l w ≡ true
-    → (homes : Words) → replay b.format (extended (log_of b.format j) commit) homes p l w ≡ b.current p l w)
+    → EndsRight b s
     → (mid : State) → Amid s (append_calls (super_of (current s)).sizes (super_of (current s)).tail xs) mid
     → StoreFacts (moving b (super_of (current s)).tail ((super_of (current s)).tail + length xs)
     (committed_from ((super_of (current s)).tail + length xs) b.current b.committed)) mid
-commit_facts b s facts xs can some are_lines whole is none gives =
-    put_facts b s facts xs can are_lines whole commit is (committed_from new b.current b.committed)
+commit_facts b s facts xs can some are_lines passes is none gives =
+    put_facts b s facts xs can are_lines passes commit is (committed_from new b.current b.committed)
     (λ p l w. ap (λ (x : Words). x p l w) (cond-false (eqb old new) b.current (b.committed old) (ne_eqb old new (λ e. omega arith))))
     (λ j left p l w word h.
     let unlogged : is_logged (log_of b.format j) p l w ≡ false = not_logged_before (log_of b.format j) commit p l w h in
@@ -385,6 +396,7 @@ facts_done b old new committed s facts one = record {
   homes = λ i leaves. record { current = (facts.homes i leaves).current; committed = (facts.homes i leaves).committed };
   log = λ i leaves. record { logged = (facts.log i leaves).logged; pending = (facts.log i leaves).pending };
   copies = facts.copies;
+  stores = facts.stores;
 }
   where
     never : (change : Changing) → None ≡ Some change → ⊥
@@ -403,20 +415,20 @@ facts_done b old new committed s facts one = record {
     gate_single Gate.tail = one
 
 -- Where no gate is being changed and there is room, lines can be put at the end of the log.
-pub facts_can_put : (b : Bookkeeping) (s : State) (n : ℕ) → StoreFacts b s → b.changing ≡ None → 0 < b.sizes.log_blocks
-    → (super_of (current s)).start ≤ (super_of (current s)).tail → (super_of (current s)).drained ≤ (super_of (current s)).tail
-    → (super_of (current s)).tail + n ≤ (super_of (current s)).drained + ring_lines b.sizes → CanPut s n
-facts_can_put b s n facts still ring started below room =
+pub facts_can_put : (b : Bookkeeping) (s : State) (n : ℕ) → StoreFacts b s → b.changing ≡ None
+    → (super_of (current s)).tail + n ≤ (super_of (current s)).start + ring_lines b.sizes → CanPut s n
+facts_can_put b s n facts still room =
+    let passes : SuperPasses (super_of (current s)) = store_passes b.format (current s) (facts.stores (current s) (current_leaves s)) in
     let same : (super_of (current s)).sizes ≡ b.sizes = facts.sizes (current s) (current_leaves s) in
     let gate : (gate : Gate) → IsSingle (s.nvm (gate_line gate) (gate_word gate)) =
     (λ gate. facts.gates.others gate (λ change at e. never change (sym still ∙ at))) in
     record {
       superblock = λ l w named. by_name l w named (gate Gate.magic) (gate Gate.start) (gate Gate.drained) (gate Gate.tail);
       log = (facts.durable (current s) (current_leaves s)).log;
-      ring = subst (λ (g : Sizes). 0 < g.log_blocks) (sym same) ring;
-      started = started;
-      drained = below;
-      room = subst (λ (g : Sizes). (super_of (current s)).tail + n ≤ (super_of (current s)).drained + ring_lines g) (sym same) room;
+      ring = allowed_ring (super_of (current s)).sizes passes.sizes;
+      started = passes.started;
+      drained = passes.started;
+      room = subst (λ (g : Sizes). (super_of (current s)).tail + n ≤ (super_of (current s)).start + ring_lines g) (sym same) room;
     }
   where
     never : (change : Changing) → None ≡ Some change → ⊥

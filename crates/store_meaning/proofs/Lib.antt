@@ -3,4 +3,10 @@ pub mod LogLaws
 pub mod RecoveredLaws
 pub mod PutLaws
 pub mod AppendLaws
+pub mod CheckLaws
 pub mod FactsLaws
+pub mod StoreLaws
+pub mod StartLaws
+pub mod FreshLaws
+pub mod Examples
+pub mod AtEndLaws

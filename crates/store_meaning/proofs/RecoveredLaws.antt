@@ -8,12 +8,12 @@ use Rattle.nvm_model.specs.declared.line.Line.{Line}
 use Rattle.devices.specs.State.{Image}
 use Rattle.nvm_model.specs.Memory.{line_of}
 use Rattle.store_meaning.specs.Layout.{Sizes, pages}
-use Rattle.store_meaning.specs.Log.{Words, Log, no_log, grouped, applied, applied_with_cuts}
+use Rattle.store_meaning.specs.Log.{Words, Log, no_log, grouped, applied, applied_with_cuts, is_logged}
 use Rattle.store_meaning.specs.Format.{Format, entries, lines_behind, IsWhole, zero_line}
 use Rattle.store_meaning.specs.Format.Format.{whole_lines, named_words, with_cuts}
 use Rattle.store_meaning.specs.Recovered.{Super, super_of, home, from, log_of, replay, recovered, recovered_pages, lines_of}
 use Rattle.store_meaning.specs.View.{Alike, Agree}
-use Rattle.store_meaning.proofs.LogLaws.{plain_replay, replay_with_cuts, replayed_word}
+use Rattle.store_meaning.proofs.LogLaws.{plain_replay, replay_with_cuts, replayed_word, replayed_named}
 
 -- eight equal words make equal lines
 pub line_of-same : (f g : ℕ → ℕ) → ((w : ℕ) → w < 8 → f w ≡ g w) → line_of f ≡ line_of g
@@ -60,6 +60,12 @@ pub replay_word : (format : Format) (log : Log) (a b : Words) (p l w : ℕ) → 
 replay_word whole_lines log a b p l w e = replayed_word applied plain_replay log a b p l w e
 replay_word named_words log a b p l w e = replayed_word applied plain_replay log a b p l w e
 replay_word with_cuts log a b p l w e = replayed_word applied_with_cuts replay_with_cuts log a b p l w e
+
+-- what the log names doesn't depend on the homes, in each format
+pub replay_named : (format : Format) (log : Log) (a b : Words) (p l w : ℕ) → is_logged log p l w ≡ true → replay format log a p l w ≡ replay format log b p l w
+replay_named whole_lines log a b p l w h = replayed_named applied plain_replay log a b p l w h
+replay_named named_words log a b p l w h = replayed_named applied plain_replay log a b p l w h
+replay_named with_cuts log a b p l w h = replayed_named applied_with_cuts replay_with_cuts log a b p l w h
 
 -- images that agree recover to the same words
 pub agree_recovered : (format : Format) (i j : Image) → Agree i j → (p l w : ℕ) → p < pages (super_of j).sizes → l < 64 → w < 8 → recovered format i p l w ≡ recovered format j p l w

@@ -8,3 +8,5 @@ pub mod StoreFacts
 pub mod Put
 pub mod Append
 pub mod Checked
+pub mod InPlace
+pub mod AtEnd

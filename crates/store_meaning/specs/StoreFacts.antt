@@ -1,12 +1,13 @@
 -- What holds of the devices at each moment while a store is open.
-use Rattle.std.specs.Prelude.{◌≡◌, ◌≢◌, ◌⊎◌, ℕ, ◌<◌, ◌≤◌, Bool, true, false, ◌||◌, List, if◌then◌else◌, ◌==◌, Option, Some}
+use Rattle.std.specs.Prelude.{◌≡◌, ◌≢◌, ◌⊎◌, ℕ, ◌<◌, ◌≤◌, Bool, true, false, ◌||◌, List, if◌then◌else◌, ◌==◌, Option, Some, None}
 use Rattle.nvm_model.specs.declared.line.Line.{Line}
 use Rattle.devices.specs.State.{State, Image, Leaves}
 use Rattle.nvm_model.specs.Word.{IsVersion, IsSingle}
 use Rattle.store_meaning.specs.Layout.{Sizes, pages}
-use Rattle.store_meaning.specs.Log.{Words, Change, is_logged, named_in}
+use Rattle.store_meaning.specs.Log.{Words, Change, is_logged, named_in, extended}
+use Rattle.store_meaning.specs.Log.Entry.{commit}
 use Rattle.store_meaning.specs.Format.{Format, word_in}
-use Rattle.store_meaning.specs.Recovered.{super_of, home, log_of, replay}
+use Rattle.store_meaning.specs.Recovered.{super_of, home, log_of, replay, IsStore}
 use Rattle.store_meaning.specs.InOrder.{LineStands, HomeStands}
 
 -- a gate: one word that is changed alone, and made durable before another one changes
@@ -85,7 +86,7 @@ abbrev pub CopiesAreRight : Bookkeeping → Image → Type 0
 CopiesAreRight b i = (p l w : ℕ) (line : Line) → IsWord b.sizes p l w → b.copy p l ≡ Some line → is_written b i p l w ≡ false
     → word_in line w ≡ home i p l w
 
--- The five facts.
+-- What holds at each moment: the five facts, and that every image is a store.
 pub record StoreFacts (b : Bookkeeping) (s : State) : Type 0 where
   pub gates : GatesAreOne b s
   pub sizes : (i : Image) → Leaves s i → (super_of i).sizes ≡ b.sizes
@@ -93,6 +94,19 @@ pub record StoreFacts (b : Bookkeeping) (s : State) : Type 0 where
   pub homes : (i : Image) → Leaves s i → HomesAreRight b i
   pub log : (i : Image) → Leaves s i → LogIsRight b i
   pub copies : (i : Image) → Leaves s i → CopiesAreRight b i
+  pub stores : (i : Image) → Leaves s i → IsStore b.format i
+
+-- 6. With a commit last the log gives the current words to all that it names. It holds between two steps, and not while a
+-- record stands whose line was not stored yet.
+abbrev pub EndsRight : Bookkeeping → State → Type 0
+EndsRight b s = (i : Image) → Leaves s i → (p l w : ℕ) → IsWord b.sizes p l w → is_logged (extended (log_of b.format i) commit) p l w ≡ true
+    → (homes : Words) → replay b.format (extended (log_of b.format i) commit) homes p l w ≡ b.current p l w
+
+-- Between two steps no gate is being changed, and the log would end right.
+pub record SteadyFacts (b : Bookkeeping) (s : State) : Type 0 where
+  pub facts : StoreFacts b s
+  pub still : b.changing ≡ None
+  pub ends : EndsRight b s
 
 -- the tail changes, and with it what is committed
 abbrev pub moving : Bookkeeping → ℕ → ℕ → (ℕ → Words) → Bookkeeping
