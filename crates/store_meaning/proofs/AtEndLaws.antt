@@ -1,4 +1,4 @@
--- An entry at the end of the log, at the device: the groups, and the facts.
+-- An entry at the end of the log, and a log that is emptied, at the device: the groups, and the facts.
 use Rattle.std.proofs.Common.{◌≡◌, ◌⊎◌, ℕ, ◌+◌, ◌-◌, ◌<◌, ◌≤◌, true, false, List, [], ◌∷◌, length, refl, sym, ap, ◌∙◌, subst, inl, inr, arith, get_or, slice_index, IsTrue, Result, Ok, Err, None, eqb}
 use Rattle.std.specs.Prelude.{OnOk}
 use Rattle.std.proofs.lemmas.Bool.{cond-true, eq-eqb}
@@ -8,21 +8,24 @@ use Rattle.devices.specs.State.{State, Image, Amid, Leaves, current, after_all}
 use Rattle.devices.specs.World.{Standing, MakesAll, now}
 use Rattle.devices.proofs.MomentLaws.{Moments-map}
 use Rattle.devices.proofs.GrowthLaws.{Amid_end}
-use Rattle.store_meaning.specs.Layout.{ring_lines}
+use Rattle.store_meaning.specs.Layout.{Sizes, ring_lines}
 use Rattle.store_meaning.specs.Log.{Words, Change, Entry, Log, no_log, grouped, extended, names, named_in, changes}
 use Rattle.store_meaning.specs.Log.Item.{write}
 use Rattle.store_meaning.specs.Log.Entry.{item, commit, abort}
 use Rattle.store_meaning.specs.Format.{Format, entries, IsWhole, zero_line, log_check}
 use Rattle.store_meaning.specs.Recovered.{Super, super_of, log_line, log_lines, log_of, from}
 use Rattle.store_meaning.specs.View.{Alike, Extends}
-use Rattle.store_meaning.specs.Put.{append_calls, IsLine, CanPut}
+use Rattle.store_meaning.specs.Put.{append_calls, start_calls, IsLine, CanPut}
 use Rattle.store_meaning.specs.StoreFacts.{Bookkeeping, IsWord, StoreFacts, EndsRight, moving, committed_from}
-use Rattle.store_meaning.specs.AtEnd.{HasLog, HasEither, CanExtend, PutsLast, KeepsFacts, putting, committing, committed_now, IsConstant}
+use Rattle.store_meaning.specs.Checked.{SuperPasses}
+use Rattle.store_meaning.proofs.StartLaws.{start_logs, start_empty, start_single, start_done, start_facts}
+use Rattle.store_meaning.proofs.CheckLaws.{store_passes}
+use Rattle.store_meaning.specs.AtEnd.{Empties, starting, HomesHoldAll, HasLog, HasEither, CanExtend, PutsLast, KeepsFacts, putting, committing, committed_now, IsConstant}
 use Rattle.store_meaning.proofs.RecoveredLaws.{from-same}
 use Rattle.store_meaning.proofs.PutLaws.{durable_super, put_at_end, put_done, put_gate, single_at}
 use Rattle.store_meaning.proofs.AppendLaws.{extended_log}
 use Rattle.store_meaning.proofs.FreshLaws.{log_line-durable}
-use Rattle.store_meaning.proofs.FactsLaws.{record_facts, abort_facts, commit_facts, facts_done, facts_can_put}
+use Rattle.store_meaning.proofs.FactsLaws.{current_leaves, record_facts, abort_facts, commit_facts, facts_done, facts_can_put}
 
 pub OnOk_map : {T E : Type 0} {P Q : Type 0} (r : Result T E) → (P → Q) → OnOk r P → OnOk r Q
 OnOk_map (Ok v) f h = f h
@@ -147,3 +150,40 @@ module _ {T E : Type 0} {old new : Standing} {r : Result T E} (b : Bookkeeping) 
       OnOk_both : {P Q R : Type 0} (r : Result T E) → OnOk r P → OnOk r Q → (P → Q → R) → OnOk r R
       OnOk_both (Ok v) p q f = f p q
       OnOk_both (Err e) p q f = tt
+
+-- The log that is emptied, at the device.
+pub empties : {T E : Type 0} {old new : Standing} {r : Result T E} (format : Format) → IsTrue old.told → CanPut (now old) 0
+    → MakesAll (start_calls (super_of (current (now old))).tail) old new r → Empties format old new r
+empties {old = old} {new = new} {r = r} format told can makes = record {
+  part = Moments-map (λ mid amid i leaves. elim (start_logs (now old) can mid amid i leaves) [
+    | inl left ↦ inl (ap (λ (lines : List Line). grouped no_log (entries format 0 lines)) (log_durable (now old) 0 can i left))
+    | inr none ↦ inr (ap (λ (lines : List Line). grouped no_log (entries format 0 lines)) none)
+  ]) (makes.part told);
+  whole = OnOk_map r (λ (at : now new ≡ after_all (start_calls (super_of (current (now old))).tail) (now old)).
+      subst (λ (s : State). HasLog format no_log s) (sym at)
+      (λ i leaves. ap (λ (lines : List Line). grouped no_log (entries format 0 lines)) (start_empty (now old) can i leaves))) (makes.whole told);
+}
+
+pub start_kept : {T E : Type 0} {old new : Standing} {r : Result T E} (b : Bookkeeping) → IsTrue old.told → StoreFacts b (now old) → b.changing ≡ None → b.pending ≡ []
+    → HomesHoldAll b (now old) → MakesAll (start_calls (super_of (current (now old))).tail) old new r → KeepsFacts (starting b (now old)) b old new r
+start_kept {old = old} {new = new} {r = r} b told facts still none all makes = record {
+  part = Moments-map each (makes.part told);
+  whole = OnOk_map r (λ (at : now new ≡ after_all (start_calls tail₀) (now old)).
+      subst (λ (s : State). StoreFacts b s) (sym at)
+      (subst (λ (x : Bookkeeping). StoreFacts x (after_all (start_calls tail₀) (now old))) (ap (λ c. record b { changing = c }) (sym still))
+      (start_done b (super_of (current (now old))).start tail₀ _ (each _ (Amid_end (start_calls tail₀) (now old))) (ap (λ (x : Word). x.older) (start_single tail₀ (now old)))))) (makes.whole told);
+}
+  where
+    tail₀ : ℕ
+    tail₀ = (super_of (current (now old))).tail
+
+    can : CanPut (now old) 0
+    can = facts_can_put b (now old) 0 facts still
+        (let passes : SuperPasses (super_of (current (now old))) = store_passes b.format (current (now old)) (facts.stores (current (now old)) (current_leaves (now old))) in
+        subst (λ (g : Sizes). tail₀ + 0 ≤ (super_of (current (now old))).start + ring_lines g) (facts.sizes (current (now old)) (current_leaves (now old))) (room passes))
+      where
+        room : SuperPasses (super_of (current (now old))) → tail₀ + 0 ≤ (super_of (current (now old))).start + ring_lines (super_of (current (now old))).sizes
+        room passes = let started : (super_of (current (now old))).start ≤ tail₀ = passes.started in let in_ring : tail₀ - (super_of (current (now old))).start ≤ ring_lines (super_of (current (now old))).sizes = passes.in_ring in omega arith
+
+    each : (mid : State) → Amid (now old) (start_calls tail₀) mid → StoreFacts (starting b (now old)) mid
+    each = start_facts b (now old) facts can none all.homes all.copies

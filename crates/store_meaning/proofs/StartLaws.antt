@@ -1,10 +1,9 @@
 -- The log is emptied: `start` becomes the tail, where every home is what recovery gives. At each moment each image
 -- recovers to the same words.
-use Rattle.std.proofs.Common.{◌≡◌, ◌≢◌, ◌⊎◌, ℕ, zero, suc, ◌-◌, ◌<◌, List, [], ◌∷◌, refl, sym, ap, ◌∙◌, subst, inl, inr, arith, ◌≤◌, true, false, Some, None}
+use Rattle.std.proofs.Common.{◌≡◌, ◌≢◌, ◌⊎◌, ℕ, zero, suc, ◌-◌, ◌<◌, List, [], refl, sym, ap, ◌∙◌, subst, inl, inr, arith, ◌≤◌, true, false, Some, None}
 use Rattle.nvm_model.specs.declared.line.Line.{Line}
-use Rattle.devices.specs.State.{State, Image, Call, Amid, Leaves, current}
-use Rattle.nvm_model.specs.Word.{IsVersion, IsSingle}
-use Rattle.devices.specs.State.Call.{store_word, flush, fence}
+use Rattle.devices.specs.State.{State, Image, Amid, Leaves, current, after_all, word_stored}
+use Rattle.nvm_model.specs.Word.{IsVersion, IsSingle, single, marked, trimmed}
 use Rattle.devices.specs.Growth.{Grows, Reaches, no_write}
 use Rattle.store_meaning.specs.Layout.{Sizes, pages, frame_line, ring_line}
 use Rattle.store_meaning.specs.Log.{Words, no_log, grouped, is_logged, Log}
@@ -14,17 +13,19 @@ use Rattle.store_meaning.specs.Recovered.{super_check, IsStore, Super, super_of,
 use Rattle.store_meaning.specs.InOrder.{IsNamed, LineStands, HomeStands}
 use Rattle.store_meaning.specs.InOrder.IsNamed.{magic_word, tables, rows, writes, frames, log_blocks, start, drained, tail}
 use Rattle.store_meaning.specs.Append.{RecoversTo}
-use Rattle.store_meaning.specs.Put.{CanPut}
+use Rattle.store_meaning.specs.Put.{CanPut, start_calls}
 use Rattle.store_meaning.specs.StoreFacts.{Gate, gate_line, gate_word, Changing, Bookkeeping, IsWord, is_written, GatesAreOne, NamedIsDurable, HomesAreRight, LogIsRight, CopiesAreRight, StoreFacts}
 use Rattle.store_meaning.proofs.CheckLaws.{checks_from, super_check-none, start_passes, store_passes}
 use Rattle.nvm_model.proofs.WordLaws.{single_version}
 use Rattle.store_meaning.proofs.FactsLaws.{some_same}
 use Rattle.std.proofs.lemmas.Bool.{cases_Bool}
-use Rattle.devices.proofs.GrowthLaws.{Amid-grows, Grows-leaves, Grows-single, Grows-steady, Grows-settled}
-use Rattle.store_meaning.proofs.PutLaws.{durable_super, without, without_leaves, without_same, home_by}
+use Rattle.devices.proofs.StateLaws.{flushed_same, word_stored_same}
+use Rattle.devices.proofs.GrowthLaws.{Amid_end, Amid-grows, Grows-leaves, Grows-single, Grows-steady, Grows-settled}
+use Rattle.store_meaning.proofs.PutLaws.{single_at, durable_super, without, without_leaves, without_same, home_by}
 
-abbrev pub start_calls : ℕ → List Call
-start_calls to = store_word 1 0 to ∷ flush 1 ∷ fence ∷ []
+-- when the calls are done the start has one version
+pub start_single : (to : ℕ) (s : State) → (after_all (start_calls to) s).nvm 1 0 ≡ single to
+start_single to s = ap trimmed (flushed_same 1 (word_stored 1 0 to s) 0 ∙ ap marked (word_stored_same 1 0 to s))
 
 -- an empty log changes nothing
 replay_none : (format : Format) (a : Words) (p l w : ℕ) → replay format no_log a p l w ≡ a p l w
@@ -287,3 +288,40 @@ module _ (b : Bookkeeping) (s : State) (facts : StoreFacts b s) (can : CanPut s 
 
   pub start_facts : (mid : State) → Amid s (start_calls sup₁.tail) mid → StoreFacts starting mid
   start_facts mid amid = start_grows_facts mid (Amid-grows start_stores₁ no_write (start_calls sup₁.tail) s mid ((refl, refl, refl), (tt, (tt, tt))) amid)
+
+-- The log while it is emptied: each image has the old one or none, and when it is done none.
+module _ (s : State) (can : CanPut s 0) where
+  abbrev sup₂ : Super
+  sup₂ = super_of (current s)
+
+  abbrev start_stores₂ : ℕ → ℕ → ℕ → Type 0
+  start_stores₂ l w v = (l ≡ 1) × (w ≡ 0) × (v ≡ sup₂.tail)
+
+  start_lines : (i : Image) → Reaches start_stores₂ no_write s i → i.nvm 1 0 ≡ sup₂.tail → log_lines i ≡ []
+  start_lines i reaches at_start =
+      let j : Image = without start_stores₂ s i reaches in
+      let same : (line w : ℕ) → (line ≢ 1) ⊎ (w ≢ 0) → i.nvm line w ≡ j.nvm line w = (λ line w h. sym (without_same start_stores₂ s i reaches line w (λ st. elim h [ inl n ↦ n st.0 | inr n ↦ n st.1 ]))) in
+      let e_j : super_of j ≡ sup₂ = durable_super s 0 can j (without_leaves start_stores₂ s i reaches) in
+      let e_i : super_of i ≡ record sup₂ { start = sup₂.tail; drained = sup₂.tail } =
+      moved_start i j sup₂.tail (λ l w named h. same l w h) at_start ∙ ap (λ (x : Super). record x { start = sup₂.tail; drained = sup₂.tail }) e_j in
+      ap (λ (x : Super). from (log_line x.sizes x.drained i) x.start (x.tail - x.start)) e_i ∙ from_none _ sup₂.tail (sup₂.tail - sup₂.tail) (omega arith)
+
+  start_reaches : (mid : State) → Amid s (start_calls sup₂.tail) mid → (i : Image) → Leaves mid i → Reaches start_stores₂ no_write s i
+  start_reaches mid amid i leaves =
+      Grows-leaves start_stores₂ no_write s mid i (Amid-grows start_stores₂ no_write (start_calls sup₂.tail) s mid ((refl, refl, refl), (tt, (tt, tt))) amid) leaves
+
+  pub start_logs : (mid : State) → Amid s (start_calls sup₂.tail) mid → (i : Image) → Leaves mid i → Leaves s i ⊎ (log_lines i ≡ [])
+  start_logs mid amid i leaves =
+      let reaches : Reaches start_stores₂ no_write s i = start_reaches mid amid i leaves in
+      elim (reaches.words 1 0) [
+        | inl version ↦ inl (record {
+          words = λ l w. elim (reaches.words l w) [ inl v ↦ v | inr st ↦ rw (st.0, st.1) version ];
+          blocks = λ n. elim (reaches.blocks n) [ inl written ↦ absurd written | inr same ↦ same ];
+        })
+        | inr moved ↦ inr (start_lines i reaches moved.2)
+      ]
+
+  pub start_empty : (i : Image) → Leaves (after_all (start_calls sup₂.tail) s) i → log_lines i ≡ []
+  start_empty i leaves =
+      start_lines i (start_reaches _ (Amid_end (start_calls sup₂.tail) s) i leaves)
+      (single_at ((after_all (start_calls sup₂.tail) s).nvm 1 0) sup₂.tail (i.nvm 1 0) (start_single sup₂.tail s) (leaves.words 1 0))

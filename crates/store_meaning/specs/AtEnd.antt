@@ -1,12 +1,15 @@
--- What an entry at the end of the log makes of a device, at each moment and when it is done.
-use Rattle.std.specs.Prelude.{◌≡◌, ◌⊎◌, ℕ, ◌+◌, Result, OnOk}
+-- What an entry at the end of the log, or a new start, makes of a device, at each moment and when it is done.
+use Rattle.std.specs.Prelude.{◌≡◌, ◌⊎◌, ℕ, ◌+◌, true, Result, OnOk, Some}
+use Rattle.nvm_model.specs.declared.line.Line.{Line}
 use Rattle.devices.specs.State.{State, Image, Leaves, current}
 use Rattle.devices.specs.World.{Standing, Moments, now}
-use Rattle.store_meaning.specs.Log.{Log, Entry, extended}
-use Rattle.store_meaning.specs.Format.{Format, IsWhole}
-use Rattle.store_meaning.specs.Recovered.{super_of, log_lines, log_of}
+use Rattle.store_meaning.specs.Log.{Log, Entry, no_log, extended, is_logged}
+use Rattle.store_meaning.specs.Format.{Format, IsWhole, word_in}
+use Rattle.store_meaning.specs.Recovered.{super_of, log_lines, log_of, home}
+use Rattle.store_meaning.specs.InOrder.{HomeStands}
 use Rattle.store_meaning.specs.Put.{CanPut}
-use Rattle.store_meaning.specs.StoreFacts.{Bookkeeping, StoreFacts, moving, committed_from}
+use Rattle.store_meaning.specs.StoreFacts.Gate.{start}
+use Rattle.store_meaning.specs.StoreFacts.{Bookkeeping, IsWord, StoreFacts, moving, committed_from}
 
 -- every image has this log
 abbrev pub HasLog : Format → Log → State → Type 0
@@ -47,3 +50,19 @@ committed_now b = record b { committed = λ n. b.current }
 -- the committed words don't depend on which of the two tails an image has
 abbrev pub IsConstant : Bookkeeping → State → ℕ → Type 0
 IsConstant b s n = (p l w : ℕ) → b.committed ((super_of (current s)).tail + n) p l w ≡ b.committed (super_of (current s)).tail p l w
+
+-- At each moment each image has the old log or an empty one, and where the call answers ok every image has an empty one.
+pub record Empties {T E : Type 0} (format : Format) (old new : Standing) (result : Result T E) : Type 0 where
+  pub part : Moments old new (λ s. (i : Image) → Leaves s i → (log_of format i ≡ log_of format (current (now old))) ⊎ (log_of format i ≡ no_log))
+  pub whole : OnOk result (HasLog format no_log (now new))
+
+-- while the log is emptied the start changes
+abbrev pub starting : Bookkeeping → State → Bookkeeping
+starting b s = record b { changing = Some (record { gate = start; old = (super_of (current s)).start; new = (super_of (current s)).tail }) }
+
+-- The home of each word that the log names is durable, and its current and its committed word, in every image, and the
+-- copies in DRAM are the homes.
+pub record HomesHoldAll (b : Bookkeeping) (s : State) : Type 0 where
+  pub homes : (j : Image) → Leaves s j → (p l w : ℕ) → IsWord b.sizes p l w → is_logged (log_of b.format j) p l w ≡ true
+      → HomeStands b.sizes s p l w × (home j p l w ≡ b.current p l w) × (home j p l w ≡ b.committed (super_of j).tail p l w)
+  pub copies : (j : Image) → Leaves s j → (p l w : ℕ) (line : Line) → IsWord b.sizes p l w → b.copy p l ≡ Some line → word_in line w ≡ home j p l w

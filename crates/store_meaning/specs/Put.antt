@@ -1,4 +1,4 @@
--- Lines that are put at the end of the log: the calls, and what they need.
+-- Lines that are put at the end of the log, and a log that is emptied: the calls, and what they need.
 use Rattle.std.specs.Prelude.{◌≡◌, ℕ, ◌+◌, ◌<◌, ◌≤◌, List, [], ◌∷◌, ◌++◌, length}
 use Rattle.nvm_model.specs.declared.line.Line.{Line}
 use Rattle.devices.specs.State.{State, current, Call}
@@ -21,6 +21,10 @@ tail_calls tail = store_word 3 0 tail ∷ flush 3 ∷ fence ∷ []
 
 abbrev pub append_calls : Sizes → ℕ → List Line → List Call
 append_calls g tail lines = (put_calls g tail lines ++ fence ∷ []) ++ tail_calls (tail + length lines)
+
+-- the start becomes this offset, durable
+abbrev pub start_calls : ℕ → List Call
+start_calls to = store_word 1 0 to ∷ flush 1 ∷ fence ∷ []
 
 -- a line of eight words
 abbrev pub IsLine : Line → Type 0
