@@ -78,6 +78,14 @@ module _ (format : Format) (s : State) (xs : List Line) (can : CanExtend format 
   put_groups_done i leaves =
       let found : (j : Image) × Leaves s j × Extends i j xs = put_done s xs can.can are_lines i leaves in longer_log i found.0 found.1 found.2
 
+-- what the superblock says when lines were put at the end
+pub put_super : (s : State) (xs : List Line) → CanPut s (length xs) → ((k : ℕ) → k < length xs → IsLine (get_or xs k zero_line))
+    → super_of (current (after_all (append_calls (super_of (current s)).sizes (super_of (current s)).tail xs) s)) ≡ record (super_of (current s)) { tail = (super_of (current s)).tail + length xs }
+put_super s xs can are_lines =
+    let done : State = after_all (append_calls (super_of (current s)).sizes (super_of (current s)).tail xs) s in
+    let found : (j : Image) × Leaves s j × Extends (current done) j xs = put_done s xs can are_lines (current done) (current_leaves done) in
+    (found.2).super_words ∙ ap (λ (x : Super). record x { tail = x.tail + length xs }) (durable_super s (length xs) can found.0 found.1)
+
 -- The same of the calls of a device.
 pub puts_last : {T E : Type 0} {old new : Standing} {r : Result T E} (format : Format) (xs : List Line) → IsTrue old.told → CanExtend format (now old) (length xs)
     → ((k : ℕ) → k < length xs → IsLine (get_or xs k zero_line)) → (e : Entry) → entries format 0 xs ≡ e ∷ []

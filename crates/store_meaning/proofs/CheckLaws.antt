@@ -64,11 +64,11 @@ fault_none : (e : Option ℕ) (o : ℕ) (rest : Option LogFault) → ◌≡◌ {
 fault_none (Some c) o rest h = cc
 fault_none None o rest h = (refl, h)
 
-entry_from : (e : Option ℕ) (b : Bool) → e ≡ None → b ≡ false → ◌≡◌ {A = Option ℕ} (elim e [ Some check ↦ Some check | None ↦ cond b (Some 9) None ]) None
+pub entry_from : (e : Option ℕ) (b : Bool) → e ≡ None → b ≡ false → ◌≡◌ {A = Option ℕ} (elim e [ Some check ↦ Some check | None ↦ cond b (Some 9) None ]) None
 entry_from (Some c) b h k = cc
 entry_from None b h k = cond-false b (Some 9) None k
 
-fault_from : (e : Option ℕ) (o : ℕ) (rest : Option LogFault) → e ≡ None → rest ≡ None → ◌≡◌ {A = Option LogFault} (elim e [ Some check ↦ Some (record { offset = o; check = check }) | None ↦ rest ]) None
+pub fault_from : (e : Option ℕ) (o : ℕ) (rest : Option LogFault) → e ≡ None → rest ≡ None → ◌≡◌ {A = Option LogFault} (elim e [ Some check ↦ Some (record { offset = o; check = check }) | None ↦ rest ]) None
 fault_from (Some c) o rest h k = cc
 fault_from None o rest h k = k
 

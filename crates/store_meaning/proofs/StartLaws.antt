@@ -3,7 +3,7 @@
 use Rattle.std.proofs.Common.{◌≡◌, ◌≢◌, ◌⊎◌, ℕ, zero, suc, ◌-◌, ◌<◌, List, [], refl, sym, ap, ◌∙◌, subst, inl, inr, arith, ◌≤◌, true, false, Some, None}
 use Rattle.nvm_model.specs.declared.line.Line.{Line}
 use Rattle.devices.specs.State.{State, Image, Amid, Leaves, current, after_all, word_stored}
-use Rattle.nvm_model.specs.Word.{IsVersion, IsSingle, single, marked, trimmed}
+use Rattle.nvm_model.specs.Word.{Word, IsVersion, IsSingle, single, marked, trimmed}
 use Rattle.devices.specs.Growth.{Grows, Reaches, no_write}
 use Rattle.store_meaning.specs.Layout.{Sizes, pages, frame_line, ring_line}
 use Rattle.store_meaning.specs.Log.{Words, no_log, grouped, is_logged, Log}
@@ -17,7 +17,7 @@ use Rattle.store_meaning.specs.Put.{CanPut, start_calls}
 use Rattle.store_meaning.specs.StoreFacts.{Gate, gate_line, gate_word, Changing, Bookkeeping, IsWord, is_written, GatesAreOne, NamedIsDurable, HomesAreRight, LogIsRight, CopiesAreRight, StoreFacts}
 use Rattle.store_meaning.proofs.CheckLaws.{checks_from, super_check-none, start_passes, store_passes}
 use Rattle.nvm_model.proofs.WordLaws.{single_version}
-use Rattle.store_meaning.proofs.FactsLaws.{some_same}
+use Rattle.store_meaning.proofs.FactsLaws.{current_leaves, some_same}
 use Rattle.std.proofs.lemmas.Bool.{cases_Bool}
 use Rattle.devices.proofs.StateLaws.{flushed_same, word_stored_same}
 use Rattle.devices.proofs.GrowthLaws.{Amid_end, Amid-grows, Grows-leaves, Grows-single, Grows-steady, Grows-settled}
@@ -297,14 +297,16 @@ module _ (s : State) (can : CanPut s 0) where
   abbrev start_stores₂ : ℕ → ℕ → ℕ → Type 0
   start_stores₂ l w v = (l ≡ 1) × (w ≡ 0) × (v ≡ sup₂.tail)
 
-  start_lines : (i : Image) → Reaches start_stores₂ no_write s i → i.nvm 1 0 ≡ sup₂.tail → log_lines i ≡ []
-  start_lines i reaches at_start =
+  start_super_of : (i : Image) → Reaches start_stores₂ no_write s i → i.nvm 1 0 ≡ sup₂.tail → super_of i ≡ record sup₂ { start = sup₂.tail; drained = sup₂.tail }
+  start_super_of i reaches at_start =
       let j : Image = without start_stores₂ s i reaches in
       let same : (line w : ℕ) → (line ≢ 1) ⊎ (w ≢ 0) → i.nvm line w ≡ j.nvm line w = (λ line w h. sym (without_same start_stores₂ s i reaches line w (λ st. elim h [ inl n ↦ n st.0 | inr n ↦ n st.1 ]))) in
       let e_j : super_of j ≡ sup₂ = durable_super s 0 can j (without_leaves start_stores₂ s i reaches) in
-      let e_i : super_of i ≡ record sup₂ { start = sup₂.tail; drained = sup₂.tail } =
-      moved_start i j sup₂.tail (λ l w named h. same l w h) at_start ∙ ap (λ (x : Super). record x { start = sup₂.tail; drained = sup₂.tail }) e_j in
-      ap (λ (x : Super). from (log_line x.sizes x.drained i) x.start (x.tail - x.start)) e_i ∙ from_none _ sup₂.tail (sup₂.tail - sup₂.tail) (omega arith)
+      moved_start i j sup₂.tail (λ l w named h. same l w h) at_start ∙ ap (λ (x : Super). record x { start = sup₂.tail; drained = sup₂.tail }) e_j
+
+  start_lines : (i : Image) → Reaches start_stores₂ no_write s i → i.nvm 1 0 ≡ sup₂.tail → log_lines i ≡ []
+  start_lines i reaches at_start =
+      ap (λ (x : Super). from (log_line x.sizes x.drained i) x.start (x.tail - x.start)) (start_super_of i reaches at_start) ∙ from_none _ sup₂.tail (sup₂.tail - sup₂.tail) (omega arith)
 
   start_reaches : (mid : State) → Amid s (start_calls sup₂.tail) mid → (i : Image) → Leaves mid i → Reaches start_stores₂ no_write s i
   start_reaches mid amid i leaves =
@@ -325,3 +327,9 @@ module _ (s : State) (can : CanPut s 0) where
   start_empty i leaves =
       start_lines i (start_reaches _ (Amid_end (start_calls sup₂.tail) s) i leaves)
       (single_at ((after_all (start_calls sup₂.tail) s).nvm 1 0) sup₂.tail (i.nvm 1 0) (start_single sup₂.tail s) (leaves.words 1 0))
+
+  -- what the superblock says then
+  pub start_super : super_of (current (after_all (start_calls sup₂.tail) s)) ≡ record sup₂ { start = sup₂.tail; drained = sup₂.tail }
+  start_super =
+      start_super_of (current (after_all (start_calls sup₂.tail) s)) (start_reaches _ (Amid_end (start_calls sup₂.tail) s) _ (current_leaves (after_all (start_calls sup₂.tail) s)))
+      (ap (λ (x : Word). x.newest) (start_single sup₂.tail s))
