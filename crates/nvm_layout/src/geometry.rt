@@ -13,7 +13,8 @@
 //!
 //! and the disk `32 * writes + 4` blocks of log lines, and behind them a home block for each page.
 ghost use Rattle.std.specs.Prelude.{◌≡◌, ◌≤◌, ◌<◌, ℕ};
-ghost use Rattle.store_meaning.specs.Layout.{pages, nvm_lines, ring_blocks, ssd_blocks, entry_line, entry_word, frame_line, ring_line, ring_block, page_block};
+ghost use Rattle.store_meaning.specs.Layout.Region.{table, ring, frames};
+ghost use Rattle.store_meaning.specs.Layout.{ArePlaced, IsIn, pages, nvm_lines, ring_blocks, ssd_blocks, entry_line, entry_word, frame_line, ring_line, ring_block, page_block};
 
 /// The five numbers of a store, each in its range.
 #[derive(Clone, Copy, Debug, PartialEq, Eq)]
@@ -49,9 +50,11 @@ impl Geometry {
         1 + self.tables as u64 * (self.rows / 2 + 8)
     }
 
-    /// How many NVM lines it needs.
+    /// How many NVM lines it needs. No two of its places are one.
+    #[tactic(auto, using(store_meaning::proofs::LayoutLaws::are_placed))]
     pub fn nvm_lines(&self) -> u64
-        ensures { result ≡ nvm_lines (sizes_of self.now) }
+        ensures size { result ≡ nvm_lines (sizes_of self.now) }
+        ensures placed { ArePlaced (sizes_of self.now) }
     {
         let frames = self.frames as u64;
         16 + (frames + 8) / 8 + 64 * self.log_blocks as u64 + 64 * (frames + 1)
@@ -76,6 +79,7 @@ impl Geometry {
         requires frame { frame ≤ self.now.frames }
         requires line { line < 64 }
         ensures place { result ≡ frame_line (sizes_of self.now) frame line }
+        ensures part { IsIn (sizes_of self.now) frames result }
         ensures within { result < nvm_lines (sizes_of self.now) }
     {
         let table = (self.frames as u64 + 8) / 8;
@@ -87,6 +91,7 @@ impl Geometry {
         requires { frame ≤ self.now.frames }
         ensures line { result.0 ≡ entry_line frame }
         ensures word { result.1 ≡ entry_word frame }
+        ensures part { IsIn (sizes_of self.now) table result.0 }
         ensures within { result.0 < nvm_lines (sizes_of self.now) }
     {
         (16 + frame as u64 / 8, (frame % 8) as usize)
@@ -95,6 +100,7 @@ impl Geometry {
     /// The NVM line of the log line at an offset.
     pub fn ring_line(&self, offset: u64) -> u64
         ensures place { result ≡ ring_line (sizes_of self.now) offset }
+        ensures part { IsIn (sizes_of self.now) ring result }
         ensures within { result < nvm_lines (sizes_of self.now) }
     {
         16 + (self.frames as u64 + 8) / 8 + offset % (64 * self.log_blocks as u64)

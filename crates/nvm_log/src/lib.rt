@@ -9,6 +9,8 @@ mod head;
 mod log;
 mod putting;
 mod record;
+#[cfg(test)]
+mod tests;
 
 pub use head::{Head, read_head};
 pub use log::Log;

@@ -2,7 +2,7 @@
 use Rattle.std.proofs.Common.{◌≡◌, ℕ, suc, ◌+◌, ◌*◌, ◌/◌, ◌%◌, ◌<◌, ◌≤◌, refl, ap, inl, inr, arith}
 use Rattle.std.proofs.lemmas.Bool.{cases_order}
 use Rattle.std.proofs.Math.Nat.{mul-le-mul_left}
-use Rattle.store_meaning.specs.Layout.{Sizes, Region, IsIn, ring_lines, entry_line, entry_word, ring_line, frame_line, ring_blocks, ring_block, page_block, floor64}
+use Rattle.store_meaning.specs.Layout.{ArePlaced, Sizes, Region, IsIn, ring_lines, entry_line, entry_word, ring_line, frame_line, ring_blocks, ring_block, page_block, floor64}
 use Rattle.store_meaning.specs.Layout.Region.{superblock, table, ring, frames}
 
 pub regions_apart : (g : Sizes) (line : ℕ) (a b : Region) → IsIn g a line → IsIn g b line → a ≡ b
@@ -61,3 +61,13 @@ ring_block_apart g d a b da an db bn block line =
 -- no log block is the home of a page
 pub home_apart : (g : Sizes) (offset page : ℕ) → ring_block g offset < page_block g page
 home_apart g offset page = omega arith
+
+pub are_placed : (g : Sizes) → ArePlaced g
+are_placed g = record {
+  parts = regions_apart g;
+  entries = entry_apart;
+  ring_lines_apart = ring_apart g;
+  frame_lines = frame_apart g;
+  log_blocks = ring_block_apart g;
+  homes = home_apart g;
+}

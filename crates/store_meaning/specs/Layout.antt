@@ -1,5 +1,5 @@
 -- Where everything stands on the two devices, as formulas of five numbers.
-use Rattle.std.specs.Prelude.{ℕ, ◌+◌, ◌*◌, ◌/◌, ◌%◌, ◌<◌, ◌≤◌, ◌&&◌, Bool, nat_le}
+use Rattle.std.specs.Prelude.{◌≡◌, ℕ, ◌+◌, ◌*◌, ◌/◌, ◌%◌, ◌<◌, ◌≤◌, ◌&&◌, Bool, nat_le}
 
 -- The five numbers of a store: how many tables, rows of a table, writes of a transaction, frames in NVM, and blocks
 -- of 64 lines in the NVM log ring.
@@ -90,3 +90,13 @@ IsIn g superblock line = line < table_start
 IsIn g table line = (table_start ≤ line) × (line < ring_start g)
 IsIn g ring line = (ring_start g ≤ line) × (line < frames_start g)
 IsIn g frames line = (frames_start g ≤ line) × (line < nvm_lines g)
+
+-- No two parts of the NVM share a line, and within a part each place has a line or a word of its own; so have the blocks.
+pub record ArePlaced (g : Sizes) : Type 0 where
+  pub parts : (line : ℕ) (a b : Region) → IsIn g a line → IsIn g b line → a ≡ b
+  pub entries : (j k : ℕ) → entry_line j ≡ entry_line k → entry_word j ≡ entry_word k → j ≡ k
+  pub ring_lines_apart : (d a b : ℕ) → d ≤ a → a < d + ring_lines g → d ≤ b → b < d + ring_lines g → ring_line g a ≡ ring_line g b → a ≡ b
+  pub frame_lines : (j k l m : ℕ) → l < 64 → m < 64 → frame_line g j l ≡ frame_line g k m → (j ≡ k) × (l ≡ m)
+  pub log_blocks : (d a b : ℕ) → floor64 d ≤ a → a < floor64 d + 64 * ring_blocks g → floor64 d ≤ b → b < floor64 d + 64 * ring_blocks g
+      → ring_block g a ≡ ring_block g b → a % 64 ≡ b % 64 → a ≡ b
+  pub homes : (offset page : ℕ) → ring_block g offset < page_block g page
