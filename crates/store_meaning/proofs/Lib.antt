@@ -10,3 +10,4 @@ pub mod StartLaws
 pub mod FreshLaws
 pub mod Examples
 pub mod AtEndLaws
+pub mod EndsLaws

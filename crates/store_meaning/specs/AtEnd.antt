@@ -3,9 +3,12 @@ use Rattle.std.specs.Prelude.{◌≡◌, ◌⊎◌, ℕ, ◌+◌, true, Result, 
 use Rattle.nvm_model.specs.declared.line.Line.{Line}
 use Rattle.devices.specs.State.{State, Image, Leaves, current}
 use Rattle.devices.specs.World.{Standing, Moments, now}
-use Rattle.store_meaning.specs.Log.{Log, Entry, no_log, extended, is_logged}
+use Rattle.store_meaning.specs.Layout.{Sizes}
+use Rattle.store_meaning.specs.Log.{Words, Log, Entry, no_log, extended, is_logged}
+use Rattle.store_meaning.specs.Log.Entry.{commit}
+use Rattle.store_meaning.specs.Format.Format.{whole_lines}
 use Rattle.store_meaning.specs.Format.{Format, IsWhole, word_in}
-use Rattle.store_meaning.specs.Recovered.{super_of, log_lines, log_of, home}
+use Rattle.store_meaning.specs.Recovered.{super_of, log_lines, log_of, home, replay}
 use Rattle.store_meaning.specs.InOrder.{HomeStands}
 use Rattle.store_meaning.specs.Put.{CanPut}
 use Rattle.store_meaning.specs.StoreFacts.Gate.{start}
@@ -66,3 +69,7 @@ pub record HomesHoldAll (b : Bookkeeping) (s : State) : Type 0 where
   pub homes : (j : Image) → Leaves s j → (p l w : ℕ) → IsWord b.sizes p l w → is_logged (log_of b.format j) p l w ≡ true
       → HomeStands b.sizes s p l w × (home j p l w ≡ b.current p l w) × (home j p l w ≡ b.committed (super_of j).tail p l w)
   pub copies : (j : Image) → Leaves s j → (p l w : ℕ) (line : Line) → IsWord b.sizes p l w → b.copy p l ≡ Some line → word_in line w ≡ home j p l w
+
+-- With a commit last the log gives these words to all that it names.
+abbrev pub LogEnds : Sizes → Log → Words → Type 0
+LogEnds g log words = (p l w : ℕ) → IsWord g p l w → is_logged (extended log commit) p l w ≡ true → (homes : Words) → replay whole_lines (extended log commit) homes p l w ≡ words p l w
