@@ -1,0 +1,4 @@
+pub mod Entries
+pub mod Heads
+pub mod Moved
+pub mod Standing

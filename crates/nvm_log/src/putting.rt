@@ -1,0 +1,75 @@
+//! Lines that are put into the NVM, durable, and gates behind them.
+ghost use Rattle.std.specs.Prelude.{◌≡◌, ◌<◌, ℕ, [], ◌∷◌};
+ghost use Rattle.devices.specs.State.Call.{store_word, store_line, flush, fence};
+ghost use Rattle.devices.specs.World.{Goes, MakesAll, NvmCause};
+
+use devices::{Devices, Failed};
+use nvm_model::Line;
+
+/// Stores a line and flushes it.
+pub(crate) fn put_line<D: Devices>(dev: &mut D, line: u64, value: &Line) -> Result<(), Failed>
+    requires { line < (D.standing dev.old).lines }
+    ensures goes { Goes (D.standing dev.old) (D.standing dev.new) }
+    ensures makes { MakesAll (store_line line value.now ∷ flush line ∷ []) (D.standing dev.old) (D.standing dev.new) result }
+    ensures cause { NvmCause (D.standing dev.old) (D.standing dev.new) result }
+{
+    dev.store_line(line, value)?;
+    dev.flush(line)
+}
+
+/// Stores a gate, durable.
+pub(crate) fn put_gate<D: Devices>(dev: &mut D, line: u64, value: u64) -> Result<(), Failed>
+    requires line { line < (D.standing dev.old).lines }
+    ensures goes { Goes (D.standing dev.old) (D.standing dev.new) }
+    ensures makes { MakesAll (store_word line 0 value ∷ flush line ∷ fence ∷ []) (D.standing dev.old) (D.standing dev.new) result }
+    ensures cause { NvmCause (D.standing dev.old) (D.standing dev.new) result }
+{
+    dev.store_word(line, 0, value)?;
+    dev.flush(line)?;
+    dev.fence()
+}
+
+/// Three lines, durable.
+pub(crate) fn put_three<D: Devices>(
+    dev: &mut D,
+    places: (u64, u64, u64),
+    head: &Line,
+    before: &Line,
+    after: &Line,
+) -> Result<(), Failed>
+    requires first { places.0 < (D.standing dev.old).lines }
+    requires second { places.1 < (D.standing dev.old).lines }
+    requires third { places.2 < (D.standing dev.old).lines }
+    ensures goes { Goes (D.standing dev.old) (D.standing dev.new) }
+    ensures makes { MakesAll (store_line places.0 head.now ∷ flush places.0 ∷ store_line places.1 before.now ∷ flush places.1
+        ∷ store_line places.2 after.now ∷ flush places.2 ∷ fence ∷ []) (D.standing dev.old) (D.standing dev.new) result }
+    ensures cause { NvmCause (D.standing dev.old) (D.standing dev.new) result }
+{
+    put_line(dev, places.0, head)?;
+    put_line(dev, places.1, before)?;
+    put_line(dev, places.2, after)?;
+    dev.fence()
+}
+
+/// A record of three lines, durable, and then the tail, durable.
+pub(crate) fn append_at<D: Devices>(
+    dev: &mut D,
+    places: (u64, u64, u64),
+    head: &Line,
+    before: &Line,
+    after: &Line,
+    tail: u64,
+) -> Result<(), Failed>
+    requires gates { 3 < (D.standing dev.old).lines }
+    requires first { places.0 < (D.standing dev.old).lines }
+    requires second { places.1 < (D.standing dev.old).lines }
+    requires third { places.2 < (D.standing dev.old).lines }
+    ensures goes { Goes (D.standing dev.old) (D.standing dev.new) }
+    ensures makes { MakesAll (store_line places.0 head.now ∷ flush places.0 ∷ store_line places.1 before.now ∷ flush places.1
+        ∷ store_line places.2 after.now ∷ flush places.2 ∷ fence ∷ store_word 3 0 tail ∷ flush 3 ∷ fence ∷ [])
+        (D.standing dev.old) (D.standing dev.new) result }
+    ensures cause { NvmCause (D.standing dev.old) (D.standing dev.new) result }
+{
+    put_three(dev, places, head, before, after)?;
+    put_gate(dev, 3, tail)
+}

@@ -1,0 +1,13 @@
+pub mod LayoutLaws
+pub mod LogLaws
+pub mod RecoveredLaws
+pub mod PutLaws
+pub mod AppendLaws
+pub mod CheckLaws
+pub mod FactsLaws
+pub mod StoreLaws
+pub mod StartLaws
+pub mod FreshLaws
+pub mod Examples
+pub mod AtEndLaws
+pub mod EndsLaws

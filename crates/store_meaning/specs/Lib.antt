@@ -1,0 +1,12 @@
+pub mod Layout
+pub mod Log
+pub mod Format
+pub mod Recovered
+pub mod View
+pub mod InOrder
+pub mod StoreFacts
+pub mod Put
+pub mod Append
+pub mod Checked
+pub mod InPlace
+pub mod AtEnd
