@@ -8,14 +8,15 @@ use Rattle.devices.specs.World.{Standing, MakesAll, now}
 use Rattle.nvm_layout.specs.Sizes.{sizes_of}
 use Rattle.store_meaning.specs.Layout.{Sizes, pages, ring_lines}
 use Rattle.store_meaning.specs.Log.{Entry}
-use Rattle.store_meaning.specs.Format.{Format, entries, zero_line, head_check, entry_check, log_check}
+use Rattle.store_meaning.specs.Format.{Format, IsWhole, entries, zero_line, head_check, entry_check, log_check}
 use Rattle.store_meaning.specs.Format.Format.{whole_lines}
-use Rattle.store_meaning.specs.Recovered.{Super, super_of}
-use Rattle.store_meaning.specs.Put.{append_calls, start_calls, IsLine}
-use Rattle.store_meaning.specs.StoreFacts.{Bookkeeping}
+use Rattle.store_meaning.specs.Recovered.{Super, super_of, log_lines}
+use Rattle.store_meaning.specs.Put.{append_calls, start_calls, IsLine, CanPut}
+use Rattle.store_meaning.specs.StoreFacts.{Bookkeeping, StoreFacts}
+use Rattle.store_meaning.specs.AtEnd.{CanExtend, KeepsFacts}
 use Rattle.store_meaning.specs.Append.{head_line}
-use Rattle.store_meaning.proofs.CheckLaws.{entry_from, fault_from}
-use Rattle.store_meaning.proofs.FactsLaws.{current_leaves}
+use Rattle.store_meaning.proofs.CheckLaws.{entry_from, fault_from, store_whole}
+use Rattle.store_meaning.proofs.FactsLaws.{current_leaves, facts_can_put}
 use Rattle.store_meaning.proofs.StartLaws.{start_super}
 use Rattle.store_meaning.proofs.AtEndLaws.{puts_last, put_super, record_kept, abort_kept, commit_kept, empties, start_kept}
 use Rattle.nvm_log.specs.Entries.{change_of, record_lines, record_entry, end_lines, end_entry}
@@ -140,6 +141,25 @@ room_at log b s n has room =
     let tail : (super_of (current s)).tail ≡ log.tail = (has.log_of_it).tail in
     let start : (super_of (current s)).start ≡ log.start = (has.log_of_it).start in
     omega arith
+
+-- where the facts hold and the log in memory has room, lines can be put
+pub has_can_put : (log : Log) (b : Bookkeeping) (s : State) (n : ℕ) → HasFacts log b s → log.tail + n ≤ log.start + 64 * log.geometry.log_blocks → CanPut s n
+has_can_put log b s n has room = facts_can_put b s n (has.facts) (has.still) (room_at log b s n has room)
+
+pub has_can_extend : (log : Log) (b : Bookkeeping) (s : State) (n : ℕ) → HasFacts log b s → log.tail + n ≤ log.start + 64 * log.geometry.log_blocks → CanExtend whole_lines s n
+has_can_extend log b s n has room = record {
+  can = has_can_put log b s n has room;
+  whole = subst (λ (f : Format). IsWhole f 0 (log_lines (current s))) has.format (store_whole b.format (current s) ((has.facts).stores (current s) (current_leaves s)));
+}
+
+-- after a call that keeps the facts, with the log in memory that of the devices again, the next one may be made
+pub has_after : {T E : Type 0} {old new : Standing} {r : Result T E} (during after : Bookkeeping) (new_log : Log) → after.changing ≡ None → after.format ≡ whole_lines
+    → KeepsFacts during after old new r → OnOk r (IsLogOf new_log (now new)) → OnOk r (HasFacts new_log after (now new))
+has_after {T = T} {E = E} {new = new} {r = r} during after new_log still format keeps stands = by_answer r keeps.whole stands
+  where
+    by_answer : (r : Result T E) → OnOk r (StoreFacts after (now new)) → OnOk r (IsLogOf new_log (now new)) → OnOk r (HasFacts new_log after (now new))
+    by_answer (Ok v) facts at = record { log_of_it = at; facts = facts; still = still; format = format }
+    by_answer (Err e) facts at = tt
 
 -- The facts while a record is put, an end, or a new start.
 pub record_keeps : {T E : Type 0} {old new : Standing} {r : Result T E} (log : Log) (change : LineRecord) → IsLine change.before → IsLine change.after
