@@ -1,9 +1,8 @@
 -- How the lines of a script come byte by byte.
-use Rattle.std.proofs.Common.{◌≡◌, ◌≢◌, ℕ, ◌≤◌, List, [], ◌∷◌, ◌++◌, length, Result, Ok, Err, OnOk, IsErr, refl, sym, ◌∙◌, ap, subst, arith, append_assoc, Option, IsTrue}
+use Rattle.std.proofs.Common.{◌≡◌, ◌≢◌, ℕ, ◌≤◌, List, [], ◌∷◌, ◌++◌, length, Result, Ok, IsErr, sym, ◌∙◌, ap, subst, arith, append_assoc, Option, IsTrue}
 use Rattle.std.proofs.lemmas.List.{append-nil}
 use Rattle.std.proofs.lemmas.Result.{IfOk-from_err}
-use Rattle.devices.specs.State.{State as Devices}
-use Rattle.devices.specs.World.{Standing, WorldCall, OnlyChanges, IsTimed, now, sent, sent_at, sent_by}
+use Rattle.devices.specs.World.{Standing, WorldCall, IsTimed, sent, sent_at, sent_by}
 use Rattle.script.specs.declared.command.Command.{Command}
 use Rattle.script.specs.Lines.{IsOneLine}
 use Rattle.script.specs.Grammar.{commands}

@@ -1,6 +1,5 @@
 -- What a step leaves.
-use Rattle.std.proofs.Common.{◌≡◌, ℕ, ◌≤◌, true, false, List, [], ◌∷◌, length, Result, OnOk, Ok, Err, Some, None, inl, inr, refl, subst, sym, IsTrue, ◌∙◌}
-use Rattle.devices.specs.State.{State as Devices, Image, Leaves, fresh}
+use Rattle.std.proofs.Common.{◌≡◌, ℕ, ◌≤◌, true, false, List, length, Result, OnOk, Ok, Err, Some, None, inl, refl, subst, sym}
 use Rattle.devices.specs.World.{Standing, now}
 use Rattle.devices.proofs.JoinLaws.{Moments-at}
 use Rattle.script.specs.Lines.{is_silent}
@@ -8,12 +7,11 @@ use Rattle.script.specs.Grammar.{command_of}
 use Rattle.script.specs.Machine.{Rows, State, step, machine, most_rows}
 use Rattle.script.specs.Runs as run
 use Rattle.script.specs.Script.{command_in}
-use Rattle.script.specs.declared.command.Command.{Command}
 use Rattle.script.specs.declared.command.Command.TheVariants.{Put, Get}
 use Rattle.script.proofs.MachineLaws.{step_full}
 use Rattle.row_log.specs.InOrder.{InOrder}
 use Rattle.row_log.proofs.OrderLaws.{image_in_order}
-use Rattle.spitfire_app.specs.Engine.{Steps, HasEither}
+use Rattle.spitfire_app.specs.Engine.{Steps}
 
 -- what holds whatever is answered holds with ok
 pub OnOk-any : {T E P : Type 0} (r : Result T E) → P → OnOk r P

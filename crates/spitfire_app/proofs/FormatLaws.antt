@@ -1,11 +1,11 @@
 -- What a format leaves and says.
-use Rattle.std.proofs.Common.{◌≡◌, ◌⊎◌, inl, inr, ℕ, ◌+◌, ◌<◌, ◌≤◌, List, [], ◌∷◌, ◌++◌, length, take, drop, Result, Ok, OnOk, refl, sym, ◌∙◌, ap, subst, arith, append_assoc, length-append, IsTrue}
+use Rattle.std.proofs.Common.{◌≡◌, inl, inr, ℕ, ◌+◌, ◌≤◌, List, [], ◌++◌, length, take, drop, Result, refl, sym, ◌∙◌, ap, subst, arith, length-append, IsTrue}
 use Rattle.std.proofs.lemmas.Bool.{cases_lt}
 use Rattle.std.proofs.lemmas.List.{append-nil, take-append-drop}
 use Rattle.devices.specs.State.{State as Devices, Image, Leaves, fresh}
 use Rattle.devices.specs.World.{Standing, Goes, WorldCall, IsTimed, Moments, now, sent, sent_at}
-use Rattle.devices.proofs.MomentLaws.{Goes-sent, Moments-trans}
-use Rattle.row_log.specs.InOrder.{InOrder, MayFormat, Formats}
+use Rattle.devices.proofs.MomentLaws.{Goes-sent}
+use Rattle.row_log.specs.InOrder.{InOrder, MayFormat}
 use Rattle.spitfire_app.specs.Sent.{Writes}
 use Rattle.spitfire_app.specs.Promises.{formatted, Formatted}
 use Rattle.row_log.proofs.OrderLaws.{image_in_order}

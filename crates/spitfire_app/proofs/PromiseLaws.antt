@@ -1,21 +1,20 @@
 -- From the way of a run to what is promised of it.
-use Rattle.std.proofs.Common.{◌≡◌, ◌⊎◌, inl, inr, ℕ, suc, ◌+◌, ◌<◌, ◌≤◌, Bool, true, false, List, [], ◌∷◌, ◌++◌, length, Some, refl, sym, ◌∙◌, ap, subst, arith, append_assoc, length-append, get_or, IsTrue, Option}
+use Rattle.std.proofs.Common.{◌≡◌, ℕ, ◌+◌, Bool, true, false, List, [], ◌∷◌, ◌++◌, length, Some, refl, sym, ◌∙◌, ap, subst, arith, length-append, get_or, IsTrue}
 use Rattle.std.proofs.lemmas.List.{append-nil}
 use Rattle.std.proofs.Math.Seq.{get_or-append_seam}
-use Rattle.devices.specs.State.{State as Devices, Image, Leaves, fresh, current}
-use Rattle.devices.specs.World.{Standing, Outside, Goes, GoesOn, Stays, IsTimed, now, sent, sent_at}
+use Rattle.devices.specs.State.{Image, fresh, current}
+use Rattle.devices.specs.World.{Standing, Outside, Goes, GoesOn, Stays, IsTimed, now, sent}
 use Rattle.devices.proofs.MomentLaws.{Goes-sent}
 use Rattle.script.specs.Grammar.{commands}
 use Rattle.script.specs.Machine.{Rows, AreRows, State, machine, opening}
 use Rattle.script.specs.Replies.{text}
 use Rattle.script.specs.Runs as run
-use Rattle.script.specs.Output.{acked}
 use Rattle.script.proofs.OutputLaws.{IsWhole-empty}
 use Rattle.row_log.specs.Layout.{Words, rows_of}
 use Rattle.row_log.specs.InOrder.{Holds, InOrder}
 use Rattle.row_log.proofs.OrderLaws.{holds_of}
 use Rattle.row_log.proofs.LayoutLaws.{rows_of-are}
-use Rattle.spitfire_app.specs.Run.{Aim, Owes, IsKept, IsSafe, AreSafe}
+use Rattle.spitfire_app.specs.Run.{Aim, Owes, IsKept, AreSafe}
 use Rattle.spitfire_app.specs.Promises.{Replies, Recovers, Survives}
 use Rattle.spitfire_app.proofs.RunLaws.{still_safe, owes_still, safe_then}
 

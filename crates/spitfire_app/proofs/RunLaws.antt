@@ -1,11 +1,11 @@
 -- How a run goes on.
-use Rattle.std.proofs.Common.{◌≡◌, ◌⊎◌, inl, inr, ⊎_elim, ℕ, ◌+◌, ◌<◌, ◌≤◌, Bool, true, false, List, [], ◌∷◌, ◌++◌, length, take, drop, cond, Result, Ok, Err, OnOk, IsErr, refl, sym, ◌∙◌, ap, subst, arith, append_assoc, length-append, IsTrue, Option}
+use Rattle.std.proofs.Common.{◌≡◌, inl, inr, ⊎_elim, ℕ, ◌+◌, ◌≤◌, Bool, true, false, List, [], ◌∷◌, ◌++◌, length, take, drop, cond, Result, Ok, refl, sym, ◌∙◌, ap, subst, arith, append_assoc, length-append, IsTrue, Option}
 use Rattle.std.proofs.lemmas.Bool.{cases_lt, cases_Bool}
 use Rattle.std.proofs.lemmas.List.{append-nil, take-append-drop}
 use Rattle.std.proofs.lemmas.List.Concat.{flat_map-append}
-use Rattle.std.proofs.lemmas.Result.{IfOk-from_err, IfOk-at_ok}
-use Rattle.devices.specs.State.{State as Devices, Image, Leaves, fresh}
-use Rattle.devices.specs.World.{Standing, Goes, GoesOn, WorldCall, IsTimed, Moments, now, sent, sent_at}
+use Rattle.std.proofs.lemmas.Result.{IfOk-at_ok}
+use Rattle.devices.specs.State.{State as Devices}
+use Rattle.devices.specs.World.{Standing, Goes, GoesOn, WorldCall, IsTimed, now, sent, sent_at}
 use Rattle.devices.proofs.MomentLaws.{Goes-sent}
 use Rattle.script.specs.declared.command.Command.{Command}
 use Rattle.script.specs.Lines.{is_silent}
@@ -14,15 +14,15 @@ use Rattle.script.specs.Replies.{reply_text, text}
 use Rattle.script.specs.Runs as run
 use Rattle.script.specs.Script.{command_in}
 use Rattle.script.specs.Grammar.{command_of}
-use Rattle.script.specs.Output.{acked, IsWhole}
+use Rattle.script.specs.Output.{acked}
 use Rattle.script.proofs.OutputLaws.{IsWhole-empty, IsWhole-append, acked-whole, acked-take}
 use Rattle.script.proofs.RepliesLaws.{IsWhole-text}
 use Rattle.script.proofs.RunsLaws.{replies-append}
 use Rattle.script.proofs.MachineLaws.{tells, step_keeps, acked-step, AreRows-line}
 use Rattle.row_log.specs.InOrder.{Holds, InOrder}
 use Rattle.spitfire_app.specs.Sent.{Writes}
-use Rattle.spitfire_app.specs.Engine.{Steps, HasEither}
-use Rattle.spitfire_app.specs.Run.{Aim, Owes, IsKept, IsSafe, AreSafe, Proceeds}
+use Rattle.spitfire_app.specs.Engine.{Steps}
+use Rattle.spitfire_app.specs.Run.{Aim, Owes, IsSafe, AreSafe, Proceeds}
 use Rattle.row_log.proofs.OrderLaws.{image_in_order}
 
 -- ---- what is owed, and part of it sent

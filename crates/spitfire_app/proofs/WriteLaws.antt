@@ -1,11 +1,10 @@
 -- A whole write as it goes on.
-use Rattle.std.proofs.Common.{◌≡◌, ℕ, ◌+◌, ◌<◌, ◌≤◌, List, [], ◌∷◌, ◌++◌, length, take, drop, Result, Ok, Err, OnOk, OnErr, IsErr, refl, sym, ◌∙◌, ap, subst, arith, append_assoc, inl, inr, IsTrue}
-use Rattle.std.specs.Prelude.{IfOk}
+use Rattle.std.proofs.Common.{◌≡◌, ℕ, ◌+◌, ◌≤◌, List, ◌++◌, length, take, drop, Result, Ok, Err, IsErr, refl, sym, ◌∙◌, ap, arith, append_assoc, inl, inr, IsTrue}
 use Rattle.std.proofs.lemmas.List.{append-nil, take_all, drop-drop, length-drop}
 use Rattle.std.proofs.lemmas.Bool.{cases_lt}
-use Rattle.std.proofs.lemmas.Result.{IfOk-from_err, IfOk-at_ok}
+use Rattle.std.proofs.lemmas.Result.{IfOk-from_err}
 use Rattle.std.proofs.Math.Seq.{take-add}
-use Rattle.devices.specs.World.{Standing, GoesOn, Sends, MomentsSent, now, sent, sent_at}
+use Rattle.devices.specs.World.{Standing, GoesOn, Sends, sent, sent_at}
 use Rattle.spitfire_app.specs.Sent.{Writes}
 
 -- some first part of the bytes was sent, and these are left

@@ -1,5 +1,5 @@
 -- Why a run stops.
-use Rattle.std.specs.Prelude.{◌≡◌, ℕ, Result, IfErr, OnOk}
+use Rattle.std.specs.Prelude.{Result, IfErr, OnOk}
 use Rattle.devices.specs.World.{Standing, Rose, NoFault}
 use Rattle.spitfire_app.specs.declared.stop.Stop.{Stop}
 use Rattle.spitfire_app.specs.declared.stop.Stop.TheVariants.{Nvm, Source, Sink}

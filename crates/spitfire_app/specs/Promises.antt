@@ -1,7 +1,7 @@
 -- What the program promises of its runs, crashes among them, and the causes of its statuses.
-use Rattle.std.specs.Prelude.{◌≡◌, codes, ℕ, ◌+◌, ◌^◌, ◌<◌, ◌≤◌, ◌==◌, List, [], ◌∷◌, ◌++◌, length, Option, None, Some, IsSome, IsTrue}
+use Rattle.std.specs.Prelude.{◌≡◌, codes, ℕ, ◌+◌, ◌^◌, ◌<◌, ◌≤◌, ◌==◌, List, [], ◌∷◌, ◌++◌, length, None, Some, IsSome, IsTrue}
 use Rattle.std.specs.List.{list_any}
-use Rattle.devices.specs.State.{State, Image, Leaves, fresh, current}
+use Rattle.devices.specs.State.{Image, Leaves, fresh, current}
 use Rattle.devices.specs.World.{Standing, Moments, Rose, NoFault, last_count, now, sent, sent_at}
 use Rattle.script.specs.Lines.{ended}
 use Rattle.script.specs.Machine.{machine, State as Machine}
@@ -9,9 +9,8 @@ use Rattle.script.specs.Replies.{text}
 use Rattle.script.specs.Grammar.{commands}
 use Rattle.script.specs.Runs as run
 use Rattle.script.specs.Output.{acked}
-use Rattle.row_log.specs.Layout.{magic, least_lines, rows_of}
+use Rattle.row_log.specs.Layout.{least_lines, rows_of}
 use Rattle.row_log.specs.InOrder.{Holds, InOrder, MayFormat}
-use Rattle.spitfire_app.specs.declared.words.Task.{Task}
 use Rattle.spitfire_app.specs.declared.words.Task.TheVariants.{Format, Run}
 use Rattle.spitfire_app.specs.CommandLine.{task_of}
 use Rattle.spitfire_app.specs.Sent.{IsPrefix}

@@ -192,7 +192,11 @@ fn a_script_beyond_the_limit(rt: HostRuntime) -> Result<(), Fail> {
         let Ok(mut engine) = Engine::open(alloc, &mut world) else {
             return Err("no engine")?;
         };
-        assert_eq!(rt; run_script(&mut engine, &mut world, limit), status, "at {limit}");
+        assert_eq!(rt;
+            run_script(&mut engine, &mut world, limit),
+            status,
+            "at {limit}"
+        );
         assert_eq!(rt; world.output().get(begun..), Some(replies));
     }
     Ok(())

@@ -3,10 +3,9 @@ ghost use Rattle.std.specs.Prelude.{◌≡◌, ◌≢◌, ◌⊎◌, IfErr};
 ghost use Rattle.std.specs.IoError.{error_kind};
 
 use spitfire_app::Words;
-use std::env;
-use std::io;
 use std::io::ErrorKind;
 use std::rt::Env;
+use std::{env, io};
 
 /// The status where the list of the arguments finds no memory.
 const NO_MEMORY: u8 = 11;

@@ -1,9 +1,7 @@
 -- The step, and then its reply.
-use Rattle.std.proofs.Common.{◌≡◌, IsTrue, subst, sym, ap, ◌∙◌, List, ℕ, []}
+use Rattle.std.proofs.Common.{◌≡◌, IsTrue, subst, sym, ap, ◌∙◌, []}
 use Rattle.std.proofs.lemmas.Result.{IfOk-from_err}
-use Rattle.devices.specs.World.{Standing, now, sent}
-use Rattle.devices.proofs.MomentLaws.{Goes-on, Goes-sent}
-use Rattle.script.specs.declared.command.Reply.{Reply}
+use Rattle.devices.proofs.MomentLaws.{Goes-sent}
 use Rattle.script.specs.Replies.{text}
 use Rattle.script.proofs.RepliesLaws.{text_one}
 use Rattle.spitfire_app.specs.Engine.{state_of, replied}

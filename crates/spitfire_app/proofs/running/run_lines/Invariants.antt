@@ -1,6 +1,6 @@
 -- What was read so far was answered, but for the line that is kept.
-use Rattle.std.proofs.Common.{◌≡◌, ◌+◌, ◌≤◌, IsTrue, ℕ, List, [], ◌++◌, length}
-use Rattle.devices.specs.World.{Standing, GoesOn, NoFault}
+use Rattle.std.proofs.Common.{◌≡◌, ◌+◌, ◌≤◌, IsTrue, [], ◌++◌, length}
+use Rattle.devices.specs.World.{GoesOn, NoFault}
 use Rattle.script.specs.Lines.{IsOneLine}
 use Rattle.script.specs.Grammar.{commands}
 use Rattle.spitfire_app.specs.Engine.{state_of}

@@ -1,6 +1,6 @@
 -- The bytes so far were taken.
-use Rattle.std.proofs.Common.{◌≡◌, IsTrue, ◌≤◌, ℕ, List, [], ◌++◌, drop}
-use Rattle.devices.specs.World.{Standing, GoesOn, NoFault}
+use Rattle.std.proofs.Common.{◌≡◌, IsTrue, ℕ, List, [], ◌++◌, drop}
+use Rattle.devices.specs.World.{GoesOn, NoFault}
 use Rattle.script.specs.Lines.{IsOneLine}
 use Rattle.script.specs.Grammar.{commands}
 use Rattle.spitfire_app.specs.Engine.{state_of}

@@ -1,6 +1,5 @@
 -- What was read is taken.
-use Rattle.std.proofs.Common.{rules, arith, ◌≡◌, ℕ, List, [], ◌++◌, take, IsTrue, subst, sym, refl, ◌∙◌, ap}
-use Rattle.devices.specs.World.{Standing}
+use Rattle.std.proofs.Common.{rules, ℕ, List, [], ◌++◌, IsTrue, subst, sym, refl, ap}
 use Rattle.script.specs.Grammar.{commands}
 use Rattle.spitfire_app.specs.Engine.{state_of}
 use Rattle.spitfire_app.specs.Run.{Aim, Owes, Proceeds, AreSafe}

@@ -1,8 +1,7 @@
 -- Each write sends the next of them.
-use Rattle.std.proofs.Common.{rules, arith, ◌≡◌, IsTrue, subst, sym, List, ℕ, drop, ◌∙◌}
+use Rattle.std.proofs.Common.{rules, arith, IsTrue, subst, sym}
 use Rattle.std.specs.Prelude.{true, false}
 use Rattle.std.proofs.lemmas.Grind.{common_steps}
-use Rattle.std.proofs.lemmas.Result.{IfOk-from_err}
 use Rattle.devices.proofs.JoinLaws.{WorldCall-refl, WorldCall-trans, OnlyChanges-refl, OnlyChanges-trans}
 use Rattle.spitfire_app.proofs.WriteLaws.{far_start, far_ok, far_err, far_end}
 use Rattle.spitfire_app.proofs.sending.write_all.Goals as goal

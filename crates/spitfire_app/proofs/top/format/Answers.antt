@@ -1,5 +1,5 @@
 -- The store is made, and then the line is sent.
-use Rattle.std.proofs.Common.{◌≡◌, IsTrue, subst, sym, arith}
+use Rattle.std.proofs.Common.{IsTrue, subst, sym, arith}
 use Rattle.spitfire_app.proofs.FormatLaws.{format_failed, format_said}
 use Rattle.spitfire_app.proofs.top.format.Goals as goal
 

@@ -1,5 +1,5 @@
 -- Where there is no room nothing changes.
-use Rattle.std.proofs.Common.{◌≡◌, ◌≤◌, IsTrue, sym, arith, length}
+use Rattle.std.proofs.Common.{◌≤◌, arith, length}
 use Rattle.script.specs.Machine.{most_rows}
 use Rattle.spitfire_app.specs.Engine.{state_of}
 use Rattle.spitfire_app.proofs.EngineLaws.{steps_still, rows_full}

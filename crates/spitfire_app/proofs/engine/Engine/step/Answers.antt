@@ -1,5 +1,5 @@
 -- Where nothing is put nothing changes.
-use Rattle.std.proofs.Common.{◌≡◌, IsTrue, sym, ◌∙◌, ap, Some}
+use Rattle.std.proofs.Common.{sym, ◌∙◌, ap, Some}
 use Rattle.spitfire_app.specs.Engine.{state_of}
 use Rattle.spitfire_app.proofs.EngineLaws.{steps_still, rows_silent, rows_refused, rows_got}
 use Rattle.spitfire_app.proofs.engine.Engine.step.Goals as goal
