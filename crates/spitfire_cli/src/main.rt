@@ -3,15 +3,8 @@
 #![tactic(auto)]
 
 mod arguments;
-mod counts;
-mod device_file;
-mod file_world;
-mod line_bytes;
-mod streams;
-#[cfg(test)]
-mod tests;
 
-use file_world::FileWorld;
+use device_files::FileWorld;
 use spitfire_app::spitfire;
 use std::process::ExitCode;
 

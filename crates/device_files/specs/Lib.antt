@@ -1,0 +1,10 @@
+pub mod LineBytes
+pub mod Streams
+pub mod DeviceFile
+pub mod Gathered
+pub mod LineCache
+pub mod LineMemory
+pub mod NvmFile
+pub mod SettingsFile
+pub mod FileWorld
+pub mod Laws
