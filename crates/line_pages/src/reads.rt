@@ -17,6 +17,7 @@ pub fn copy_page<P: Pages>(pages: &mut P, page: u64, into: &mut PageBuf) -> Resu
     ensures continues { Continues (P.may_leave pages.old) (P.may_leave pages.new) (P.is_steady pages.old) (P.standing pages.old) (P.standing pages.new) }
     ensures bytes { IsTrue (P.standing pages.old).told → OnOk result (into.new ≡ bytes_of (P.standing pages.old).current page) }
     ensures reads { OnOk result (ReadsPage page (P.standing pages.old) (P.standing pages.new)) }
+    ensures again { begins (P.standing pages.old).access page false ≡ false → (P.standing pages.new).visits ≤ (P.standing pages.old).visits }
     ensures few { (P.standing pages.new).visits ≤ (P.standing pages.old).visits + 1 }
     ensures cause { HasCause Never (P.standing pages.old) (P.standing pages.new) result }
     ensures ready { OnOk result (P.is_ready pages.new) }

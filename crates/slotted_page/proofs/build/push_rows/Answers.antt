@@ -1,0 +1,16 @@
+use Rattle.std.proofs.Common.{arith}
+use Rattle.slotted_page.specs.Node.{leaf_rows}
+use Rattle.slotted_page.proofs.BuildLemmas.{read_row, room_next, rows_next}
+use Rattle.slotted_page.proofs.build.push_rows.Goals as goal
+
+pub push_row-requires-clause-room : goal.push_row-requires-clause-room
+push_row-requires-clause-room c =
+    room_next (leaf_rows c.args.page.now) (leaf_rows c.args.from.now) (leaf_rows c.loop-i.page) c.args.start c.loop-i.i c.args.end (c.leaf_key.result, c.leaf_value.result.now)
+    c.loop-i.invariant.rows (omega arith) (omega arith) c.requires.within (read_row (leaf_rows c.args.from.now) c.loop-i.i _ _ c.leaf_key.ensures c.leaf_value.ensures.value _) c.requires.room
+
+pub loop-i-preserved : goal.loop-i-preserved
+loop-i-preserved c = record {
+  rows = rows_next (leaf_rows c.args.page.now) (leaf_rows c.args.from.now) (leaf_rows c.loop-i.page) (leaf_rows c.push_row.new.page) c.args.start c.loop-i.i (c.leaf_key.result, c.leaf_value.result.now)
+      c.loop-i.invariant.rows c.push_row.ensures.rows (omega arith) (omega (arith, c.requires.within, c.loop-i-test.true)) (read_row (leaf_rows c.args.from.now) c.loop-i.i _ _ c.leaf_key.ensures c.leaf_value.ensures.value _);
+  packed = c.push_row.ensures.packed;
+}

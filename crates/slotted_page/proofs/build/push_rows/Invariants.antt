@@ -1,0 +1,10 @@
+use Rattle.std.proofs.Common.{◌≡◌, ◌++◌, slice_range}
+use Rattle.slotted_page.specs.Node.{leaf_rows}
+use Rattle.slotted_page.specs.Sound.{IsPacked}
+use Rattle.slotted_page.proofs.build.push_rows.Given as goal
+
+abbrev pub invariant-loop-i : goal.invariant-loop-i
+invariant-loop-i l = record {
+  rows : leaf_rows l.page ≡ leaf_rows l.fn.page ++ slice_range (leaf_rows l.from) l.start l.i;
+  packed : IsPacked l.page;
+}

@@ -1,0 +1,18 @@
+-- The keys that each child of an inner page covers.
+use Rattle.std.specs.Prelude.{ℕ, ◌-◌, List, [], ◌∷◌}
+use Rattle.slotted_page.specs.Node.{Child}
+
+-- a child with the lowest and the highest key that it may have
+pub record Span : Type 0 where
+  pub page : ℕ
+  pub low : ℕ
+  pub high : ℕ
+
+-- a child reaches up to the key before the next child's, the last one up to the page's high bound
+abbrev pub reach : List Child → ℕ → ℕ
+reach [] high = high
+reach (next ∷ rest) high = next.0 - 1
+
+abbrev pub spans : List Child → ℕ → List Span
+spans [] high = []
+spans (child ∷ rest) high = record { page = child.1; low = child.0; high = reach rest high } ∷ spans rest high
