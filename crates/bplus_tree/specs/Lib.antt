@@ -1,0 +1,4 @@
+pub mod Tree
+pub mod Space
+pub mod Moves
+pub mod Way
