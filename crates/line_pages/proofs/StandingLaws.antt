@@ -1,12 +1,12 @@
 -- Calls in a row.
-use Rattle.std.proofs.Common.{◌≡◌, ℕ, ◌+◌, ◌≤◌, inl, inr, false, cond, IsTrue, [], ◌∷◌, ◌++◌, refl, sym, ap, subst, ◌∙◌, arith, append_assoc, append-nil, Ok, Bool, true, length, length-append, Some, List}
-use Rattle.std.proofs.lemmas.Bool.{cases_lt, cases_Bool, eq-eqb}
+use Rattle.std.proofs.Common.{◌≡◌, ℕ, ◌+◌, ◌≤◌, inl, inr, false, cond, IsTrue, [], ◌∷◌, ◌++◌, refl, sym, ap, subst, ◌∙◌, arith, append_assoc, append-nil, Ok, true, length, length-append, Some, List, None}
+use Rattle.std.proofs.lemmas.Bool.{cases_lt, cases_Bool}
 use Rattle.nvm_model.specs.declared.line.Line.{Line}
 use Rattle.line_pages.specs.Lines.{Lines}
-use Rattle.line_pages.specs.Touch.{Access, accesses, begins, touch_of}
+use Rattle.line_pages.specs.Touch.{Access, accesses, begins, touch_of, accesses_from, access_after, begun_from, last_from}
 use Rattle.line_pages.specs.Standing.{Standing, Continues, Reads, Writes, ReadsPage, WritesPage, KeepsLines, AddsReads}
 use Rattle.line_pages.proofs.LineLaws.{with_line-other_page}
-use Rattle.line_pages.proofs.TouchLaws.{accesses-append, writes-append, goes_on}
+use Rattle.line_pages.proofs.TouchLaws.{accesses-append, writes-append, goes_on, goes_on_writing, accesses_from-append, access_after-append, accesses_from-begun, access_after-last, alone-append, alone_reads, run_alone, run_open}
 
 pub Continues-refl : {A : Type 0} (leave : ℕ → Lines → Type 0) (steady : Type 0) (s : Standing A) → Continues leave leave steady s s
 Continues-refl leave steady s = record {
@@ -56,7 +56,7 @@ ReadsPage-trans {page = page} {a = a} {b = b} first second =
       added = first.added ++ second.added;
       touches = second.touches ∙ ap (λ ts. ts ++ second.added) first.touches ∙ append_assoc a.touches first.added second.added;
       begun = accesses-append first.added second.added ∙ ap (λ ts. accesses first.added ++ ts) none ∙ append-nil (accesses first.added) ∙ first.begun;
-      reads = writes-append first.added second.added first.reads second.reads;
+      alone = alone-append (page, false) first.added second.added first.alone second.alone;
     }
 
 -- one read
@@ -70,7 +70,7 @@ one_read {page = page} {line = line} {old = old} found told read = record {
   added = touch_of old.access page line false ∷ [];
   touches = read.touch.touches;
   begun = refl;
-  reads = refl;
+  alone = rw (goes_on page) refl;
 }
 
 -- reads of one page begin one access at most
@@ -85,10 +85,6 @@ one_access {page = page} {old = old} reads =
 pub still_open : {A : Type 0} {page : ℕ} {old new : Standing A} → ReadsPage page old new → begins new.access page false ≡ false
 still_open {page = page} reads = ap (λ o. begins o page false) reads.access ∙ goes_on page
 
--- an open write access of the page goes on
-pub goes_on_writing : (page : ℕ) → begins (Some (page, true)) page true ≡ false
-goes_on_writing page = rw (eq-eqb page page refl) refl
-
 -- more writes of the same page
 pub WritesPage-trans : {A : Type 0} {page : ℕ} {a b c : Standing A} → WritesPage page a b → WritesPage page b c → WritesPage page a c
 WritesPage-trans {page = page} {a = a} {b = b} first second =
@@ -102,6 +98,7 @@ WritesPage-trans {page = page} {a = a} {b = b} first second =
       added = first.added ++ second.added;
       touches = second.touches ∙ ap (λ ts. ts ++ second.added) first.touches ∙ append_assoc a.touches first.added second.added;
       begun = accesses-append first.added second.added ∙ ap (λ ts. accesses first.added ++ ts) none ∙ append-nil (accesses first.added) ∙ first.begun;
+      alone = alone-append (page, true) first.added second.added first.alone second.alone;
       room = omega (arith, first.room, second.room, length-append first.added second.added);
     }
 
@@ -115,6 +112,7 @@ one_write {page = page} {line = line} {value = value} {old = old} done told writ
   added = touch_of old.access page line true ∷ [];
   touches = write.touch.touches;
   begun = refl;
+  alone = rw (goes_on_writing page) refl;
   room = write.room;
 }
 
@@ -126,30 +124,55 @@ one_access_written {page = page} {old = old} writes =
       | inr e ↦ let rise = writes.visits ∙ ap (λ b. old.visits + cond b 1 0) e in omega (arith, rise)
     ]
 
--- reads of one page add the access that they begin
-pub page_adds : {A : Type 0} {page : ℕ} {old new : Standing A} → ReadsPage page old new → AddsReads (λ begun. begun ≡ cond (begins old.access page false) ((page, false) ∷ []) []) old new
-page_adds {page = page} {old = old} reads = record {
-  added = reads.added;
-  touches = reads.touches;
-  reads = reads.reads;
-  visits = reads.visits ∙ ap (λ k. old.visits + k) (by_cases (begins old.access page false) ∙ ap length (sym reads.begun));
-  fact = reads.begun;
-}
-  where
-    by_cases : (b : Bool) → cond b 1 0 ≡ length {A = Access} (cond b ((page, false) ∷ []) [])
-    by_cases true = refl
-    by_cases false = refl
+-- no read yet, in an open access
+pub ReadsPage-refl : {A : Type 0} (page : ℕ) (s : Standing A) → s.access ≡ Some (page, false) → ReadsPage page s s
+ReadsPage-refl page s is_open =
+    let on = ap (λ o. begins o page false) is_open ∙ goes_on page in
+    record {
+      told = refl;
+      current = λ told. refl;
+      room = refl;
+      access = is_open;
+      visits = rw on (omega arith);
+      added = [];
+      touches = sym (append-nil s.touches);
+      begun = rw on refl;
+      alone = refl;
+    }
+
+-- at least one read of one page
+pub page_adds : {A : Type 0} {page : ℕ} {old new : Standing A} → (reads : ReadsPage page old new) → begins old.access page false ≡ true → AddsReads (λ pages. pages ≡ (page, false) ∷ []) old new
+page_adds {page = page} {old = old} reads starts =
+    let begun : accesses reads.added ≡ (page, false) ∷ [] = reads.begun ∙ ap (λ b. cond b ((page, false) ∷ []) []) starts in
+    let alone : accesses_from None reads.added ≡ (page, false) ∷ [] = run_alone (page, false) (page, false) reads.added begun reads.alone in
+    record {
+      added = reads.added;
+      touches = reads.touches;
+      visits = reads.visits ∙ ap (λ b. old.visits + cond b 1 0) starts ∙ ap (λ xs. old.visits + length xs) (sym begun);
+      begun = begun
+          ∙ sym (accesses_from-begun old.access reads.added ∙ ap (begun_from old.access) alone ∙ ap (λ b. cond b ((page, false) ∷ []) []) starts);
+      access = reads.access ∙ sym (run_open old.access (page, false) (page, false) reads.added begun reads.alone);
+      reads = alone_reads page reads.added reads.alone;
+      fact = alone;
+    }
 
 -- reads after reads
-pub AddsReads-trans : {A : Type 0} {First Second Both : List Access → Type 0} {a b c : Standing A} → ((x y : List Access) → First x → Second y → Both (x ++ y))
+pub AddsReads-trans : {A : Type 0} {First Second Both : List Access → Type 0} {a b c : Standing A} → ((x y : List Access) → First x → Second y → Both (x ++ begun_from (last_from None x) y))
     → AddsReads First a b → AddsReads Second b c → AddsReads Both a c
-AddsReads-trans {Both = Both} {a = a} join first second = record {
-  added = first.added ++ second.added;
-  touches = second.touches ∙ ap (λ ts. ts ++ second.added) first.touches ∙ append_assoc a.touches first.added second.added;
-  reads = writes-append first.added second.added first.reads second.reads;
-  visits = omega (arith, first.visits, second.visits, ap length (accesses-append first.added second.added), length-append (accesses first.added) (accesses second.added));
-  fact = subst Both (sym (accesses-append first.added second.added)) (join (accesses first.added) (accesses second.added) first.fact second.fact);
-}
+AddsReads-trans {Both = Both} {a = a} {b = b} join first second =
+    let goes = first.access in
+    record {
+      added = first.added ++ second.added;
+      touches = second.touches ∙ ap (λ ts. ts ++ second.added) first.touches ∙ append_assoc a.touches first.added second.added;
+      visits = omega (arith, first.visits, second.visits, ap length (accesses-append first.added second.added), length-append (accesses first.added) (accesses second.added));
+      begun = accesses-append first.added second.added ∙ ap (λ xs. xs ++ accesses second.added) first.begun
+          ∙ ap (λ ys. accesses_from a.access first.added ++ ys) (second.begun ∙ ap (λ o. accesses_from o second.added) goes) ∙ sym (accesses_from-append a.access first.added second.added);
+      access = second.access ∙ ap (λ o. access_after o second.added) goes ∙ sym (access_after-append a.access first.added second.added);
+      reads = writes-append first.added second.added first.reads second.reads;
+      fact = subst Both (sym (accesses_from-append None first.added second.added
+          ∙ ap (λ ys. accesses_from None first.added ++ ys) (accesses_from-begun (access_after None first.added) second.added ∙ ap (λ o. begun_from o (accesses_from None second.added)) (access_after-last None first.added))))
+          (join (accesses_from None first.added) (accesses_from None second.added) first.fact second.fact);
+    }
 
 pub KeepsLines-trans : {A : Type 0} {a b c : Standing A} → b.told ≡ a.told → KeepsLines a b → KeepsLines b c → KeepsLines a c
 KeepsLines-trans told first second = record {

@@ -1,11 +1,11 @@
 -- What a store of pages shows to the layers above it, and what its calls do to that.
-use Rattle.std.specs.Prelude.{◌≡◌, ◌≢◌, ℕ, ◌+◌, ◌-◌, ◌^◌, ◌<◌, ◌≤◌, min, Bool, true, false, List, [], ◌∷◌, ◌++◌, filter, length, Option, Some, None, if◌then◌else◌, IsTrue, Result, OnOk, IfErr}
+use Rattle.std.specs.Prelude.{◌≡◌, ◌≢◌, ℕ, ◌+◌, ◌<◌, ◌≤◌, min, Bool, true, false, List, [], ◌∷◌, ◌++◌, filter, length, Option, Some, None, if◌then◌else◌, IsTrue, Result, OnOk, IfErr}
 use Rattle.nvm_model.specs.declared.line.Line.{Line}
 use Rattle.line_pages.specs.declared.stop.Evidence.{Evidence}
 use Rattle.line_pages.specs.declared.stop.Stop.{Stop}
 use Rattle.line_pages.specs.declared.stop.Stop.TheVariants.{Nvm, Ssd, Damaged}
 use Rattle.line_pages.specs.Lines.{Lines, with_line}
-use Rattle.line_pages.specs.Touch.{Touch, Access, begins, touch_of, accesses, writes_line}
+use Rattle.line_pages.specs.Touch.{Touch, Access, begins, touch_of, accesses, accesses_from, access_after, writes_line}
 
 -- What is known of a store at one moment. `told` says whether its content is known: each clause on lines holds there
 -- alone. `committed` are the lines that recovery gives, `room` is the number of line writes still allowed, `visits` that
@@ -25,9 +25,13 @@ pub record Standing (A : Type 0) : Type 0 where
   pub clock : ℕ
   pub apart : A
 
+-- the last number that a count can show; there it stays
+abbrev pub last_count : ℕ
+last_count = 18446744073709551615
+
 -- a count that rose, or stands at its last value
 abbrev pub Rose : ℕ → ℕ → Type 0
-Rose before after = min (before + 1) (2 ^ 64 - 1) ≤ after
+Rose before after = min (before + 1) last_count ≤ after
 
 -- Whatever a call answers, and every call above too: the size, whether it is told, the committed pages and `apart` stay,
 -- no count falls, no earlier touch goes, earlier moments leave nothing more, and at each moment since the start recovery
@@ -63,7 +67,7 @@ pub record Writes {A : Type 0} {T E : Type 0} (page line : ℕ) (value : Line) (
   pub current : IsTrue old.told → OnOk result (new.current ≡ with_line page line value old.current)
   pub room : OnOk result (new.room + 1 ≡ old.room)
 
--- Reads of lines of one page, in one access: it begins one, unless an access of that page and kind was open.
+-- Reads of lines of this page alone, in one access: it begins one, unless an access of that page and kind was open.
 pub record ReadsPage {A : Type 0} (page : ℕ) (old new : Standing A) : Type 0 where
   pub told : new.told ≡ old.told
   pub current : IsTrue old.told → new.current ≡ old.current
@@ -73,9 +77,9 @@ pub record ReadsPage {A : Type 0} (page : ℕ) (old new : Standing A) : Type 0 w
   pub added : List Touch
   pub touches : new.touches ≡ old.touches ++ added
   pub begun : accesses added ≡ (if begins old.access page false then (page, false) ∷ [] else [])
-  pub reads : filter writes_line added ≡ []
+  pub alone : accesses_from (Some (page, false)) added ≡ []
 
--- Writes of lines of one page, in one access: no other page changes, and the room falls by one with each.
+-- Writes of lines of this page alone, in one access: no other page changes, and the room falls by one with each.
 pub record WritesPage {A : Type 0} (page : ℕ) (old new : Standing A) : Type 0 where
   pub told : new.told ≡ old.told
   pub others : IsTrue old.told → (p l : ℕ) → p ≢ page → new.current p l ≡ old.current p l
@@ -84,6 +88,7 @@ pub record WritesPage {A : Type 0} (page : ℕ) (old new : Standing A) : Type 0 
   pub added : List Touch
   pub touches : new.touches ≡ old.touches ++ added
   pub begun : accesses added ≡ (if begins old.access page true then (page, true) ∷ [] else [])
+  pub alone : accesses_from (Some (page, true)) added ≡ []
   pub room : new.room + length added ≡ old.room
 
 -- no line changes, and the room stays
@@ -91,13 +96,16 @@ pub record KeepsLines {A : Type 0} (old new : Standing A) : Type 0 where
   pub current : IsTrue old.told → new.current ≡ old.current
   pub room : new.room ≡ old.room
 
--- Reads alone, with a fact about the accesses that they begin.
+-- Reads alone, no access being ended between, with a fact about the pages that they read, in order: reads in a row of
+-- one page count once, and the first of them may go on in an open access.
 pub record AddsReads {A : Type 0} (Fact : List Access → Type 0) (old new : Standing A) : Type 0 where
   pub added : List Touch
   pub touches : new.touches ≡ old.touches ++ added
-  pub reads : filter writes_line added ≡ []
   pub visits : new.visits ≡ old.visits + length (accesses added)
-  pub fact : Fact (accesses added)
+  pub begun : accesses added ≡ accesses_from old.access added
+  pub access : new.access ≡ access_after old.access added
+  pub reads : filter writes_line added ≡ []
+  pub fact : Fact (accesses_from None added)
 
 -- the end of an access
 pub record Rests {A : Type 0} (old new : Standing A) : Type 0 where

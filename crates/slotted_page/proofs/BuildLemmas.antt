@@ -1,7 +1,7 @@
 -- Packed leaves.
-use Rattle.std.proofs.Common.{◌≡◌, ℕ, ◌+◌, ◌-◌, ◌<◌, ◌≤◌, List, [], ◌∷◌, ◌++◌, length, get_or, slice_range, refl, ap, sym, ◌∙◌, arith, append_assoc}
+use Rattle.std.proofs.Common.{◌≡◌, ℕ, ◌+◌, ◌-◌, ◌<◌, ◌≤◌, List, [], ◌∷◌, ◌++◌, length, get_or, slice_range, refl, ap, sym, ◌∙◌, arith, append_assoc, append-nil}
 use Rattle.std.specs.List.{insert}
-use Rattle.std.proofs.lemmas.List.Edits.{insert_end}
+use Rattle.std.proofs.lemmas.List.Edits.{insert_end, between_none}
 use Rattle.slotted_page.specs.Rows.{Row}
 use Rattle.slotted_page.specs.Node.{slots, leaf_rows, page_kind, page_level, entry_count, heap_start}
 use Rattle.slotted_page.specs.Sound.{IsPacked, row_bytes}
@@ -58,3 +58,6 @@ rows_next old from now next start i row so_far pushed low high is =
 -- what leaf_key and leaf_value gave is the row
 pub read_row : (rows : List Row) (i key : ℕ) (value : List ℕ) → ((d : Row) → key ≡ (get_or rows i d).0) → ((d : Row) → value ≡ (get_or rows i d).1) → (d : Row) → (key, value) ≡ get_or rows i d
 read_row rows i key value keys values d = pair_is key value (get_or rows i d) (keys d) (values d)
+
+pub none_yet : (old from : List Row) (start : ℕ) → old ≡ old ++ slice_range from start start
+none_yet old from start = sym (ap (λ xs. old ++ xs) (between_none from start) ∙ append-nil old)

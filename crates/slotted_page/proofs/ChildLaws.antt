@@ -1,22 +1,17 @@
 -- The children of an inner page by index, and a search among them.
 use Rattle.std.proofs.Common.{◌≡◌, ◌≢◌, ℕ, zero, suc, ◌+◌, ◌-◌, ◌*◌, ◌<◌, ◌≤◌, inl, inr, Bool, true, false, List, [], ◌∷◌, length, get_or, Some, nat_eq, nat_lt, nat_le, ◌&&◌, refl, sym, ap, ◌∙◌, arith, slice_get}
 use Rattle.std.specs.List.{list_all}
-use Rattle.std.proofs.lemmas.Bool.{cases_eq, eqb-true, lt-ltb, ltb-true, le-leb, leb-true, ne_eqb, and_parts}
+use Rattle.std.proofs.lemmas.Bool.{cases_eq, cases_lt, eqb-true, lt-ltb, ltb-true, le-leb, leb-true, ne_eqb, and_parts}
 use Rattle.std.proofs.lemmas.List.{length-map, get_or-map}
 use Rattle.line_pages.specs.Bytes.{u64_at}
 use Rattle.slotted_page.specs.declared.root.Expect.{Expect}
 use Rattle.slotted_page.specs.Rows.{last_key}
 use Rattle.slotted_page.specs.Node.{Child, children, entry_count, first_keys, begins_at, is_page_below, IsWellFormed}
-use Rattle.slotted_page.specs.Spans.{spans}
+use Rattle.slotted_page.specs.Spans.{spans, Reaches}
 use Rattle.slotted_page.specs.Search.{is_root_span}
 use Rattle.slotted_page.proofs.InnerLemmas.{length_children, child_at}
 use Rattle.slotted_page.proofs.KeyLaws.{Ascends-first, Ascends-last, Ascends-at}
 use Rattle.slotted_page.proofs.PageFacts.{inner_facts}
-
--- up to which key the child before an index reaches
-pub record Reaches (cs : List Child) (next high most : ℕ) : Type 0 where
-  pub next_is : next < length cs → (d : Child) → most ≡ (get_or cs next d).0 - 1
-  pub last_is : length cs ≤ next → most ≡ high
 
 span_at : (cs : List Child) (at high most : ℕ) (d : Child) → at < length cs → Reaches cs (at + 1) high most
     → slice_get (spans cs high) at ≡ Some (record { page = (get_or cs at d).1; low = (get_or cs at d).0; high = most })
@@ -142,19 +137,19 @@ pub narrow_one : (expect : Expect) (key count low high least most : ℕ) → Nar
 narrow_one expect key count low high least most is some range one =
     elim (cases_eq low 0) [
       | inl e ↦ record {
-          low = omega (arith, is.first e);
-          above = is.above;
-          below = is.below;
-          high = omega (arith, is.earlier (omega (arith, e, one, some)));
-          no_root = no_root_high least most (λ f. omega (arith, f, is.earlier (omega (arith, e, one, some)), range));
-        }
+        low = omega (arith, is.first e);
+        above = is.above;
+        below = is.below;
+        high = omega (arith, is.earlier (omega (arith, e, one, some)));
+        no_root = no_root_high least most (λ f. omega (arith, f, is.earlier (omega (arith, e, one, some)), range));
+      }
       | inr ne ↦ record {
-          low = omega (arith, is.later (omega (arith, ne)));
-          above = is.above;
-          below = is.below;
-          high = elim (cases_eq high count) [ | inl e ↦ omega (arith, is.last e) | inr less ↦ omega (arith, is.earlier (omega (arith, less, is.within))) ];
-          no_root = no_root_low least most (λ f. omega (arith, f, is.later (omega (arith, ne))));
-        }
+        low = omega (arith, is.later (omega (arith, ne)));
+        above = is.above;
+        below = is.below;
+        high = elim (cases_eq high count) [ inl e ↦ omega (arith, is.last e) | inr less ↦ omega (arith, is.earlier (omega (arith, less, is.within))) ];
+        no_root = no_root_low least most (λ f. omega (arith, f, is.later (omega (arith, ne))));
+      }
     ]
 
 -- what `least` and `most` are in a well-formed page
@@ -183,3 +178,28 @@ pub inside_of : (expect : Expect) (key : ℕ) → (nat_lt expect.low key && nat_
 inside_of expect key e =
     let parts = and_parts (nat_lt expect.low key) (nat_le key expect.high) e in
     record { low = ltb-true expect.low key parts.0; high = leb-true key expect.high parts.1 }
+
+-- one child alone, in a well-formed page
+pub narrow_child : (bytes : List ℕ) (expect : Expect) (key count at low most : ℕ) (d : Child) → expect.level ≢ 0 → IsWellFormed bytes expect → count ≡ length (children bytes) → expect.low ≤ key → key ≤ expect.high
+    → at < count → low ≡ (get_or (children bytes) at d).0 → (0 < at → low ≤ key) → (at + 1 < count → key < (get_or (children bytes) (at + 1) d).0) → Reaches (children bytes) (at + 1) expect.high most
+    → Narrow expect key count at (at + 1) low most
+narrow_child bytes expect key count at low most d above well size from to inside is before next reaches =
+    let first = λ (e : at ≡ 0). is ∙ ap (λ (i : ℕ). (get_or (children bytes) i d).0) e ∙ first_is_low bytes expect d above well in
+    record {
+      ordered = omega arith;
+      within = omega (arith, inside);
+      above = elim (cases_eq at 0) [ inl e ↦ omega (arith, first e, from) | inr ne ↦ before (omega (arith, ne)) ];
+      below = elim (cases_lt (at + 1) count) [
+        | inl less ↦ omega (arith, next less, reaches.next_is (omega (arith, less, size)) d)
+        | inr last ↦ omega (arith, to, reaches.last_is (omega (arith, last, size)))
+      ];
+      first = first;
+      later = λ some. omega (arith, is, (key_inside bytes expect at d above well some (omega (arith, inside, size))).low);
+      last = λ e. reaches.last_is (omega (arith, e, size));
+      earlier = λ less. omega (arith, next less, reaches.next_is (omega (arith, less, size)) d, (key_inside bytes expect (at + 1) d above well (omega arith) (omega (arith, less, size))).high);
+    }
+
+pub page_is : (pages page : ℕ) → is_page_below pages (0, page) ≡ true → (1 ≤ page) × (page < pages)
+page_is pages page e =
+    let parts = and_parts (nat_lt 0 page) (nat_lt page pages) e in
+    (ltb-true 0 page parts.0, ltb-true page pages parts.1)

@@ -4,6 +4,8 @@ use Rattle.std.proofs.lemmas.Bool.{cases_eq}
 use Rattle.std.proofs.lemmas.List.{length-map, get_or-map}
 use Rattle.line_pages.specs.Bytes.{u16_at, u64_at}
 use Rattle.slotted_page.specs.declared.root.Expect.{Expect}
+use Rattle.slotted_page.specs.declared.lookup.Spot.TheVariants.{Row as Row_at, Gap}
+use Rattle.slotted_page.specs.Search.{IsSpot}
 use Rattle.slotted_page.specs.Rows.{Row, keys, key_of, Ascends, AllBelow, AllAbove}
 use Rattle.slotted_page.specs.Node.{leaf_rows, entry_count, heap_start, slots, IsWellFormed}
 use Rattle.slotted_page.proofs.SlotLemmas.{length-slots, length_rows, row_at, each_in_heap, slot_at, in_heap_one}
@@ -90,3 +92,18 @@ place_inside bytes expect i leaf well inside =
 -- the key that a search reads is that of the row
 pub probed : (bytes : List ℕ) (at place found : ℕ) → at < entry_count bytes → place ≡ u16_at bytes (64 + 4 * at) → found ≡ u64_at bytes place → found ≡ get_or (keys (leaf_rows bytes)) at 0
 probed bytes at place found h slot is = is ∙ ap (u64_at bytes) slot ∙ sym (key_at bytes at h)
+
+pub key_is : (rows : List Row) (i found : ℕ) → i < length rows → ((d : Row) → found ≡ (get_or rows i d).0) → found ≡ get_or (keys rows) i 0
+key_is rows i found h is = is (0, []) ∙ sym (get_or-map key_of rows i (0, []) 0 h)
+
+pub gap_is : (bytes : List ℕ) (expect : Expect) (key at : ℕ) → expect.level ≡ 0 → at ≤ entry_count bytes → Between bytes key at at → IsSpot bytes expect key (Gap at)
+gap_is bytes expect key at leaf within all =
+    let size = length_rows bytes in (
+      leaf,
+      omega (arith, within, size),
+      below_to key at (leaf_rows bytes) all.lower (omega (arith, within, size)),
+      above_to key at (leaf_rows bytes) (λ k above inside. all.upper k above (omega (arith, inside, size))),
+    )
+
+pub row_is : (bytes : List ℕ) (expect : Expect) (key at : ℕ) → expect.level ≡ 0 → at < entry_count bytes → get_or (keys (leaf_rows bytes)) at 0 ≡ key → IsSpot bytes expect key (Row_at at)
+row_is bytes expect key at leaf inside is = (leaf, slice_get-is (keys (leaf_rows bytes)) at key (omega (arith, inside, length-keys bytes)) is)

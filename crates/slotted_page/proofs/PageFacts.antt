@@ -1,5 +1,5 @@
 -- What the checks of a page give, by name.
-use Rattle.std.proofs.Common.{◌≡◌, ◌≢◌, ℕ, ◌+◌, ◌*◌, ◌≤◌, inl, inr, Bool, true, false, List, refl, sym, ◌∙◌, arith, nat_le, ◌==◌, ◌&&◌, ◌||◌}
+use Rattle.std.proofs.Common.{◌≡◌, ◌≢◌, ℕ, ◌+◌, ◌*◌, ◌≤◌, inl, inr, Bool, true, false, List, refl, sym, ◌∙◌, arith, nat_le, ◌==◌, ◌&&◌, ◌||◌, length}
 use Rattle.std.specs.List.{list_all}
 use Rattle.std.proofs.lemmas.Bool.{leb-true, le-leb, eqb-true, eq-eqb, ne_eqb, and_parts, cases_eq}
 use Rattle.slotted_page.specs.declared.root.Expect.{Expect}
@@ -7,6 +7,8 @@ use Rattle.slotted_page.specs.declared.probe.Header.{Header}
 use Rattle.slotted_page.specs.Search.{IsHeader}
 use Rattle.slotted_page.specs.Rows.{keys, Ascends, ascends}
 use Rattle.slotted_page.specs.Node.{slots, leaf_rows, children, bytes_used, is_in_heap, all_apart, begins_at, first_keys, is_page_below, has_printable_value, leaf_checks, inner_checks, entry_count, heap_start, page_kind, page_level, first_failing, IsWellFormed}
+use Rattle.slotted_page.specs.Sound.{IsSound}
+use Rattle.slotted_page.specs.Inner.{IsInner}
 use Rattle.slotted_page.proofs.FactLemmas.{AllHold, all_hold, ascends-true}
 
 or_right : {x y : Bool} → x ≡ false → (x || y) ≡ true → y ≡ true
@@ -94,3 +96,22 @@ pub inner_header : (bytes : List ℕ) (expect : Expect) (header : Header) → Is
 inner_header bytes expect header is above well =
     let facts = inner_facts bytes expect above well in
     rw (is.kind ∙ facts.kind, le-leb 2 header.count (omega (arith, is.count, facts.some)), le-leb header.count 240 (omega (arith, is.count, facts.room))) refl
+
+-- the structure of a well-formed page
+pub sound_of_well : (bytes : List ℕ) (expect : Expect) → length bytes ≡ 4096 → expect.level ≡ 0 → IsWellFormed bytes expect → IsSound bytes
+sound_of_well bytes expect size zero_level well =
+    let facts = leaf_facts bytes expect zero_level well in
+    record {
+      size = size;
+      kind = facts.kind;
+      level = facts.level ∙ zero_level;
+      below_heap = facts.below_heap;
+      heap = facts.heap;
+      in_heap = facts.in_heap;
+      apart = facts.apart;
+    }
+
+pub inner_of_well : (bytes : List ℕ) (expect : Expect) → length bytes ≡ 4096 → expect.level ≢ 0 → IsWellFormed bytes expect → IsInner bytes
+inner_of_well bytes expect size above well =
+    let facts = inner_facts bytes expect above well in
+    record { size = size; kind = facts.kind; count = omega (arith, facts.room) }

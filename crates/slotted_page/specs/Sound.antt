@@ -1,6 +1,7 @@
 -- A leaf whose slots and records stand where they may, whatever the rows are: checks 11 to 14.
 use Rattle.std.specs.Prelude.{◌≡◌, ℕ, ◌+◌, ◌*◌, ◌<◌, ◌≤◌, ◌++◌, true, List, length, sum, take, drop}
 use Rattle.std.specs.List.{list_all}
+use Rattle.ssd_model.specs.Page.{Same}
 use Rattle.slotted_page.specs.Node.{page_kind, page_level, Slot, entry_count, heap_start, slots, is_in_heap, all_apart, leaf_rows, has_printable_value, IsLeaf}
 use Rattle.slotted_page.specs.Cut.{sizes, leaf_room, leaf_floor, rows_left}
 use Rattle.line_pages.specs.Bytes.{u16_at}
@@ -23,6 +24,11 @@ row_bytes rows = sum (sizes rows)
 pub record IsPacked (bytes : List ℕ) : Type 0 where
   pub sound : IsSound bytes
   pub tight : heap_start bytes + row_bytes (leaf_rows bytes) ≡ 4096 + 4 * entry_count bytes
+
+-- a record of so many bytes was put just below the heap's start, and the others stand where they stood
+pub record AddsBelow (size : ℕ) (old new : List ℕ) : Type 0 where
+  pub heap : heap_start new + size ≡ heap_start old
+  pub kept : Same (heap_start old) 4096 old new
 
 -- rows that a leaf may have
 pub record IsRows (rows : List Row) : Type 0 where

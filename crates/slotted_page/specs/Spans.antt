@@ -1,5 +1,5 @@
 -- The keys that each child of an inner page covers.
-use Rattle.std.specs.Prelude.{ℕ, ◌-◌, List, [], ◌∷◌}
+use Rattle.std.specs.Prelude.{◌≡◌, ℕ, ◌-◌, ◌<◌, ◌≤◌, List, [], ◌∷◌, length, get_or}
 use Rattle.slotted_page.specs.Node.{Child}
 
 -- a child with the lowest and the highest key that it may have
@@ -16,3 +16,8 @@ reach (next ∷ rest) high = next.0 - 1
 abbrev pub spans : List Child → ℕ → List Span
 spans [] high = []
 spans (child ∷ rest) high = record { page = child.1; low = child.0; high = reach rest high } ∷ spans rest high
+
+-- up to which key the child before a place reaches
+pub record Reaches (cs : List Child) (next high most : ℕ) : Type 0 where
+  pub next_is : next < length cs → (d : Child) → most ≡ (get_or cs next d).0 - 1
+  pub last_is : length cs ≤ next → most ≡ high

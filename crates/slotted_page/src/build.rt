@@ -1,4 +1,5 @@
 ghost use Rattle.std.specs.Prelude.{◌≡◌, ◌+◌, ◌*◌, ◌<◌, ◌≤◌, ℕ, List, [], ◌∷◌, ◌++◌, length, slice_range};
+ghost use Rattle.ssd_model.specs.Page.{Same};
 ghost use Rattle.slotted_page.specs.Node.{entry_count, heap_start, leaf_rows as rows_of};
 ghost use Rattle.slotted_page.specs.Sound.{IsSound, IsPacked, row_bytes};
 
@@ -11,6 +12,7 @@ use ssd_model::PageBuf;
 pub fn clear_leaf(page: &mut PageBuf)
     ensures rows { rows_of page.new ≡ [] }
     ensures packed { IsPacked page.new }
+    ensures rest { Same 32 4096 page.old page.new }
 {
     set_page_word(page, 0, 1);
     set_page_word(page, 8, 0);
@@ -25,6 +27,9 @@ pub fn push_row(page: &mut PageBuf, key: u64, value: &[u8])
     requires room { row_bytes (rows_of page.old) + (12 + length value.now) ≤ 4032 }
     ensures rows { rows_of page.new ≡ rows_of page.old ++ (key, value.now) ∷ [] }
     ensures packed { IsPacked page.new }
+    ensures rest { Same (64 + 4 * entry_count page.new) (heap_start page.new) page.old page.new }
+    ensures count { entry_count page.old ≤ entry_count page.new }
+    ensures heap { heap_start page.new ≤ heap_start page.old }
 {
     let count = leaf_rows(page);
     insert_here(page, count, key, value);
@@ -39,6 +44,7 @@ pub fn push_rows(page: &mut PageBuf, from: &PageBuf, start: usize, end: usize)
     requires room { row_bytes (rows_of page.old ++ slice_range (rows_of from.now) start end) ≤ 4032 }
     ensures rows { rows_of page.new ≡ rows_of page.old ++ slice_range (rows_of from.now) start end }
     ensures packed { IsPacked page.new }
+    ensures rest { Same (64 + 4 * entry_count page.new) (heap_start page.new) page.old page.new }
 {
     for i in start..end {
         push_row(page, leaf_key(from, i), leaf_value(from, i));
@@ -51,6 +57,7 @@ pub fn pack(page: &mut PageBuf)
     requires room { row_bytes (rows_of page.old) ≤ 4032 }
     ensures rows { rows_of page.new ≡ rows_of page.old }
     ensures packed { IsPacked page.new }
+    ensures rest { Same (64 + 4 * entry_count page.new) (heap_start page.new) page.old page.new }
 {
     let copy = page.copy();
     clear_leaf(page);

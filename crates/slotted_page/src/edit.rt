@@ -63,6 +63,8 @@ pub fn insert_here(page: &mut PageBuf, at: usize, key: u64, value: &[u8])
     ensures sound { IsSound page.new }
     ensures heap { heap_start page.new + (8 + length value.now) ≡ heap_start page.old }
     ensures count { entry_count page.new ≡ entry_count page.old + 1 }
+    ensures rest { Same (64 + 4 * entry_count page.new) (heap_start page.new) page.old page.new }
+    ensures above { Same (heap_start page.old) 4096 page.old page.new }
 {
     let count = page_word(page, 8) as usize;
     let heap = page_word(page, 24) as usize;

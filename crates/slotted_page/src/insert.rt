@@ -1,9 +1,9 @@
-ghost use Rattle.std.specs.Prelude.{get_or, slice_set, ◌≡◌, ◌+◌, ◌*◌, ◌<◌, ◌≤◌, ℕ, List, true, length};
+ghost use Rattle.std.specs.Prelude.{◌⊎◌, get_or, slice_set, ◌≡◌, ◌+◌, ◌*◌, ◌<◌, ◌≤◌, ℕ, List, true, length};
 ghost use Rattle.std.specs.List.{insert, remove, list_all};
 ghost use Rattle.ssd_model.specs.Page.{Same};
 ghost use Rattle.slotted_page.specs.Rows.{Row, Ascends, keys, last_key};
 ghost use Rattle.slotted_page.specs.Node.{IsLeaf, entry_count, heap_start, is_printable, leaf_rows as rows_of};
-ghost use Rattle.slotted_page.specs.Sound.{slot_of, IsSound, IsRows, row_bytes};
+ghost use Rattle.slotted_page.specs.Sound.{IsPacked, AddsBelow, slot_of, IsSound, IsRows, row_bytes};
 
 use crate::build::pack;
 use crate::edit::{insert_here, remove_here, set_value};
@@ -31,6 +31,8 @@ fn make_room(page: &mut PageBuf, more: usize)
     ensures sound { IsSound page.new }
     ensures room { 64 + 4 * (entry_count page.new + 1) + (8 + more) ≤ heap_start page.new }
     ensures count { length (rows_of page.new) ≡ entry_count page.new }
+    ensures rest { Same (64 + 4 * entry_count page.new) (heap_start page.new) page.old page.new }
+    ensures packed { (page.new ≡ page.old) ⊎ IsPacked page.new }
 {
     let count = page_word(page, 8) as usize;
     let heap = page_word(page, 24) as usize;
@@ -49,6 +51,8 @@ pub fn leaf_insert(page: &mut PageBuf, at: usize, key: u64, value: &[u8])
     requires printable { list_all is_printable value.now ≡ true }
     ensures rows { rows_of page.new ≡ insert (rows_of page.old) at (key, value.now) }
     ensures leaf { IsLeaf page.new }
+    ensures rest { Same (64 + 4 * entry_count page.new) (heap_start page.new) page.old page.new }
+    ensures placed { AddsBelow (8 + length value.now) page.old page.new ⊎ IsPacked page.new }
 {
     open_leaf(page);
     make_room(page, value.len());

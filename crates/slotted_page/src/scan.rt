@@ -1,14 +1,16 @@
 //! The search in a page whose bytes are at hand.
 ghost use Rattle.std.specs.Prelude.{◌≡◌, ◌+◌, ◌-◌, ◌<◌, ◌≤◌, ℕ, length, get_or};
-ghost use Rattle.slotted_page.specs.Node.{IsWellFormed, Child as ChildOf, children as children_of};
+ghost use Rattle.slotted_page.specs.Node.{entry_count, IsWellFormed, Child as ChildOf, children as children_of};
 ghost use Rattle.slotted_page.specs.Inner.{IsInner};
+ghost use Rattle.slotted_page.specs.Sound.{IsSound};
+ghost use Rattle.slotted_page.specs.Spans.{Reaches};
 ghost use Rattle.slotted_page.specs.Search.{IsSpot, IsSafeSpot};
 
-use crate::entries::{child, child_key, children};
-use crate::insert::open_leaf;
+use crate::entries::{child, child_key};
 use crate::leaf::leaf_key;
 use crate::lookup::Spot;
 use crate::root::Expect;
+use line_pages::page_word;
 use ssd_model::PageBuf;
 
 /// Looks a key up in a well-formed page.
@@ -31,7 +33,7 @@ fn scan_rows(page: &PageBuf, expect: &Expect, key: u64) -> Spot
     ensures spot { IsSpot page.now expect.now key result }
     ensures safe { IsSafeSpot expect.now key result }
 {
-    let count = open_leaf(page);
+    let count = open_rows(page, expect);
     for i in 0..count {
         let found = leaf_key(page, i);
         if found == key {
@@ -44,10 +46,48 @@ fn scan_rows(page: &PageBuf, expect: &Expect, key: u64) -> Spot
     Spot::Gap(count)
 }
 
-/// The first child that begins above a key, or their number; the first child of all does not count.
+/// The number of rows of a well-formed leaf.
+fn open_rows(page: &PageBuf, expect: &Expect) -> usize
+    requires well { IsWellFormed page.now expect.now }
+    requires leaf { expect.now.level ≡ 0 }
+    ensures sound { IsSound page.now }
+    ensures count { result ≡ entry_count page.now }
+{
+    page_word(page, 8) as usize
+}
+
+fn scan_children(page: &PageBuf, expect: &Expect, key: u64) -> Spot
+    requires well { IsWellFormed page.now expect.now }
+    requires inner { 1 ≤ expect.now.level }
+    requires above { expect.now.low ≤ key }
+    requires within { key ≤ expect.now.high }
+    ensures spot { IsSpot page.now expect.now key result }
+    ensures safe { IsSafeSpot expect.now key result }
+{
+    let count = open_inner(page, expect);
+    let next = first_above(page, count, key);
+    let low = child_key(page, next - 1);
+    let high = bound_before(page, next, count, expect.high);
+    Spot::Child(next - 1, child(page, next - 1), low, high)
+}
+
+/// The number of children of a well-formed inner page.
+fn open_inner(page: &PageBuf, expect: &Expect) -> usize
+    requires well { IsWellFormed page.now expect.now }
+    requires inner { 1 ≤ expect.now.level }
+    ensures inner { IsInner page.now }
+    ensures entries { result ≡ entry_count page.now }
+    ensures count { result ≡ length (children_of page.now) }
+    ensures some { 2 ≤ result }
+    ensures few { result ≤ 240 }
+{
+    page_word(page, 8) as usize
+}
+
+/// The first child that begins above a key, or their number. The first child of all does not count.
 fn first_above(page: &PageBuf, count: usize, key: u64) -> usize
     requires inner { IsInner page.now }
-    requires count { count ≡ length (children_of page.now) }
+    requires count { count ≡ entry_count page.now }
     requires some { 1 ≤ count }
     ensures some { 1 ≤ result }
     ensures within { result ≤ count }
@@ -62,34 +102,16 @@ fn first_above(page: &PageBuf, count: usize, key: u64) -> usize
     count
 }
 
-fn scan_children(page: &PageBuf, expect: &Expect, key: u64) -> Spot
-    requires well { IsWellFormed page.now expect.now }
-    requires inner { 1 ≤ expect.now.level }
-    requires above { expect.now.low ≤ key }
-    requires within { key ≤ expect.now.high }
-    ensures spot { IsSpot page.now expect.now key result }
-    ensures safe { IsSafeSpot expect.now key result }
+/// Up to which key the child before a place reaches, where the last one reaches up to `last`.
+#[tactic(auto, using(crate::proofs::InnerLemmas::length_children))]
+fn bound_before(page: &PageBuf, next: usize, count: usize, last: u64) -> u64
+    requires inner { IsInner page.now }
+    requires count { count ≡ entry_count page.now }
+    ensures { Reaches (children_of page.now) next last result }
 {
-    let count = open_inner(page, expect);
-    let next = first_above(page, count, key);
-    let at = next - 1;
-    let low = child_key(page, at);
-    let high = if next < count {
-        child_key(page, next) - 1
+    if next < count {
+        child_key(page, next).saturating_sub(1)
     } else {
-        expect.high
-    };
-    Spot::Child(at, child(page, at), low, high)
-}
-
-/// The number of children of a well-formed inner page.
-fn open_inner(page: &PageBuf, expect: &Expect) -> usize
-    requires well { IsWellFormed page.now expect.now }
-    requires inner { 1 ≤ expect.now.level }
-    ensures inner { IsInner page.now }
-    ensures count { result ≡ length (children_of page.now) }
-    ensures some { 2 ≤ result }
-    ensures few { result ≤ 240 }
-{
-    children(page)
+        last
+    }
 }

@@ -1,5 +1,6 @@
-use Rattle.std.proofs.Common.{◌≡◌, ◌++◌, slice_range}
-use Rattle.slotted_page.specs.Node.{leaf_rows}
+use Rattle.std.proofs.Common.{◌≡◌, ◌+◌, ◌*◌, ◌++◌, slice_range}
+use Rattle.ssd_model.specs.Page.{Same}
+use Rattle.slotted_page.specs.Node.{leaf_rows, entry_count, heap_start}
 use Rattle.slotted_page.specs.Sound.{IsPacked}
 use Rattle.slotted_page.proofs.build.push_rows.Given as goal
 
@@ -7,4 +8,5 @@ abbrev pub invariant-loop-i : goal.invariant-loop-i
 invariant-loop-i l = record {
   rows : leaf_rows l.page ≡ leaf_rows l.fn.page ++ slice_range (leaf_rows l.from) l.start l.i;
   packed : IsPacked l.page;
+  rest : Same (64 + 4 * entry_count l.page) (heap_start l.page) l.fn.page l.page;
 }

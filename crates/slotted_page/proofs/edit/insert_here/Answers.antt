@@ -1,3 +1,4 @@
+use Rattle.slotted_page.specs.Node.{entry_count, heap_start}
 use Rattle.std.proofs.Common.{◌+◌, ◌-◌, ◌*◌, ◌∙◌, arith, length}
 use Rattle.line_pages.proofs.NumberLaws.{u64_at-same, same_then, same_part}
 use Rattle.slotted_page.proofs.InsertLemmas.{Puts, slot_of-same, slot_of-moved, row_in-same, rows_put, sound_put}
@@ -40,3 +41,30 @@ returns-clause-rows c = rows_put c.args.at _ _ _ c.args.page.now c.set_header.ne
 
 pub returns-clause-sound : goal.returns-clause-sound
 returns-clause-sound c = sound_put c.args.at _ _ _ c.args.page.now c.set_header.new.page (puts c) (omega arith) (omega arith) c.requires.sound (omega arith) (omega arith) (omega arith)
+
+pub returns-clause-rest : goal.returns-clause-rest
+returns-clause-rest c =
+    let old = c.args.page.now in
+    let a = c.put_record.new.page in
+    let b = c.put_slot.new.page in
+    let new = c.set_header.new.page in
+    let from = 64 + 4 * entry_count new in
+    let end = heap_start new in
+    let place = c.page_word-heap.result - (8 + length c.args.value.now) in
+    let count = c.set_header.ensures.count in
+    let heap = c.set_header.ensures.heap in
+    same_then from end old a new (same_part from end 0 place _ _ c.put_record.ensures.before (omega arith) (omega (arith, heap)))
+    (same_then from end a b new (same_part from end (68 + 4 * c.page_word-count.result) 4096 _ _ c.put_slot.ensures.after (omega (arith, count)) (omega (arith, heap)))
+    (same_part from end 32 4096 _ _ c.set_header.ensures.after (omega arith) (omega (arith, heap))))
+
+pub returns-clause-above : goal.returns-clause-above
+returns-clause-above c =
+    let old = c.args.page.now in
+    let a = c.put_record.new.page in
+    let b = c.put_slot.new.page in
+    let new = c.set_header.new.page in
+    let from = heap_start old in
+    let place = c.page_word-heap.result - (8 + length c.args.value.now) in
+    same_then from 4096 old a new (same_part from 4096 (place + 8 + length c.args.value.now) 4096 _ _ c.put_record.ensures.after (omega arith) (omega arith))
+    (same_then from 4096 a b new (same_part from 4096 (68 + 4 * c.page_word-count.result) 4096 _ _ c.put_slot.ensures.after (omega arith) (omega arith))
+    (same_part from 4096 32 4096 _ _ c.set_header.ensures.after (omega arith) (omega arith)))

@@ -4,9 +4,10 @@ use Rattle.line_pages.specs.Bytes.{bytes_of, u64_at}
 use Rattle.line_pages.proofs.StandingLaws.{Continues-refl, Continues-trans, ReadsPage-trans, still_open}
 use Rattle.slotted_page.specs.Node.{entry_count, children, Child, is_page_below}
 use Rattle.slotted_page.proofs.OpenLaws.{ReadsPage-refl}
+use Rattle.slotted_page.specs.Spans.{Reaches}
 use Rattle.slotted_page.proofs.PageFacts.{clash}
 use Rattle.slotted_page.proofs.InnerLemmas.{length_children}
-use Rattle.slotted_page.proofs.ChildLaws.{Reaches, narrow_whole, narrow_right, narrow_left, bounds_whole, probed_key, probed_page, key_inside, child_below, inside_is, inside_of, span_is}
+use Rattle.slotted_page.proofs.ChildLaws.{narrow_whole, narrow_right, narrow_left, bounds_whole, probed_key, probed_page, key_inside, child_below, inside_is, inside_of, span_is}
 use Rattle.slotted_page.proofs.probe.probe_children.Goals as goal
 
 none : Child
