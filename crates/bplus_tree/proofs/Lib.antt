@@ -6,3 +6,4 @@ pub mod SpaceLaws
 pub mod MovesLaws
 pub mod SizeLaws
 pub mod SearchLaws
+pub mod Places

@@ -2,3 +2,5 @@ pub mod Tree
 pub mod Space
 pub mod Moves
 pub mod Way
+pub mod Damage
+pub mod Written

@@ -1,5 +1,5 @@
 -- What the calls on a tree do to the pages: which pages it uses and which are free, before and after.
-use Rattle.std.specs.Prelude.{◌≡◌, ◌≢◌, ℕ, ◌+◌, ◌<◌, ◌≤◌, ◌⊎◌, List, ◌∷◌, ◌++◌, nat_lt, if◌then◌else◌}
+use Rattle.std.specs.Prelude.{◌≡◌, ◌≢◌, ℕ, ◌+◌, ◌<◌, ◌≤◌, ◌⊎◌, List, [], ◌∷◌, ◌++◌, nat_lt, if◌then◌else◌}
 use Rattle.bplus_tree.specs.declared.root.Root.{Root}
 use Rattle.line_pages.specs.Lines.{Lines}
 use Rattle.bplus_tree.specs.Space.{word, kind_of, high_of, IsFreeList}
@@ -47,3 +47,20 @@ ChangesRows count old new root root' step =
 -- these are exactly the pages below the high water, each once
 abbrev pub AreExactly : ℕ → List ℕ → Type 0
 AreExactly high pages = (n : ℕ) → times n pages ≡ below n high
+
+-- a page taken: it leaves the free list, or the high water rises past it
+pub record Taken (count : ℕ) (old new : Lines) (page : ℕ) (free : List ℕ) : Type 0 where
+  pub rest : List ℕ
+  pub moves : Moves count old new [] (page ∷ []) free rest
+  pub entries : SameEntries old new
+
+abbrev pub Takes : ℕ → Lines → Lines → ℕ → Type 0
+Takes count old new page = (free : List ℕ) → IsFreeList old free → Taken count old new page free
+
+-- a page given back: it joins the free list
+pub record Given (count : ℕ) (old new : Lines) (page : ℕ) (free : List ℕ) : Type 0 where
+  pub moves : Moves count old new (page ∷ []) [] free (page ∷ free)
+  pub entries : SameEntries old new
+
+abbrev pub Gives : ℕ → Lines → Lines → ℕ → Type 0
+Gives count old new page = (free : List ℕ) → IsFreeList old free → ArePart old (page ∷ free) → high_of old ≤ count → Given count old new page free

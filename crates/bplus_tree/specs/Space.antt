@@ -1,9 +1,9 @@
 -- The free list and the high water, as the header lines of page 0 and of the free pages have them.
-use Rattle.std.specs.Prelude.{◌≡◌, ◌≢◌, ℕ, ◌+◌, ◌<◌, Bool, true, List, [], ◌∷◌, slice_index, slice_set, nat_lt, nat_le, not, ◌==◌, ◌&&◌, ◌||◌, if◌then◌else◌}
+use Rattle.std.specs.Prelude.{◌≡◌, ◌≢◌, ℕ, ◌+◌, ◌<◌, ◌≤◌, Bool, true, List, [], ◌∷◌, slice_index, slice_set, nat_lt, nat_le, not, ◌==◌, ◌&&◌, ◌||◌, if◌then◌else◌}
 use Rattle.nvm_model.specs.declared.line.Line.{Line}
 use Rattle.line_pages.specs.declared.stop.Evidence.{Evidence}
 use Rattle.line_pages.specs.declared.stop.Evidence.TheVariants.{Super, Frames, Log, Page, Walk}
-use Rattle.line_pages.specs.Lines.{Lines, with_line}
+use Rattle.line_pages.specs.Lines.{Lines, with_line, IsLine}
 use Rattle.line_pages.specs.Bytes.{bytes_of}
 use Rattle.slotted_page.specs.Checks.{first_failure}
 use Rattle.slotted_page.specs.Rows.{last_key}
@@ -53,7 +53,14 @@ IsFreeFrom lines first (page ∷ rest) =
 abbrev pub IsFreeList : Lines → List ℕ → Type 0
 IsFreeList lines pages = IsFreeFrom lines (free_head lines) pages
 
--- The checks that are made before a page is taken, each with its number and its page.
+-- The checks of the header of page 0, each with its number and its page.
+abbrev pub header_checks : ℕ → Lines → List ((ℕ × ℕ) × Bool)
+header_checks count lines =
+    ((31, 0), is_catalog lines)
+    ∷ ((33, 0), high_in_range count lines)
+    ∷ ((34, 0), head_in_range lines) ∷ []
+
+-- those that are made before a page is taken
 abbrev pub take_checks : ℕ → Lines → List ((ℕ × ℕ) × Bool)
 take_checks count lines =
     ((31, 0), is_catalog lines)
@@ -61,6 +68,13 @@ take_checks count lines =
     ∷ ((34, 0), head_in_range lines)
     ∷ ((36, free_head lines), (free_head lines == 0) || is_free_page lines (free_head lines))
     ∷ ((37, 0), not ((free_head lines == 0) && (high_of lines == count))) ∷ []
+
+-- a header that passes its checks
+pub record FitsHeader (count : ℕ) (line : Line) : Type 0 where
+  pub kind : word line 0 ≡ 4
+  pub some : 1 ≤ word line 2
+  pub within : word line 2 ≤ count
+  pub head : word line 3 < word line 2
 
 -- the page taken: the head of the free list, or else the one at the high water
 abbrev pub page_taken : Lines → ℕ
@@ -90,10 +104,11 @@ IsPageEvidence at number (Frames first second entry check) = ⊥
 IsPageEvidence at number (Log offset line tail check) = ⊥
 IsPageEvidence at number (Walk page kept found check) = ⊥
 
--- The evidence names the first check that fails before a page is taken, and the buffer has that page's bytes.
-pub record IsTakeDamage (count : ℕ) (lines : Lines) (buffer : List ℕ) (evidence : Evidence) : Type 0 where
+-- The evidence names the first check that fails, and the buffer has that page's bytes, whose first line is of eight words.
+pub record IsSpaceDamage (checks : List ((ℕ × ℕ) × Bool)) (lines : Lines) (buffer : List ℕ) (evidence : Evidence) : Type 0 where
   pub number : ℕ
   pub page : ℕ
-  pub first : first_failure (take_checks count lines) ≡ Some (number, page)
+  pub first : first_failure checks ≡ Some (number, page)
   pub shown : IsPageEvidence page number evidence
   pub bytes : buffer ≡ bytes_of lines page
+  pub line : IsLine (lines page 0)

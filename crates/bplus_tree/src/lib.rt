@@ -2,5 +2,7 @@
 #![tactic(auto)]
 
 mod root;
+mod space;
 
 pub use root::Root;
+pub use space::{give_page, take_page};
