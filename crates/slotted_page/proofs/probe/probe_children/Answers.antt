@@ -1,9 +1,8 @@
 -- The search ends at the child, and in a well-formed page nothing looks odd.
 use Rattle.std.proofs.Common.{◌≡◌, ◌≢◌, ◌+◌, ◌-◌, ◌*◌, ◌/◌, ◌<◌, ℕ, refl, arith, sym, ap, subst, ◌∙◌, IsTrue}
 use Rattle.line_pages.specs.Bytes.{bytes_of, u64_at}
-use Rattle.line_pages.proofs.StandingLaws.{Continues-refl, Continues-trans, ReadsPage-trans, still_open}
+use Rattle.line_pages.proofs.StandingLaws.{ReadsPage-refl, Continues-refl, Continues-trans, ReadsPage-trans, still_open}
 use Rattle.slotted_page.specs.Node.{entry_count, children, Child, is_page_below}
-use Rattle.slotted_page.proofs.OpenLaws.{ReadsPage-refl}
 use Rattle.slotted_page.specs.Spans.{Reaches}
 use Rattle.slotted_page.proofs.PageFacts.{clash}
 use Rattle.slotted_page.proofs.InnerLemmas.{length_children}
