@@ -1,5 +1,5 @@
 -- Pages that are written, taken, given back and left alone.
-use Rattle.std.proofs.Common.{◌≡◌, ◌≢◌, ℕ, ◌+◌, ◌×◌, ◌<◌, ◌≤◌, inl, inr, List, [], ◌∷◌, ◌++◌, length, refl, sym, ap, subst, ◌∙◌, arith, nat_lt, nat_eq}
+use Rattle.std.proofs.Common.{◌≡◌, ◌≢◌, ℕ, ◌+◌, ◌<◌, ◌≤◌, inl, inr, List, [], ◌∷◌, ◌++◌, length, Result, Ok, Err, IfOk, OnOk, refl, sym, ap, subst, ◌∙◌, arith, nat_lt, nat_eq}
 use Rattle.std.proofs.lemmas.Bool.{lt-ltb, le-ltb, eq-eqb, ne_eqb, cases_lt, cases_eq}
 use Rattle.std.proofs.lemmas.List.{get_or-set_other, get_or-set_same}
 use Rattle.line_pages.specs.Lines.{Lines}
@@ -114,3 +114,15 @@ give_gives count lines new page header now is eight fits some free is_free part 
   where
     entry : (lines : Lines) (page : ℕ) → page ≢ 0 → SameEntries lines (after_give page lines)
     entry lines page ne l other = rw (ne_eqb l 0 other, ne_eqb 0 page (λ e. ne (sym e))) refl
+
+pub take_answer : {E : Type 0} (count : ℕ) (old lines new : Lines) (header : _) (r : Result ℕ E) → lines ≡ old → IfOk r (λ page. page ≡ page_taken lines) → OnOk r (new ≡ after_take lines) → header ≡ old 0 0
+    → length header.words ≡ 8 → FitsHeader count header → OnOk r (word header 3 ≡ 0 → word header 2 ≢ count) → IfOk r (Takes count old new)
+take_answer count old lines new header (Ok page) same is_page now is eight fits left =
+    take_takes count old new page header (subst (λ l. new ≡ after_take l) same now) (subst (λ l. page ≡ page_taken l) same is_page) is eight fits left
+take_answer count old lines new header (Err stop) same is_page now is eight fits left = tt
+
+pub give_answer : {T E : Type 0} (count : ℕ) (old lines new : Lines) (page : ℕ) (header : _) (r : Result T E) → lines ≡ old → OnOk r (new ≡ after_give page lines) → header ≡ old 0 0
+    → length header.words ≡ 8 → FitsHeader count header → 1 ≤ page → OnOk r (Gives count old new page)
+give_answer count old lines new page header (Ok v) same now is eight fits some =
+    give_gives count old new page header (subst (λ l. new ≡ after_give page l) same now) is eight fits (λ e. omega (arith, e, some))
+give_answer count old lines new page header (Err stop) same now is eight fits some = tt

@@ -2,7 +2,7 @@
 ghost use Rattle.std.specs.Prelude.{◌≡◌, ◌≢◌, ◌+◌, ◌<◌, ◌≤◌, ℕ, IsTrue, OnOk, IfOk};
 ghost use Rattle.line_pages.specs.Bytes.{bytes_of};
 ghost use Rattle.line_pages.specs.Lines.{IsLine};
-ghost use Rattle.line_pages.specs.Standing.{Continues, HasCause, IsCause, KeepsLines};
+ghost use Rattle.line_pages.specs.Standing.{Continues, HasCause, IsCause, Never, KeepsLines};
 ghost use Rattle.bplus_tree.specs.Moves.{Takes, Gives};
 ghost use Rattle.bplus_tree.specs.Space.{word, FitsHeader, IsPageEvidence, IsSpaceDamage, header_checks, take_checks, page_taken, after_take, after_give};
 
@@ -69,7 +69,7 @@ fn take_fresh<P: Pages>(pages: &mut P, header: Line, work: &mut Work) -> Result<
     requires room { 1 ≤ (P.standing pages.old).room }
     ensures taken { IsTrue (P.standing pages.old).told → IfOk result (λ page. page ≡ page_taken (P.standing pages.old).current) }
     ensures current { IsTrue (P.standing pages.old).told → OnOk result ((P.standing pages.new).current ≡ after_take (P.standing pages.old).current) }
-    ensures moves { IsTrue (P.standing pages.old).told → IfOk result (Takes (P.standing pages.old).count (P.standing pages.old).current (P.standing pages.new).current) }
+    ensures left { OnOk result (word header 2 ≢ (P.standing pages.old).count) }
     ensures in_range { IfOk result (λ page. (1 ≤ page) × (page < (P.standing pages.old).count)) }
     ensures room { OnOk result ((P.standing pages.new).room + 1 ≡ (P.standing pages.old).room) }
     ensures cause { HasCause (λ e. IsTrue (P.standing pages.old).told → IsSpaceDamage (take_checks (P.standing pages.old).count (P.standing pages.old).current) (P.standing pages.old).current work.new.page e) (P.standing pages.old) (P.standing pages.new) result }
@@ -99,7 +99,6 @@ fn take_free<P: Pages>(pages: &mut P, header: Line, work: &mut Work) -> Result<u
     requires room { 1 ≤ (P.standing pages.old).room }
     ensures taken { IsTrue (P.standing pages.old).told → IfOk result (λ page. page ≡ page_taken (P.standing pages.old).current) }
     ensures current { IsTrue (P.standing pages.old).told → OnOk result ((P.standing pages.new).current ≡ after_take (P.standing pages.old).current) }
-    ensures moves { IsTrue (P.standing pages.old).told → IfOk result (Takes (P.standing pages.old).count (P.standing pages.old).current (P.standing pages.new).current) }
     ensures in_range { IfOk result (λ page. (1 ≤ page) × (page < (P.standing pages.old).count)) }
     ensures room { OnOk result ((P.standing pages.new).room + 1 ≡ (P.standing pages.old).room) }
     ensures cause { HasCause (λ e. IsTrue (P.standing pages.old).told → IsSpaceDamage (take_checks (P.standing pages.old).count (P.standing pages.old).current) (P.standing pages.old).current work.new.page e) (P.standing pages.old) (P.standing pages.new) result }
@@ -164,11 +163,30 @@ pub fn give_page<P: Pages>(pages: &mut P, work: &mut Work, page: u64) -> Result<
     ensures ready { OnOk result (P.is_ready pages.new) }
     ensures steady { P.is_steady pages.old → OnOk result (P.is_steady pages.new) }
 {
-    let mut header = read_header(pages, work)?;
+    let header = read_header(pages, work)?;
+    write_free(pages, header, page)
+}
+
+/// Writes a page as the head of the free list.
+fn write_free<P: Pages>(pages: &mut P, header: Line, page: u64) -> Result<(), Stop>
+    requires ready { P.is_ready pages.old }
+    requires page { page < (P.standing pages.old).count }
+    requires header { IsTrue (P.standing pages.old).told → header ≡ (P.standing pages.old).current 0 0 }
+    requires line { IsLine header }
+    requires room { 2 ≤ (P.standing pages.old).room }
+    ensures current { IsTrue (P.standing pages.old).told → OnOk result ((P.standing pages.new).current ≡ after_give page (P.standing pages.old).current) }
+    ensures room { OnOk result ((P.standing pages.new).room + 2 ≡ (P.standing pages.old).room) }
+    ensures cause { HasCause Never (P.standing pages.old) (P.standing pages.new) result }
+    ensures continues { Continues (P.may_leave pages.old) (P.may_leave pages.new) (P.is_steady pages.old) (P.standing pages.old) (P.standing pages.new) }
+    ensures few { (P.standing pages.new).visits ≤ (P.standing pages.old).visits + 2 }
+    ensures ready { OnOk result (P.is_ready pages.new) }
+    ensures steady { P.is_steady pages.old → OnOk result (P.is_steady pages.new) }
+{
     let free = Line {
         words: [3, header.words[3], 0, 0, 0, 0, 0, 0],
     };
     pages.write_line(page, 0, &free)?;
-    header.words[3] = page;
-    pages.write_line(0, 0, &header)
+    let mut after = header;
+    after.words[3] = page;
+    pages.write_line(0, 0, &after)
 }
