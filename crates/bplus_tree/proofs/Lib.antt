@@ -7,3 +7,5 @@ pub mod MovesLaws
 pub mod SizeLaws
 pub mod SearchLaws
 pub mod Places
+pub mod PartLaws
+pub mod RecordLaws

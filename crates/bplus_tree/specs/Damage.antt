@@ -2,6 +2,8 @@
 use Rattle.std.specs.Prelude.{◌≡◌, ℕ, ◌<◌, ◌⊎◌, Bool, true, List, IsTrue}
 use Rattle.line_pages.specs.declared.stop.Evidence.{Evidence}
 use Rattle.line_pages.specs.declared.stop.Evidence.TheVariants.{Super, Frames, Log, Page, Walk}
+use Rattle.line_pages.specs.declared.stop.Stop.{Stop}
+use Rattle.line_pages.specs.declared.stop.Stop.TheVariants.{Nvm, Ssd, Damaged}
 use Rattle.line_pages.specs.Lines.{Lines}
 use Rattle.line_pages.specs.Bytes.{bytes_of}
 use Rattle.slotted_page.specs.Node.{entry_count}
@@ -22,3 +24,9 @@ IsFullRoot count lines buffer (Walk page kept found check) = ⊥
 unfoldable pub IsTreeDamage : Bool → ℕ → List ℕ → Evidence → Type 0
 IsTreeDamage told count buffer evidence =
     IsTrue told → (lines : Lines) × (IsNodeDamage count lines buffer evidence ⊎ (IsSpaceDamage (take_checks count lines) lines buffer evidence ⊎ IsFullRoot count lines buffer evidence))
+
+-- a stop that is no damage
+abbrev pub IsFault : Stop → Type 0
+IsFault Nvm = Unit {0}
+IsFault Ssd = Unit {0}
+IsFault (Damaged evidence) = ⊥

@@ -4,3 +4,4 @@ pub mod Moves
 pub mod Way
 pub mod Damage
 pub mod Written
+pub mod Record

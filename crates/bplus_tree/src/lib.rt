@@ -1,8 +1,11 @@
 //! Ordered trees of rows over pages, and the pages that they take and give back.
 #![tactic(auto)]
 
+mod lookup;
 mod root;
+mod row;
 mod space;
 
+pub use lookup::get;
 pub use root::Root;
 pub use space::{give_page, take_page};
