@@ -9,3 +9,4 @@ pub mod SearchLaws
 pub mod Places
 pub mod PartLaws
 pub mod RecordLaws
+pub mod WrittenLaws

@@ -5,3 +5,4 @@ pub mod Way
 pub mod Damage
 pub mod Written
 pub mod Record
+pub mod Edit

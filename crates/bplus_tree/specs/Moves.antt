@@ -41,7 +41,7 @@ pub record Changes (count : ℕ) (old new : Lines) (root root' : Root) (used fre
 -- A call that changes the rows of a tree by `step`, as its callers use it.
 abbrev pub ChangesRows : ℕ → Lines → Lines → Root → Root → (List Row → List Row) → Type 0
 ChangesRows count old new root root' step =
-    (rows : List Row) (used free : List ℕ) → IsRooted count old root rows used → IsFreeList old free → ArePart old (used ++ free)
+    (rows : List Row) (used free : List ℕ) → IsRooted count old root rows used → IsFreeList old free → ArePart old (used ++ free) → high_of old ≤ count
     → Changes count old new root root' used free (step rows)
 
 -- these are exactly the pages below the high water, each once

@@ -1,5 +1,6 @@
 -- A page that was written, and how many lines that takes.
-use Rattle.std.specs.Prelude.{◌≡◌, ◌≢◌, ℕ, zero, suc, ◌+◌, ◌*◌, List, slice_range, if◌then◌else◌}
+use Rattle.std.specs.Prelude.{◌≡◌, ◌≢◌, ◌⊎◌, ◌≤◌, ℕ, zero, suc, ◌+◌, ◌*◌, List, Some, true, slice_range, if◌then◌else◌}
+use Rattle.line_pages.specs.Standing.{Standing}
 use Rattle.std.specs.Str.{bytes_eq}
 use Rattle.line_pages.specs.Lines.{Lines}
 use Rattle.line_pages.specs.Bytes.{bytes_of}
@@ -21,3 +22,13 @@ changed_in old new l (suc n) = (if bytes_eq (line_part old l) (line_part new l) 
 -- the number of lines in which two pages differ
 unfoldable pub lines_changed : List ℕ → List ℕ → ℕ
 lines_changed old new = changed_in old new 0 64
+
+-- all lines but one are as they were
+pub record SameElsewhere (page line : ℕ) (old new : Lines) : Type 0 where
+  pub pages : (n : ℕ) → n ≢ page → new n ≡ old n
+  pub lines : (l : ℕ) → l ≢ line → new page l ≡ old page l
+
+-- no access was begun, or at most one, which writes this page and is open
+abbrev pub Visited : {A : Type 0} → ℕ → Standing A → Standing A → Type 0
+Visited page old new =
+    ((new.visits ≡ old.visits) × (new.access ≡ old.access)) ⊎ ((new.visits ≤ old.visits + 1) × (new.access ≡ Some (page, true)))

@@ -2,9 +2,11 @@
 #![tactic(auto)]
 
 mod lookup;
+mod outcome;
 mod root;
 mod row;
 mod space;
+mod write;
 
 pub use lookup::get;
 pub use root::Root;
