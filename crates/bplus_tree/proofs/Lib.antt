@@ -10,3 +10,4 @@ pub mod Places
 pub mod PartLaws
 pub mod RecordLaws
 pub mod WrittenLaws
+pub mod Editing
