@@ -51,7 +51,7 @@ tree_of count lines level page low high root bytes is well trees = (
   subst (λ b. Each (IsChildTree count lines level) (spans (children b) high)) (sym is) trees,
 )
 
-reach_begins : (key high : ℕ) (cs : List Child) → begins_at key cs ≡ true → 1 ≤ length cs → reach cs high ≡ key - 1
+pub reach_begins : (key high : ℕ) (cs : List Child) → begins_at key cs ≡ true → 1 ≤ length cs → reach cs high ≡ key - 1
 reach_begins key high [] begins some = absurd (omega (arith, some))
 reach_begins key high (c ∷ cs) begins some = ap (λ k. k - 1) (eqb-true c.0 key begins)
 
@@ -72,11 +72,11 @@ located (c ∷ cs) high (suc at) s got =
     record { xs = c ∷ r.xs; ys = r.ys; is = ap (λ t. c ∷ t) r.is; reach_is = r.reach_is }
 
 -- a child put behind another one, up to where that one reached
-child_put-behind : (key page : ℕ) (xs zs : List Child) → Each (λ (c : Child). c.0 < key) xs → child_put key page (xs ++ zs) ≡ xs ++ child_put key page zs
+pub child_put-behind : (key page : ℕ) (xs zs : List Child) → Each (λ (c : Child). c.0 < key) xs → child_put key page (xs ++ zs) ≡ xs ++ child_put key page zs
 child_put-behind key page [] zs low = refl
 child_put-behind key page (x ∷ xs) zs low = rw (lt-ltb x.0 key low.0) (ap (λ r. x ∷ r) (child_put-behind key page xs zs low.1))
 
-child_put-next : (key page high : ℕ) (s : Child) (ys : List Child) → s.0 < key → key ≤ reach ys high → child_put key page (s ∷ ys) ≡ s ∷ (key, page) ∷ ys
+pub child_put-next : (key page high : ℕ) (s : Child) (ys : List Child) → s.0 < key → key ≤ reach ys high → child_put key page (s ∷ ys) ≡ s ∷ (key, page) ∷ ys
 child_put-next key page high s [] lt within = rw (lt-ltb s.0 key lt) refl
 child_put-next key page high s (y ∷ ys) lt within =
     rw (lt-ltb s.0 key lt, le-ltb y.0 key (omega (arith, within)), ne_eqb y.0 key (λ e. omega (arith, within, lt, e))) refl
@@ -85,7 +85,7 @@ later : (low high : ℕ) (s : Child) (xs ys : List Child) → Ascends low high (
 later low high s [] ys up = up.0
 later low high s (x ∷ xs) ys up = let ih = later (x.0 + 1) high s xs ys up.2 in omega (arith, ih, up.0)
 
-keys_below : (low high key : ℕ) (s : Child) (xs ys : List Child) → Ascends low high (first_keys (xs ++ (s ∷ ys))) → s.0 ≤ key → Each (λ (c : Child). c.0 < key) xs
+pub keys_below : (low high key : ℕ) (s : Child) (xs ys : List Child) → Ascends low high (first_keys (xs ++ (s ∷ ys))) → s.0 ≤ key → Each (λ (c : Child). c.0 < key) xs
 keys_below low high key s [] ys up above = tt
 keys_below low high key s (x ∷ xs) ys up above = let next = later (x.0 + 1) high s xs ys up.2 in (omega (arith, next, above), keys_below (x.0 + 1) high key s xs ys up.2 above)
 
@@ -145,7 +145,7 @@ turn count old mid level page xs ss ms ys seg free rest was whole m entries is =
     }
 
 -- a change in one child, seen from above
-step_at : (count : ℕ) (old mid : Lines) (level page low high : ℕ) (root : Bool) (xs ys : List Child) (s : Child) (key : ℕ) (step : List Row → List Row) (free : List ℕ) → IsLocal key step → IsTree count old (suc level) page low high root
+pub step_at : (count : ℕ) (old mid : Lines) (level page low high : ℕ) (root : Bool) (xs ys : List Child) (s : Child) (key : ℕ) (step : List Row → List Row) (free : List ℕ) → IsLocal key step → IsTree count old (suc level) page low high root
     → children (bytes_of old page) ≡ xs ++ ((s ∷ []) ++ ys) → s.0 ≤ key → key ≤ reach ys high → (b : Beside count old mid level page xs (s ∷ []) ys (step (tree_rows old level s.1)) free)
     → rows_of mid level (xs ++ ((s ∷ []) ++ ys)) ≡ step (tree_rows old (suc level) page)
 step_at count old mid level page low high root xs ys s key step free local tree was above within b =
@@ -153,13 +153,13 @@ step_at count old mid level page low high root xs ys s key step free local tree 
     b.rows ∙ sym (ap step (ap (rows_of old level) was ∙ flat_map-append (λ (child : Child). tree_rows old level child.1) xs ((s ∷ []) ++ ys))
     ∙ local.amid (rows_of old level xs) (tree_rows old level s.1) (rows_of old level ys) sides.0 sides.1)
 
-one_child : (count : ℕ) (old mid : Lines) (level : ℕ) (s : Child) (free rest : List ℕ) → Moves count old mid (tree_pages old level s.1) (tree_pages mid level s.1) free rest
+pub one_child : (count : ℕ) (old mid : Lines) (level : ℕ) (s : Child) (free rest : List ℕ) → Moves count old mid (tree_pages old level s.1) (tree_pages mid level s.1) free rest
     → Moves count old mid (pages_of old level (s ∷ [])) (pages_of mid level (s ∷ [])) free rest
 one_child count old mid level s free rest m =
     Moves-widen (pages_of old level (s ∷ [])) (pages_of mid level (s ∷ [])) m (λ n. omega (arith, times-append n (tree_pages old level s.1) [], times-append n (tree_pages mid level s.1) []))
     (λ n. omega (arith, times-append n (tree_pages old level s.1) []))
 
-child_part : (old : Lines) (level page : ℕ) (xs ys : List Child) (s : Child) (free : List ℕ) → children (bytes_of old page) ≡ xs ++ ((s ∷ []) ++ ys)
+pub child_part : (old : Lines) (level page : ℕ) (xs ys : List Child) (s : Child) (free : List ℕ) → children (bytes_of old page) ≡ xs ++ ((s ∷ []) ++ ys)
     → ArePart old (tree_pages old (suc level) page ++ free) → ArePart old (tree_pages old level s.1 ++ free)
 child_part old level page xs ys s free was whole =
     λ n. omega (arith, whole n, ap (λ all. times n (pages_of old level all)) was, three_pages old level xs (s ∷ []) ys n, times-append n (tree_pages old level s.1) [],
@@ -386,13 +386,13 @@ mends_written e old first mid new page key count pair cut fit buffer bytes is_co
     (subst (λ l. ArePart old ((page ∷ pages_of old level (children (bytes_of old page))) ++ free)) lower whole) bound)
 
 -- a page as full as it has to be is one that a root may be
-leaf_root : (bytes : List ℕ) (low high pages : ℕ) → IsWellFormed bytes (record { level = 0; low = low; high = high; root = false; pages = pages }) → IsWellFormed bytes (record { level = 0; low = low; high = high; root = true; pages = pages })
+pub leaf_root : (bytes : List ℕ) (low high pages : ℕ) → IsWellFormed bytes (record { level = 0; low = low; high = high; root = false; pages = pages }) → IsWellFormed bytes (record { level = 0; low = low; high = high; root = true; pages = pages })
 unfolding first_failing
 leaf_root bytes low high pages well =
     let all = all_hold (leaf_checks bytes (record { level = 0; low = low; high = high; root = false; pages = pages })) well in
     rw (all.0, all.1.0, all.1.1.0, all.1.1.1.0, all.1.1.1.1.0, all.1.1.1.1.1.0, all.1.1.1.1.1.1.0) refl
 
-inner_root : (bytes : List ℕ) (level low high pages : ℕ) → IsWellFormed bytes (record { level = suc level; low = low; high = high; root = false; pages = pages })
+pub inner_root : (bytes : List ℕ) (level low high pages : ℕ) → IsWellFormed bytes (record { level = suc level; low = low; high = high; root = false; pages = pages })
     → IsWellFormed bytes (record { level = suc level; low = low; high = high; root = true; pages = pages })
 unfolding first_failing
 inner_root bytes level low high pages well =

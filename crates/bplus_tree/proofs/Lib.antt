@@ -11,3 +11,4 @@ pub mod PartLaws
 pub mod RecordLaws
 pub mod WrittenLaws
 pub mod Editing
+pub mod Storing

@@ -1,5 +1,5 @@
 -- What the calls that change a tree do to the pages under a page.
-use Rattle.std.specs.Prelude.{◌≡◌, ◌≢◌, ℕ, suc, ◌+◌, ◌-◌, ◌*◌, ◌<◌, ◌≤◌, ◌⊎◌, Bool, true, false, List, [], ◌∷◌, ◌++◌, Option, Some, None, nat_lt, ◌==◌, if◌then◌else◌, flat_map}
+use Rattle.std.specs.Prelude.{◌≡◌, ◌≢◌, ℕ, suc, ◌+◌, ◌-◌, ◌*◌, ◌<◌, ◌≤◌, ◌⊎◌, Bool, true, false, List, [], ◌∷◌, ◌++◌, Option, Some, None, drop, nat_lt, ◌==◌, if◌then◌else◌, flat_map}
 use Rattle.line_pages.specs.Lines.{Lines}
 use Rattle.line_pages.specs.Bytes.{bytes_of}
 use Rattle.slotted_page.specs.declared.root.Expect.{Expect}
@@ -207,8 +207,9 @@ pub record Added (old new : Lines) (page : ℕ) (expect : Expect) (all : List Ch
   pub right : List ℕ
   pub fit : Fit
   pub stored : Stored expect.pages old new page outcome left right free
-  pub fits : Fits children expect left right all fit
+  pub held : Fits children expect left right all fit
   pub is : IsOutcome expect.pages fit outcome
+  pub long : fit ≢ fits.Short
 
 abbrev pub AddsChild : Lines → Lines → ℕ → Expect → ℕ → ℕ → Outcome → Type 0
 AddsChild old new page expect key child outcome =
@@ -225,3 +226,22 @@ root_left root Whole = root
 root_left root Short = root
 root_left root (Cut key right) = root
 root_left root (Alone child) = record { page = child; levels = root.levels - 1 }
+
+-- the first of the rows whose key is not below the key
+abbrev pub place_of : ℕ → List Row → ℕ
+place_of key [] = 0
+place_of key (row ∷ rows) = if nat_lt row.0 key then suc (place_of key rows) else 0
+
+-- whether the rows begin with one of the key
+abbrev pub is_first : ℕ → List Row → Bool
+is_first key [] = false
+is_first key (row ∷ rows) = row.0 == key
+
+-- whether the row at that place has the key
+abbrev pub has_row : ℕ → List Row → Bool
+has_row key rows = is_first key (drop (place_of key rows) rows)
+
+-- the same of children
+abbrev pub child_place : ℕ → List Child → ℕ
+child_place key [] = 0
+child_place key (child ∷ rest) = if nat_lt child.0 key then suc (child_place key rest) else 0
