@@ -2,6 +2,7 @@
 //! of lines, and the bytes of a page.
 #![tactic(auto)]
 
+mod line;
 mod line_set;
 mod number;
 mod page;
@@ -13,11 +14,12 @@ mod tests;
 mod touches;
 mod vec_pages;
 
+pub use line::whole_line;
 pub use line_set::LineSet;
 pub use number::{get_half, get_word, put_half, put_word};
 pub use page::{page_half, page_line, page_word, set_page_half, set_page_line, set_page_word};
 pub use pages::Pages;
 pub use reads::{copy_page, read_half, read_word};
 pub use stop::{Evidence, Stop};
-pub use touches::{Mark, Touches};
+pub use touches::{Accesses, Touches};
 pub use vec_pages::VecPages;

@@ -5,9 +5,10 @@ ghost use Rattle.line_pages.specs.Touch.{accesses, touch_of};
 ghost use Rattle.line_pages.specs.Stored.{pages_in, blank_pages, fresh};
 ghost use Rattle.line_pages.specs.Standing.{Standing};
 
+use crate::line::whole_line;
 use crate::pages::Pages;
 use crate::stop::Stop;
-use crate::touches::{Mark, Touches};
+use crate::touches::Accesses;
 use nvm_model::{Line, NoMemory};
 use std::alloc::Global;
 
@@ -17,8 +18,7 @@ pub struct VecPages {
     count: u64,
     room: u64,
     lines: Vec<Line>,
-    access: Option<(u64, bool)>,
-    touches: Touches,
+    accesses: Accesses,
     ghost some: { 1 ≤ count },
     ghost sized: { length lines.items ≡ 64 * count },
 }
@@ -40,30 +40,8 @@ impl VecPages {
             count: pages,
             room,
             lines,
-            access: None,
-            touches: Touches::new(),
+            accesses: Accesses::new(),
         })
-    }
-
-    fn touch(&mut self, page: u64, line: usize, writes: bool)
-        ensures count { self.new.count ≡ self.old.count }
-        ensures room { self.new.room ≡ self.old.room }
-        ensures lines { self.new.lines ≡ self.old.lines }
-        ensures access { self.new.access ≡ Some (page, writes) }
-        ensures touches { self.new.touches.list ≡ self.old.touches.list ++ touch_of self.old.access page line writes ∷ [] }
-    {
-        let begins = match self.access {
-            Some((p, w)) => p != page || w != writes,
-            None => true,
-        };
-        let mark = Mark {
-            page,
-            line,
-            writes,
-            begins,
-        };
-        self.touches = Touches::with(&self.touches, &mark);
-        self.access = Some((page, writes));
     }
 }
 
@@ -76,9 +54,9 @@ impl Pages for VecPages {
       current = pages_in s.lines.items;
       committed = blank_pages;
       room = s.room;
-      visits = length (accesses s.touches.list);
-      touches = s.touches.list;
-      access = s.access;
+      visits = length (accesses s.accesses.touches.list);
+      touches = s.accesses.touches.list;
+      access = s.accesses.open_access;
       nvm_faults = 0;
       ssd_faults = 0;
       clock = 0;
@@ -97,30 +75,19 @@ impl Pages for VecPages {
 
     #[tactic(auto, using(crate::proofs::TouchLaws::accesses_push, crate::proofs::StoredLaws::read_back))]
     fn read_line(&mut self, page: u64, line: usize) -> Result<Line, Stop> {
-        self.touch(page, line, false);
+        self.accesses.touch(page, line, false);
         Ok(whole_line(&self.lines[page as usize * 64 + line]))
     }
 
     #[tactic(auto, using(crate::proofs::TouchLaws::accesses_push, crate::proofs::StoredLaws::write_back))]
     fn write_line(&mut self, page: u64, line: usize, value: &Line) -> Result<(), Stop> {
-        self.touch(page, line, true);
+        self.accesses.touch(page, line, true);
         self.lines[page as usize * 64 + line] = *value;
         self.room -= 1;
         Ok(())
     }
 
     fn rest(&mut self) {
-        self.access = None;
-    }
-}
-
-/// The same line, known to have eight words.
-fn whole_line(line: &Line) -> Line
-    ensures value { result ≡ line.now }
-    ensures is_line { IsLine result }
-{
-    let [a, b, c, d, e, f, g, h] = line.words;
-    Line {
-        words: [a, b, c, d, e, f, g, h],
+        self.accesses.end();
     }
 }

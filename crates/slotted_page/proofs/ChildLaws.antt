@@ -1,7 +1,7 @@
 -- The children of an inner page by index, and a search among them.
 use Rattle.std.proofs.Common.{◌≡◌, ◌≢◌, ℕ, zero, suc, ◌+◌, ◌-◌, ◌*◌, ◌<◌, ◌≤◌, inl, inr, Bool, true, false, List, [], ◌∷◌, length, get_or, Some, nat_eq, nat_lt, nat_le, ◌&&◌, refl, sym, ap, ◌∙◌, arith, slice_get}
 use Rattle.std.specs.List.{list_all}
-use Rattle.std.proofs.lemmas.Bool.{cases_eq, cases_lt, eqb-true, lt-ltb, ltb-true, le-leb, leb-true, ne_eqb, and_parts}
+use Rattle.std.proofs.lemmas.Bool.{eq-eqb, cases_eq, cases_lt, eqb-true, lt-ltb, ltb-true, le-leb, leb-true, ne_eqb, and_parts}
 use Rattle.std.proofs.lemmas.List.{length-map, get_or-map}
 use Rattle.line_pages.specs.Bytes.{u64_at}
 use Rattle.slotted_page.specs.declared.root.Expect.{Expect}
@@ -203,3 +203,8 @@ pub page_is : (pages page : ℕ) → is_page_below pages (0, page) ≡ true → 
 page_is pages page e =
     let parts = and_parts (nat_lt 0 page) (nat_lt page pages) e in
     (ltb-true 0 page parts.0, ltb-true page pages parts.1)
+
+-- a page begins at the key of its first child
+pub begins_first : (key : ℕ) (cs : List Child) → ((d : Child) → key ≡ (get_or cs 0 d).0) → begins_at key cs ≡ true
+begins_first key [] is = refl
+begins_first key (c ∷ cs) is = eq-eqb c.0 key (sym (is c))

@@ -1,15 +1,15 @@
 -- The damage of a page, by what was expected of it and by its bounds alone.
-use Rattle.std.proofs.Common.{◌≡◌, ℕ, ◌+◌, ◌*◌, ◌<◌, Bool, true, List, [], ◌∷◌, ◌++◌, Some, nat_le, ◌==◌, ◌&&◌, ◌||◌, inl, inr, sym, subst, ◌∙◌}
+use Rattle.std.proofs.Common.{◌≡◌, ℕ, ◌+◌, ◌*◌, ◌<◌, Bool, true, false, refl, List, [], ◌∷◌, ◌++◌, Some, not, nat_eq, nat_le, ◌==◌, ◌&&◌, ◌||◌, inl, inr, sym, subst, ◌∙◌}
 use Rattle.std.specs.List.{list_all}
 use Rattle.std.proofs.lemmas.Bool.{cases_Bool, cases_eq, eq-eqb, ne_eqb}
 use Rattle.line_pages.specs.declared.stop.Evidence.TheVariants.{Page}
 use Rattle.line_pages.specs.Lines.{Lines}
 use Rattle.line_pages.specs.Bytes.{bytes_of}
 use Rattle.slotted_page.specs.declared.root.Expect.{Expect}
-use Rattle.slotted_page.specs.Checks.{first_failure}
+use Rattle.slotted_page.specs.Checks.{first_failure, fails}
 use Rattle.slotted_page.specs.Rows.{keys, ascends}
 use Rattle.slotted_page.specs.Cut.{leaf_room, leaf_floor, inner_room, inner_floor}
-use Rattle.slotted_page.specs.Node.{page_kind, page_level, entry_count, heap_start, slots, bytes_used, is_in_heap, all_apart, has_printable_value, begins_at, first_keys, is_page_below, leaf_rows, children, first_failing}
+use Rattle.slotted_page.specs.Node.{page_kind, page_level, entry_count, heap_start, slots, bytes_used, is_in_heap, all_apart, has_printable_value, begins_at, first_keys, is_page_below, leaf_rows, children, checks, first_failing}
 use Rattle.slotted_page.specs.Search.{is_root_span, IsNodeDamage}
 
 -- the same page, expected as a root or not
@@ -70,3 +70,23 @@ damage_of count page check expect lines buffer inside pages root is first = (
   is,
   subst (λ n. first_failing buffer (record { level = expect.level; low = expect.low; high = expect.high; root = is_root_span expect.low expect.high; pages = n }) ≡ Some check) pages (by_bounds buffer expect check root first),
 )
+
+or_last : (x y : Bool) → y ≡ true → (x || y) ≡ true
+or_last true y e = refl
+or_last false y e = e
+
+-- the first check that fails is one that fails
+pub first_fails : (list : List (ℕ × Bool)) (number : ℕ) → first_failure list ≡ Some number → fails list number ≡ true
+first_fails [] number first = absurd (cc)
+first_fails (check ∷ rest) number first =
+    elim (cases_Bool check.1) [
+      | inl holds ↦ or_last (nat_eq check.0 number && not check.1) (fails rest number) (first_fails rest number (rw holds at first))
+      | inr broken ↦ let here : Some check.0 ≡ Some number = rw broken at first in let same : check.0 ≡ number = cc in rw (broken, eq-eqb check.0 number same) refl
+    ]
+
+-- the bytes beside the evidence fail the check that it names
+pub damage_fails : (count page level low high check : ℕ) (lines : Lines) (buffer : List ℕ) → IsNodeDamage count lines buffer (Page page level low high check)
+    → fails (checks buffer (record { level = level; low = low; high = high; root = is_root_span low high; pages = count })) check ≡ true
+unfolding first_failing
+damage_fails count page level low high check lines buffer damage =
+    first_fails (checks buffer (record { level = level; low = low; high = high; root = is_root_span low high; pages = count })) check damage.2

@@ -14,3 +14,4 @@ pub mod KeyLaws
 pub mod ChildLaws
 pub mod DamageLaws
 pub mod OpenLaws
+pub mod OrderLaws

@@ -1,3 +1,4 @@
+//! The numbered checks of one page, in ascending order.
 ghost use Rattle.std.specs.Prelude.{◌≡◌, ◌+◌, ◌-◌, ◌*◌, ◌<◌, ◌≤◌, ◌==◌, ◌&&◌, ◌||◌, ◌^◌, ℕ, List, Option, None, Some, true, length, drop, get_or, nat_le, nat_lt, OnOk, IfErr};
 ghost use Rattle.std.specs.List.{list_all};
 ghost use Rattle.slotted_page.specs.Rows.{Row, ascends, keys};
@@ -191,6 +192,7 @@ fn check_leaf(page: &PageBuf, expect: &Expect) -> Result<(), u8>
     requires { expect.now.level ≡ 0 }
     ensures ok { OnOk result (first_failing page.now expect.now ≡ None) }
     ensures err { IfErr result (λ number. first_failing page.now expect.now ≡ Some number) }
+    ensures size { length page.now ≡ 4096 }
 {
     if !word_is(page, 0, 1) {
         return Err(11);
@@ -299,6 +301,7 @@ fn check_inner(page: &PageBuf, expect: &Expect) -> Result<(), u8>
     requires { 1 ≤ expect.now.level }
     ensures ok { OnOk result (first_failing page.now expect.now ≡ None) }
     ensures err { IfErr result (λ number. first_failing page.now expect.now ≡ Some number) }
+    ensures size { length page.now ≡ 4096 }
 {
     if !word_is(page, 0, 2) {
         return Err(11);
@@ -322,10 +325,12 @@ fn check_inner(page: &PageBuf, expect: &Expect) -> Result<(), u8>
     Ok(())
 }
 
-/// The number of the first check that a page of a tree fails.
+/// Makes the checks of a page of a tree. The error is the number of the first that fails: 11 to 17 and 21 of a leaf, 11, 12,
+/// 18 to 20 and 22 of an inner page.
 pub fn well_formed(page: &PageBuf, expect: &Expect) -> Result<(), u8>
     ensures ok { OnOk result (first_failing page.now expect.now ≡ None) }
     ensures err { IfErr result (λ number. first_failing page.now expect.now ≡ Some number) }
+    ensures size { length page.now ≡ 4096 }
 {
     if expect.level == 0 {
         return check_leaf(page, expect);
@@ -333,7 +338,7 @@ pub fn well_formed(page: &PageBuf, expect: &Expect) -> Result<(), u8>
     check_inner(page, expect)
 }
 
-/// The bytes that the slots and records of a leaf take.
+/// The bytes that the slots and records of a leaf take, 12 and the value's length for each row.
 pub fn leaf_used(page: &PageBuf) -> usize
     requires { IsSound page.now }
     ensures slots { result ≡ bytes_used (slots page.now) }

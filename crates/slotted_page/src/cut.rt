@@ -1,3 +1,4 @@
+//! A leaf cut in two with a new row.
 ghost use Rattle.std.specs.Prelude.{◌≡◌, ◌+◌, ◌-◌, ◌*◌, ◌<◌, ◌≤◌, ℕ, List, [], ◌∷◌, ◌++◌, true, length, slice_range, take, drop};
 ghost use Rattle.std.specs.List.{insert, list_all};
 ghost use Rattle.slotted_page.specs.Rows.{Ascends, keys, last_key};
@@ -133,7 +134,8 @@ fn divide(
     }
 }
 
-/// Cuts a leaf in two, with a new row put in at an index.
+/// Cuts a leaf in two, with a new row put in at a place. The left part is the shortest prefix of the rows whose bytes,
+/// doubled, reach the total; both pages are packed.
 pub fn leaf_cut(left: &mut PageBuf, right: &mut PageBuf, at: usize, key: u64, value: &[u8])
     requires leaf { IsLeaf left.old }
     requires at { at ≤ length (rows_of left.old) }

@@ -1,3 +1,4 @@
+//! The bytes of a leaf: a row put in, taken out or given another value.
 ghost use Rattle.std.specs.Prelude.{get_or, slice_set, ◌≡◌, ◌+◌, ◌*◌, ◌<◌, ◌≤◌, ℕ, List, length};
 ghost use Rattle.std.specs.List.{insert, remove};
 ghost use Rattle.slotted_page.specs.Rows.{Row};

@@ -1,3 +1,4 @@
+//! The bytes of an inner page: 16 bytes to each child, its first key and its page.
 ghost use Rattle.std.specs.Prelude.{◌≡◌, ◌+◌, ◌*◌, ◌<◌, ◌≤◌, ℕ, List, [], ◌++◌, length, get_or, slice_range, take};
 ghost use Rattle.std.specs.List.{insert, remove};
 ghost use Rattle.ssd_model.specs.Page.{Same};
@@ -7,7 +8,7 @@ ghost use Rattle.slotted_page.specs.Inner.{IsInner};
 use line_pages::{page_word, set_page_word};
 use ssd_model::PageBuf;
 
-/// The number of children of an inner page.
+/// The number of children of an inner page, however many these are.
 #[tactic(auto, using(crate::proofs::InnerLemmas::length_children))]
 pub fn children(page: &PageBuf) -> usize
     requires { IsInner page.now }
@@ -18,7 +19,7 @@ pub fn children(page: &PageBuf) -> usize
     page_word(page, 8) as usize
 }
 
-/// The first key of a child.
+/// The first key of the child at a place, counted from 0.
 pub fn child_key(page: &PageBuf, at: usize) -> u64
     requires inner { IsInner page.now }
     requires at { at < entry_count page.now }
@@ -27,7 +28,7 @@ pub fn child_key(page: &PageBuf, at: usize) -> u64
     page_word(page, 64 + 16 * at)
 }
 
-/// The page of a child.
+/// The page of the child at a place.
 pub fn child(page: &PageBuf, at: usize) -> u64
     requires inner { IsInner page.now }
     requires at { at < entry_count page.now }

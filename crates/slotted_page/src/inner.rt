@@ -1,3 +1,4 @@
+//! Inner pages as lists of children.
 ghost use Rattle.std.specs.Prelude.{◌≡◌, ◌+◌, ◌*◌, ◌<◌, ◌≤◌, ◌⊎◌, ℕ, List, ◌++◌, true, false, length, take, drop};
 ghost use Rattle.std.specs.List.{insert, remove};
 ghost use Rattle.ssd_model.specs.Page.{Same};
@@ -12,7 +13,7 @@ use crate::entries::{
 use line_pages::page_word;
 use ssd_model::PageBuf;
 
-/// Puts a child at an index of an inner page.
+/// Puts a child at a place of an inner page that has fewer than 240, where the keys stay in order.
 pub fn inner_insert(page: &mut PageBuf, at: usize, key: u64, child: u64)
     requires branch { IsBranch page.old }
     requires at { at ≤ length (children_of page.old) }
@@ -27,7 +28,7 @@ pub fn inner_insert(page: &mut PageBuf, at: usize, key: u64, child: u64)
     insert_child(page, at, key, child);
 }
 
-/// Takes the child at an index out of an inner page.
+/// Takes the child at a place out of an inner page, of which any number may be left.
 pub fn inner_remove(page: &mut PageBuf, at: usize)
     requires branch { IsBranch page.old }
     requires at { at < length (children_of page.old) }
@@ -40,7 +41,7 @@ pub fn inner_remove(page: &mut PageBuf, at: usize)
     remove_child(page, at);
 }
 
-/// Cuts an inner page in two, with a new child put in at an index.
+/// Cuts an inner page in two, with a new child put in at a place. Of n children the left page has `(n + 1) / 2`.
 pub fn inner_cut(left: &mut PageBuf, right: &mut PageBuf, at: usize, key: u64, child: u64)
     requires branch { IsBranch left.old }
     requires at { at ≤ length (children_of left.old) }
@@ -92,7 +93,8 @@ fn share_children(left: &mut PageBuf, right: &mut PageBuf, n: usize, m: usize, p
     }
 }
 
-/// Joins two inner pages: true where all children are in the left one. Else they are divided.
+/// Joins two inner pages, of which the left one has the lower keys and the right one begins at `key`: true where all
+/// children are at most 240 and were put in the left one, and the right one is as it was. Else they are divided as in a cut.
 pub fn inner_join(left: &mut PageBuf, right: &mut PageBuf, key: u64) -> bool
     requires left { IsBranch left.old }
     requires right { IsBranch right.old }
@@ -102,6 +104,7 @@ pub fn inner_join(left: &mut PageBuf, right: &mut PageBuf, key: u64) -> bool
     ensures right_rest { Same 3904 4096 right.old right.new }
     ensures joined { result ≡ true → IsJoinedBranch left.old right.old left.new }
     ensures divided { result ≡ false → IsDividedBranch left.old right.old left.new right.new }
+    ensures kept { result ≡ true → right.new ≡ right.old }
 {
     let n = children(left);
     let m = children(right);

@@ -1,3 +1,4 @@
+//! Leaves as lists of rows.
 ghost use Rattle.std.specs.Prelude.{◌⊎◌, get_or, slice_set, ◌≡◌, ◌+◌, ◌*◌, ◌<◌, ◌≤◌, ℕ, List, true, length};
 ghost use Rattle.std.specs.List.{insert, remove, list_all};
 ghost use Rattle.ssd_model.specs.Page.{Same};
@@ -41,7 +42,9 @@ fn make_room(page: &mut PageBuf, more: usize)
     }
 }
 
-/// Puts a row at an index of a leaf.
+/// Puts a row at a place of a leaf, where the keys stay in order and it fits in 4,032 bytes of rows, of which a row takes 12
+/// and its value. Its record stands just below the heap's start; where it does not fit between the slots and the heap, the
+/// records are packed first.
 pub fn leaf_insert(page: &mut PageBuf, at: usize, key: u64, value: &[u8])
     requires leaf { IsLeaf page.old }
     requires at { at ≤ length (rows_of page.old) }
@@ -59,7 +62,7 @@ pub fn leaf_insert(page: &mut PageBuf, at: usize, key: u64, value: &[u8])
     insert_here(page, at, key, value);
 }
 
-/// Takes the row at an index out of a leaf.
+/// Takes the row at a place out of a leaf. Its slot goes, and its record stays unused where it is.
 pub fn leaf_remove(page: &mut PageBuf, at: usize)
     requires leaf { IsLeaf page.old }
     requires at { at < length (rows_of page.old) }

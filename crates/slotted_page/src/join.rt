@@ -1,3 +1,4 @@
+//! Two leaves joined, or their rows divided anew.
 ghost use Rattle.std.specs.Prelude.{◌≡◌, ◌+◌, ◌*◌, ◌<◌, ◌≤◌, ◌⊎◌, ℕ, List, [], ◌∷◌, ◌++◌, true, false, length, slice_range, take, drop, if◌then◌else◌};
 ghost use Rattle.slotted_page.specs.Rows.{Ascends, keys, last_key};
 ghost use Rattle.slotted_page.specs.Cut.{join_rows, rows_left};
@@ -83,7 +84,8 @@ fn joined_part(left: &PageBuf, right: &PageBuf, n: usize, m: usize, one: usize, 
     first + second
 }
 
-/// Joins two leaves: true where all rows are in the left one. Else the rows are divided.
+/// Joins two leaves, of which one holds fewer than 1,344 bytes and the left one the lower keys: true where all rows fit in
+/// the left one and were put there, and the right one is as it was. Else the rows of both are divided as in a cut.
 pub fn leaf_join(left: &mut PageBuf, right: &mut PageBuf) -> bool
     requires left { IsLeaf left.old }
     requires right { IsLeaf right.old }
@@ -91,6 +93,7 @@ pub fn leaf_join(left: &mut PageBuf, right: &mut PageBuf) -> bool
     requires low { (row_bytes (rows_of left.old) < 1344) ⊎ (row_bytes (rows_of right.old) < 1344) }
     ensures joined { result ≡ true → IsJoined left.old right.old left.new }
     ensures divided { result ≡ false → IsDivided left.old right.old left.new right.new }
+    ensures kept { result ≡ true → right.new ≡ right.old }
 {
     let n = open_leaf(left);
     let m = open_leaf(right);

@@ -1,3 +1,4 @@
+//! The rows of a leaf, read by its slots.
 ghost use Rattle.std.specs.Prelude.{◌≡◌, ◌+◌, ◌*◌, ◌<◌, ◌≤◌, ℕ, List, length, get_or};
 ghost use Rattle.slotted_page.specs.Rows.{Row};
 ghost use Rattle.slotted_page.specs.Node.{entry_count, heap_start, leaf_rows as rows_of};
@@ -6,7 +7,7 @@ ghost use Rattle.slotted_page.specs.Sound.{IsSound, InHeap, slot_of};
 use line_pages::{page_half, page_word};
 use ssd_model::PageBuf;
 
-/// The number of rows of a leaf.
+/// The number of rows of a leaf. It asks for no more of the page than that its slots and records stand where they may.
 #[tactic(auto, using(crate::proofs::SlotLemmas::length_rows))]
 pub fn leaf_rows(page: &PageBuf) -> usize
     requires { IsSound page.now }
@@ -36,7 +37,7 @@ fn size_of(page: &PageBuf, at: usize) -> usize
     page_half(page, 64 + 4 * at + 2) as usize
 }
 
-/// The key of a row.
+/// The key of the row at a place, counted from 0.
 #[tactic(auto, using(crate::proofs::SlotLemmas::length_rows))]
 pub fn leaf_key(page: &PageBuf, at: usize) -> u64
     requires sound { IsSound page.now }
@@ -47,7 +48,7 @@ pub fn leaf_key(page: &PageBuf, at: usize) -> u64
     page_word(page, place)
 }
 
-/// The value of a row.
+/// The value of the row at a place, at most 480 bytes.
 #[tactic(auto, using(crate::proofs::SlotLemmas::length_rows))]
 pub fn leaf_value(page: &PageBuf, at: usize) -> &[u8]
     requires sound { IsSound page.now }

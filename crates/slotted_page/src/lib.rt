@@ -1,4 +1,8 @@
-//! Leaf and inner pages as lists of rows and of children.
+//! Leaf and inner pages of a tree: a page is its rows, or its children.
+//!
+//! A leaf has a header of 64 bytes, then slots of 4 bytes in the order of the keys, and records that grow down from the
+//! page's end. An inner page has the same header and 16 bytes to each child. Every call on the bytes of a page says which
+//! list the page has afterwards, and what is left as it was; `find` and `read_page` read a page through a store of pages.
 #![tactic(auto)]
 
 mod build;
@@ -15,6 +19,8 @@ mod probe;
 mod read;
 mod root;
 mod scan;
+#[cfg(test)]
+mod tests;
 mod value;
 mod work;
 

@@ -1,5 +1,5 @@
 //! A whole page read and checked.
-ghost use Rattle.std.specs.Prelude.{false, ◌≡◌, ◌+◌, ◌<◌, ◌≤◌, true, IsTrue, OnOk, IfErr};
+ghost use Rattle.std.specs.Prelude.{false, ◌≡◌, ◌+◌, ◌<◌, ◌≤◌, true, length, IsTrue, OnOk, IfErr};
 ghost use Rattle.line_pages.specs.Bytes.{bytes_of};
 ghost use Rattle.line_pages.specs.Touch.{begins};
 ghost use Rattle.line_pages.specs.Standing.{Continues, HasCause, ReadsPage};
@@ -26,6 +26,7 @@ pub fn read_page<P: Pages>(
     requires root { is_root_span expect.now.low expect.now.high ≡ true → expect.now.root ≡ true }
     // what the page is
     ensures well { OnOk result (IsWellFormed work.new.page expect.now) }
+    ensures size { OnOk result (length work.new.page ≡ 4096) }
     ensures bytes { IsTrue (P.standing pages.old).told → OnOk result (work.new.page ≡ bytes_of (P.standing pages.old).current page) }
     ensures damage { IsTrue (P.standing pages.old).told → IfErr result (ShowsDamage page expect.now (bytes_of (P.standing pages.old).current page)) }
     ensures cause { HasCause (λ e. IsTrue (P.standing pages.old).told → IsNodeDamage (P.standing pages.old).count (P.standing pages.old).current work.new.page e) (P.standing pages.old) (P.standing pages.new) result }

@@ -1,5 +1,6 @@
 //! The buffers for the work on pages.
-ghost use Rattle.std.specs.Prelude.{◌≡◌, length};
+ghost use Rattle.std.specs.Prelude.{◌≡◌};
+ghost use Rattle.ssd_model.specs.Page.{zero_page};
 
 use ssd_model::PageBuf;
 
@@ -18,7 +19,12 @@ pub struct Work {
 
 impl Work {
     /// Four buffers of zeros.
-    pub fn new() -> Work {
+    pub fn new() -> Work
+        ensures page { result.page ≡ zero_page }
+        ensures left { result.left ≡ zero_page }
+        ensures right { result.right ≡ zero_page }
+        ensures spare { result.spare ≡ zero_page }
+    {
         Work {
             page: PageBuf::zero(),
             left: PageBuf::zero(),

@@ -13,11 +13,10 @@ returns-clause-writes c =
     record {
       touch = record {
         access = c.touch.ensures.access;
-        visits = ap (λ ts. length (accesses ts)) c.touch.ensures.touches ∙ accesses_push c.args.self.now.touches.list (touch_of c.args.self.now.access c.args.page c.args.line _);
+        visits = ap (λ ts. length (accesses ts)) c.touch.ensures.touches ∙ accesses_push c.args.self.now.accesses.touches.list (touch_of c.args.self.now.accesses.open_access c.args.page c.args.line _);
         touches = c.touch.ensures.touches;
       };
-      current = λ told. ap (λ v. pages_in (slice_set v.items (c.args.page * 64 + c.args.line) c.args.value.now)) c.touch.ensures.lines
-          ∙ ap (λ k. pages_in (slice_set c.args.self.now.lines.items k c.args.value.now)) at
+      current = λ told. ap (λ k. pages_in (slice_set c.args.self.now.lines.items k c.args.value.now)) at
           ∙ write_back c.args.self.now.lines.items c.args.page c.args.line c.args.value.now c.requires.line in_list;
-      room = omega (arith, c.touch.ensures.room);
+      room = omega arith;
     }

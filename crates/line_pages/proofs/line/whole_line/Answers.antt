@@ -1,6 +1,6 @@
 use Rattle.std.proofs.Common.{◌≡◌, ℕ, List, length, ap, rules}
 use Rattle.line_pages.proofs.ByteLaws.{eight}
-use Rattle.line_pages.proofs.vec_pages.whole_line.Goals as goal
+use Rattle.line_pages.proofs.line.whole_line.Goals as goal
 
 pub returns-clause-value : goal.returns-clause-value
 returns-clause-value c =

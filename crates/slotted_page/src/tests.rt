@@ -1,0 +1,703 @@
+//! Worked examples: rows and children put, cut and joined, against bytes written by hand, each check violated once,
+//! and a search over pages in memory.
+//!
+//! The check on the bytes used comes first nowhere: where slots end before the heap and no two records share a byte,
+//! these bytes are at most 4,032.
+ghost use Rattle.std.specs.Prelude.{◌≡◌, ◌+◌, ◌<◌, ◌≤◌, ◌⊎◌, ◌++◌, ℕ, true, length, OnOk};
+ghost use Rattle.std.specs.List.{insert};
+ghost use Rattle.slotted_page.specs.Rows.{Ascends, keys, last_key};
+ghost use Rattle.slotted_page.specs.Node.{IsLeaf, any_leaf as any, first_keys, leaf_rows as rows_of, children as children_of};
+ghost use Rattle.slotted_page.specs.Search.{IsSpot};
+ghost use Rattle.slotted_page.specs.Inner.{IsBranch};
+
+use crate::build::clear_leaf;
+use crate::check::{leaf_used, well_formed};
+use crate::cut::leaf_cut;
+use crate::entries::{child, child_key, children};
+use crate::inner::{inner_cut, inner_insert, inner_join, inner_remove};
+use crate::insert::{leaf_insert, leaf_remove, leaf_set, open_leaf};
+use crate::join::leaf_join;
+use crate::leaf::{leaf_key, leaf_rows, leaf_value};
+use crate::lookup::{Spot, find};
+use crate::read::read_page;
+use crate::root::Expect;
+use crate::scan::scan;
+use crate::value::Value;
+use crate::work::Work;
+use line_pages::{
+    Evidence, Pages, Stop, VecPages, page_half, page_line, page_word, set_page_half, set_page_word,
+};
+use nvm_model::NoMemory;
+use ssd_model::PageBuf;
+
+/// What a leaf is expected to be, however full it is.
+fn any_leaf() -> Expect {
+    Expect {
+        level: 0,
+        low: 0,
+        high: u64::MAX,
+        root: true,
+        pages: 0,
+    }
+}
+
+/// What the page of a tree of two levels is expected to be.
+fn fork(root: bool) -> Expect {
+    Expect {
+        level: 1,
+        low: 0,
+        high: u64::MAX,
+        root,
+        pages: 300,
+    }
+}
+
+/// Whether a page is a leaf that is well formed in itself.
+fn is_leaf(page: &PageBuf) -> bool
+    ensures { result ≡ true → IsLeaf page.now }
+{
+    let expect = Expect {
+        level: 0,
+        low: 0,
+        high: u64::MAX,
+        root: true,
+        pages: 0,
+    };
+    match well_formed(page, &expect) {
+        Ok(()) => true,
+        Err(_) => false,
+    }
+}
+
+/// Where a key is in a leaf.
+fn place(page: &PageBuf, key: u64) -> Spot
+    requires { IsLeaf page.now }
+    ensures { IsSpot page.now any key result }
+{
+    let expect = Expect {
+        level: 0,
+        low: 0,
+        high: u64::MAX,
+        root: true,
+        pages: 0,
+    };
+    scan(page, &expect, key)
+}
+
+/// A leaf of two rows, byte by byte: key 0 with no value, and the last key with the value `ab`.
+fn leaf_by_hand() -> PageBuf {
+    let mut page = PageBuf::zero();
+    set_page_word(&mut page, 0, 1);
+    set_page_word(&mut page, 8, 2);
+    set_page_word(&mut page, 24, 4078);
+    set_page_half(&mut page, 64, 4088);
+    set_page_half(&mut page, 66, 8);
+    set_page_half(&mut page, 68, 4078);
+    set_page_half(&mut page, 70, 10);
+    set_page_word(&mut page, 4078, u64::MAX);
+    page.set_part(4086, b"ab");
+    page
+}
+
+/// An inner page of two children: page 7 from key 0 on, page 9 from key 50 on.
+fn fork_by_hand() -> PageBuf {
+    let mut page = PageBuf::zero();
+    set_page_word(&mut page, 0, 2);
+    set_page_word(&mut page, 8, 2);
+    set_page_word(&mut page, 16, 1);
+    set_page_word(&mut page, 72, 7);
+    set_page_word(&mut page, 80, 50);
+    set_page_word(&mut page, 88, 9);
+    page
+}
+
+/// The check that a leaf fails after one of its words was changed.
+fn leaf_with_word(at: usize, value: u64) -> Result<(), u8>
+    requires { at + 8 ≤ 4096 }
+{
+    let mut page = leaf_by_hand();
+    set_page_word(&mut page, at, value);
+    well_formed(&page, &any_leaf())
+}
+
+/// The check that a leaf fails after the place or the length of a record was changed.
+fn leaf_with_half(at: usize, value: u16) -> Result<(), u8>
+    requires { at + 2 ≤ 4096 }
+{
+    let mut page = leaf_by_hand();
+    set_page_half(&mut page, at, value);
+    well_formed(&page, &any_leaf())
+}
+
+/// The check that an inner page fails after one of its words was changed.
+fn fork_with_word(at: usize, value: u64) -> Result<(), u8>
+    requires { at + 8 ≤ 4096 }
+{
+    let mut page = fork_by_hand();
+    set_page_word(&mut page, at, value);
+    well_formed(&page, &fork(true))
+}
+
+#[test]
+fn leaves_fail_each_check(rt: HostRuntime) {
+    assert!(rt; leaf_with_word(0, 1) == Ok(()));
+    assert!(rt; leaf_with_word(0, 2) == Err(11));
+    assert!(rt; leaf_with_word(16, 1) == Err(12));
+    assert!(rt; leaf_with_word(24, 71) == Err(13));
+    assert!(rt; leaf_with_word(24, 4097) == Err(13));
+    assert!(rt; leaf_with_word(8, 1009) == Err(13));
+    assert!(rt; leaf_with_word(24, 4079) == Err(14));
+    assert!(rt; leaf_with_half(64, 4089) == Err(14));
+    assert!(rt; leaf_with_half(64, 4087) == Err(14));
+    assert!(rt; leaf_with_half(66, 7) == Err(14));
+    assert!(rt; leaf_with_word(4088, u64::MAX) == Err(16));
+    assert!(rt; leaf_with_half(4086, 0x1F61) == Err(17));
+    let below = Expect {
+        level: 0,
+        low: 0,
+        high: 9,
+        root: true,
+        pages: 0,
+    };
+    assert!(rt; well_formed(&leaf_by_hand(), &below) == Err(16));
+    let kept = Expect {
+        level: 0,
+        low: 0,
+        high: u64::MAX,
+        root: false,
+        pages: 0,
+    };
+    assert!(rt; well_formed(&leaf_by_hand(), &kept) == Err(21));
+}
+
+#[test]
+fn inner_pages_fail_each_check(rt: HostRuntime) {
+    assert!(rt; fork_with_word(0, 2) == Ok(()));
+    assert!(rt; fork_with_word(0, 1) == Err(11));
+    assert!(rt; fork_with_word(16, 2) == Err(12));
+    assert!(rt; fork_with_word(8, 1) == Err(18));
+    assert!(rt; fork_with_word(8, 241) == Err(18));
+    assert!(rt; fork_with_word(64, 1) == Err(19));
+    assert!(rt; fork_with_word(80, 0) == Err(19));
+    assert!(rt; fork_with_word(88, 0) == Err(20));
+    assert!(rt; fork_with_word(72, 300) == Err(20));
+    assert!(rt; well_formed(&fork_by_hand(), &fork(false)) == Err(22));
+}
+
+/// Puts a row where it belongs. False where the page is no leaf, the key is there, or the row does not fit.
+fn put(page: &mut PageBuf, key: u64, value: &Value) -> bool {
+    if !is_leaf(page) {
+        return false;
+    }
+    open_leaf(page);
+    if leaf_used(page) + 12 + value.bytes().len() > 4032 {
+        return false;
+    }
+    match place(page, key) {
+        Spot::Gap(at) => {
+            leaf_insert(page, at, key, value.bytes());
+            true
+        }
+        _ => false,
+    }
+}
+
+/// Takes a row out. False where the page is no leaf or has no such row.
+fn remove(page: &mut PageBuf, key: u64) -> bool {
+    if !is_leaf(page) {
+        return false;
+    }
+    match place(page, key) {
+        Spot::Row(at) => {
+            leaf_remove(page, at);
+            true
+        }
+        _ => false,
+    }
+}
+
+/// Puts another value at the first row. False where the page is no leaf, or the value has another length.
+fn set_first(page: &mut PageBuf, value: &Value) -> bool {
+    if !is_leaf(page) {
+        return false;
+    }
+    if open_leaf(page) == 0 || leaf_value(page, 0).len() != value.bytes().len() {
+        return false;
+    }
+    leaf_set(page, 0, value.bytes());
+    true
+}
+
+/// Cuts a leaf with a row put where it belongs. False where the page is no leaf or the key is there.
+fn cut(left: &mut PageBuf, right: &mut PageBuf, key: u64, value: &Value) -> bool {
+    if !is_leaf(left) {
+        return false;
+    }
+    open_leaf(left);
+    match place(left, key) {
+        Spot::Gap(at) => {
+            leaf_cut(left, right, at, key, value.bytes());
+            true
+        }
+        _ => false,
+    }
+}
+
+/// Whether the rows of one leaf are all below those of another.
+fn is_before(left: &PageBuf, right: &PageBuf) -> bool
+    requires left { IsLeaf left.now }
+    requires right { IsLeaf right.now }
+    ensures { result ≡ true → Ascends 0 last_key (keys (rows_of left.now ++ rows_of right.now)) }
+{
+    let count = open_leaf(left);
+    let more = open_leaf(right);
+    if count == 0 || more == 0 {
+        return false;
+    }
+    leaf_key(left, count - 1) < leaf_key(right, 0)
+}
+
+fn is_short(left: usize, right: usize) -> bool
+    ensures { result ≡ true → (left < 1344) ⊎ (right < 1344) }
+{
+    left < 1344 || right < 1344
+}
+
+/// Joins two leaves. `None` where one is no leaf, the rows are not in order, or both are full enough.
+fn join(left: &mut PageBuf, right: &mut PageBuf) -> Option<bool> {
+    if !is_leaf(left) {
+        return None;
+    }
+    if !is_leaf(right) {
+        return None;
+    }
+    open_leaf(left);
+    open_leaf(right);
+    if !is_before(left, right) {
+        return None;
+    }
+    if !is_short(leaf_used(left), leaf_used(right)) {
+        return None;
+    }
+    Some(leaf_join(left, right))
+}
+
+/// How many rows a leaf has; the largest number for another page.
+fn rows_in(page: &PageBuf) -> usize {
+    if !is_leaf(page) {
+        return usize::MAX;
+    }
+    open_leaf(page)
+}
+
+/// Whether a leaf has this row at a place.
+fn has_row(page: &PageBuf, at: usize, key: u64, value: &[u8]) -> bool {
+    if !is_leaf(page) {
+        return false;
+    }
+    let count = open_leaf(page);
+    at < leaf_rows(page) && at < count && leaf_key(page, at) == key && leaf_value(page, at) == value
+}
+
+/// The letter `v`, so many times.
+fn letters(count: usize) -> Option<Value> {
+    let letters = [b'v'; 481];
+    if count > 481 {
+        return None;
+    }
+    Value::from_bytes(&letters[..count])
+}
+
+#[test]
+fn nine_rows_are_cut_into_five_and_four(rt: HostRuntime) {
+    let mut work = Work::new();
+    clear_leaf(&mut work.left);
+    assert!(rt; letters(481).is_none());
+    assert!(rt; Value::from_bytes(&[0x1F]).is_none());
+    assert!(rt; Value::from_bytes(&[0x7F]).is_none());
+    let Some(value) = letters(480) else {
+        assert!(rt; false);
+        return;
+    };
+    let value = value.copy();
+    for key in 1..9 {
+        assert!(rt; put(&mut work.left, key, &value));
+    }
+    assert_eq!(rt; rows_in(&work.left), 8);
+    assert_eq!(rt; page_word(&work.left, 24), 4096 - 8 * 488);
+    assert!(rt; !put(&mut work.left, 9, &value));
+    assert!(rt; cut(&mut work.left, &mut work.right, 9, &value));
+    assert_eq!(rt; rows_in(&work.left), 5);
+    assert_eq!(rt; rows_in(&work.right), 4);
+    assert!(rt; has_row(&work.left, 4, 5, value.bytes()));
+    assert!(rt; has_row(&work.right, 0, 6, value.bytes()));
+    assert_eq!(rt; page_half(&work.left, 64), 4096 - 488);
+    assert_eq!(rt; page_half(&work.left, 80), 4096 - 5 * 488);
+    assert!(rt; join(&mut work.left, &mut work.right).is_none());
+}
+
+#[test]
+fn a_leaf_of_1023_bytes_is_joined(rt: HostRuntime) {
+    let mut left = PageBuf::zero();
+    let mut right = PageBuf::zero();
+    clear_leaf(&mut left);
+    clear_leaf(&mut right);
+    let Some(value) = letters(480) else {
+        assert!(rt; false);
+        return;
+    };
+    let Some(short) = letters(1) else {
+        assert!(rt; false);
+        return;
+    };
+    for key in 1..4 {
+        assert!(rt; put(&mut left, key, &short));
+    }
+    for key in 4..6 {
+        assert!(rt; put(&mut left, key, &value));
+    }
+    for key in 6..10 {
+        assert!(rt; put(&mut right, key, &value));
+    }
+    assert_eq!(rt; rows_in(&left), 5);
+    assert_eq!(rt; join(&mut left, &mut right), Some(true));
+    assert_eq!(rt; rows_in(&left), 9);
+    assert!(rt; has_row(&left, 2, 3, b"v"));
+    assert!(rt; has_row(&left, 8, 9, value.bytes()));
+    assert_eq!(rt; page_word(&left, 24), 4096 - 3 * 9 - 6 * 488);
+    assert!(rt; remove(&mut left, 1));
+    assert!(rt; !remove(&mut left, 1));
+}
+
+#[test]
+fn rows_of_two_leaves_are_divided(rt: HostRuntime) {
+    let mut left = PageBuf::zero();
+    let mut right = PageBuf::zero();
+    clear_leaf(&mut left);
+    clear_leaf(&mut right);
+    let Some(value) = letters(480) else {
+        assert!(rt; false);
+        return;
+    };
+    assert!(rt; put(&mut left, 0, &value));
+    for key in 1..9 {
+        assert!(rt; put(&mut right, key, &value));
+    }
+    assert_eq!(rt; join(&mut left, &mut right), Some(false));
+    assert_eq!(rt; rows_in(&left), 5);
+    assert_eq!(rt; rows_in(&right), 4);
+    assert!(rt; has_row(&right, 0, 5, value.bytes()));
+}
+
+#[test]
+fn rows_stand_where_the_bytes_by_hand_say(rt: HostRuntime) {
+    let mut page = PageBuf::zero();
+    clear_leaf(&mut page);
+    let Some(empty) = letters(0) else {
+        assert!(rt; false);
+        return;
+    };
+    let Some(pair) = Value::from_bytes(b"ab") else {
+        assert!(rt; false);
+        return;
+    };
+    assert!(rt; put(&mut page, 0, &empty));
+    assert!(rt; put(&mut page, u64::MAX, &pair));
+    assert!(rt; page.bytes() == leaf_by_hand().bytes());
+    assert!(rt; has_row(&page, 0, 0, b""));
+    assert!(rt; has_row(&page, 1, u64::MAX, b"ab"));
+    assert!(rt; !set_first(&mut page, &pair));
+    assert!(rt; remove(&mut page, 0));
+    assert!(rt; set_first(&mut page, &pair));
+    assert_eq!(rt; page_word(&page, 24), 4078);
+}
+
+#[test]
+fn a_full_heap_is_packed(rt: HostRuntime) {
+    let mut page = PageBuf::zero();
+    clear_leaf(&mut page);
+    let Some(value) = letters(480) else {
+        assert!(rt; false);
+        return;
+    };
+    for key in 1..9 {
+        assert!(rt; put(&mut page, key, &value));
+    }
+    assert!(rt; remove(&mut page, 1));
+    assert!(rt; remove(&mut page, 8));
+    assert_eq!(rt; page_word(&page, 24), 4096 - 8 * 488);
+    assert!(rt; put(&mut page, 1, &value));
+    assert_eq!(rt; rows_in(&page), 7);
+    assert_eq!(rt; page_word(&page, 24), 4096 - 7 * 488);
+    assert_eq!(rt; page_half(&page, 64), 4096 - 7 * 488);
+    assert_eq!(rt; page_half(&page, 68), 4096 - 488);
+    assert_eq!(rt; page_half(&page, 88), 4096 - 6 * 488);
+}
+
+/// An inner page of so many children at level 1: page `i + 1` from key `first + 10 * i` on.
+fn fork_of(count: usize, first: u64) -> PageBuf
+    requires count { count ≤ 240 }
+    requires first { first ≤ 1000000 }
+{
+    let mut page = PageBuf::zero();
+    set_page_word(&mut page, 0, 2);
+    set_page_word(&mut page, 8, count as u64);
+    set_page_word(&mut page, 16, 1);
+    for i in 0..count {
+        set_page_word(&mut page, 64 + 16 * i, first + 10 * i as u64);
+        set_page_word(&mut page, 72 + 16 * i, i as u64 + 1);
+    }
+    page
+}
+
+/// Whether a page is an inner page that is well formed in itself.
+fn is_fork(page: &PageBuf) -> bool
+    ensures { result ≡ true → IsBranch page.now }
+{
+    let expect = Expect {
+        level: 1,
+        low: page_word(page, 64),
+        high: u64::MAX,
+        root: true,
+        pages: u64::MAX,
+    };
+    match well_formed(page, &expect) {
+        Ok(()) => true,
+        Err(_) => false,
+    }
+}
+
+/// Whether a key is above those of all children.
+fn is_above(page: &PageBuf, key: u64) -> bool
+    requires { IsBranch page.now }
+    ensures { (child : ℕ) → result ≡ true → Ascends 0 last_key (first_keys (insert (children_of page.now) (length (children_of page.now)) (key, child))) }
+{
+    let count = children(page);
+    if count == 0 {
+        return false;
+    }
+    child_key(page, count - 1) < key
+}
+
+/// Puts a child behind the others. False where the page is none of children, is full, or the key is not above the others.
+fn add_child(page: &mut PageBuf, key: u64, child: u64) -> bool {
+    if !is_fork(page) {
+        return false;
+    }
+    let count = children(page);
+    if count >= 240 {
+        return false;
+    }
+    if !is_above(page, key) {
+        return false;
+    }
+    inner_insert(page, count, key, child);
+    true
+}
+
+/// Cuts an inner page with a child put behind the others.
+fn cut_fork(left: &mut PageBuf, right: &mut PageBuf, key: u64, child: u64) -> bool {
+    if !is_fork(left) {
+        return false;
+    }
+    let count = children(left);
+    if !is_above(left, key) {
+        return false;
+    }
+    inner_cut(left, right, count, key, child);
+    true
+}
+
+/// Whether the children of one page all begin below those of another.
+fn begins_before(left: &PageBuf, right: &PageBuf) -> bool
+    requires left { IsBranch left.now }
+    requires right { IsBranch right.now }
+    ensures { result ≡ true → Ascends 0 last_key (first_keys (children_of left.now ++ children_of right.now)) }
+{
+    let count = children(left);
+    let more = children(right);
+    if count == 0 || more == 0 {
+        return false;
+    }
+    child_key(left, count - 1) < child_key(right, 0)
+}
+
+/// Joins two inner pages. `None` where one is none, or they are not in order.
+fn join_forks(left: &mut PageBuf, right: &mut PageBuf) -> Option<bool> {
+    if !is_fork(left) {
+        return None;
+    }
+    if !is_fork(right) {
+        return None;
+    }
+    if children(right) == 0 || !begins_before(left, right) {
+        return None;
+    }
+    let key = child_key(right, 0);
+    Some(inner_join(left, right, key))
+}
+
+/// Takes out the first child. False where the page is no inner page.
+fn remove_first(page: &mut PageBuf) -> bool {
+    if !is_fork(page) {
+        return false;
+    }
+    if children(page) == 0 {
+        return false;
+    }
+    inner_remove(page, 0);
+    true
+}
+
+/// The number of children, and the key and the page of the last one; zeros for a page that is no inner page.
+fn last_child(page: &PageBuf) -> (usize, u64, u64) {
+    if !is_fork(page) {
+        return (0, 0, 0);
+    }
+    let count = children(page);
+    if count == 0 {
+        return (0, 0, 0);
+    }
+    (count, child_key(page, count - 1), child(page, count - 1))
+}
+
+#[test]
+fn children_of_241_are_cut_into_121_and_120(rt: HostRuntime) {
+    let mut left = fork_of(239, 0);
+    let mut right = PageBuf::zero();
+    assert!(rt; add_child(&mut left, 5000, 7));
+    assert!(rt; !add_child(&mut left, 6000, 8));
+    assert_eq!(rt; last_child(&left), (240, 5000, 7));
+    assert!(rt; cut_fork(&mut left, &mut right, 6000, 8));
+    assert_eq!(rt; last_child(&left), (121, 1200, 121));
+    assert_eq!(rt; last_child(&right), (120, 6000, 8));
+    assert_eq!(rt; page_word(&right, 16), 1);
+    assert_eq!(rt; page_word(&right, 64), 1210);
+    assert_eq!(rt; join_forks(&mut left, &mut right), Some(false));
+    assert_eq!(rt; last_child(&left), (121, 1200, 121));
+    assert!(rt; remove_first(&mut right));
+    assert_eq!(rt; join_forks(&mut left, &mut right), Some(true));
+    assert_eq!(rt; last_child(&left), (240, 6000, 8));
+    assert!(rt; join_forks(&mut left, &mut right).is_none());
+}
+
+/// Why a test ended early.
+#[derive(Debug, Drop)]
+enum Early {
+    Memory,
+    Stopped(Stop),
+}
+
+impl From<NoMemory> for Early {
+    ghost from_gives = { λ error made. made ≡ Memory };
+
+    ghost use Rattle.std.specs.Prelude.{◌≡◌};
+    ghost use Rattle.slotted_page.specs.declared.tests.Early.TheVariants.{Memory};
+
+    fn from(_error: NoMemory) -> Early {
+        Early::Memory
+    }
+}
+
+impl From<Stop> for Early {
+    ghost from_gives = { λ error made. made ≡ Stopped error };
+
+    ghost use Rattle.std.specs.Prelude.{◌≡◌};
+    ghost use Rattle.slotted_page.specs.declared.tests.Early.TheVariants.{Stopped};
+
+    fn from(error: Stop) -> Early {
+        Early::Stopped(error)
+    }
+}
+
+/// Writes a page into a store.
+fn store<P: Pages>(pages: &mut P, page: u64, from: &PageBuf) -> Result<(), Stop>
+    requires ready { P.is_ready pages.old }
+    requires page { page < (P.standing pages.old).count }
+    requires room { 64 ≤ (P.standing pages.old).room }
+    ensures count { (P.standing pages.new).count ≡ (P.standing pages.old).count }
+    ensures room { OnOk result ((P.standing pages.new).room + 64 ≡ (P.standing pages.old).room) }
+    ensures ready { OnOk result (P.is_ready pages.new) }
+{
+    for line in 0..64 {
+        let value = page_line(from, line);
+        pages.write_line(page, line, &value)?;
+    }
+    Ok(())
+}
+
+#[test]
+fn keys_are_found_through_lines(rt: HostRuntime) -> Result<(), Early> {
+    let mut pages = VecPages::new(rt.alloc(), 10, 192)?;
+    let mut work = Work::new();
+    let leaf = Expect {
+        level: 0,
+        low: 0,
+        high: u64::MAX,
+        root: true,
+        pages: 10,
+    };
+    let inner = Expect {
+        level: 1,
+        low: 0,
+        high: u64::MAX,
+        root: true,
+        pages: 10,
+    };
+    store(&mut pages, 1, &leaf_by_hand())?;
+    store(&mut pages, 2, &fork_by_hand())?;
+    assert_eq!(rt; find(&mut pages, 1, &leaf, 0, &mut work)?, Spot::Row(0));
+    assert_eq!(rt; find(&mut pages, 1, &leaf, 5, &mut work)?, Spot::Gap(1));
+    assert_eq!(rt;
+        find(&mut pages, 1, &leaf, u64::MAX, &mut work)?,
+        Spot::Row(1)
+    );
+    assert_eq!(rt;
+        find(&mut pages, 2, &inner, 49, &mut work)?,
+        Spot::Child(0, 7, 0, 49)
+    );
+    assert_eq!(rt;
+        find(&mut pages, 2, &inner, 50, &mut work)?,
+        Spot::Child(1, 9, 50, u64::MAX)
+    );
+    read_page(&mut pages, 2, &inner, &mut work)?;
+    assert!(rt; work.page().bytes() == fork_by_hand().bytes());
+    Ok(())
+}
+
+/// The check that a search finds to fail, in a store whose page 1 is this one.
+fn damage<P: Pages>(pages: &mut P, work: &mut Work) -> Option<Evidence>
+    requires ready { P.is_ready pages.old }
+    requires count { (P.standing pages.old).count ≡ 10 }
+{
+    let leaf = Expect {
+        level: 0,
+        low: 0,
+        high: u64::MAX,
+        root: true,
+        pages: 10,
+    };
+    match find(pages, 1, &leaf, 7, work) {
+        Err(Stop::Damaged(evidence)) => Some(evidence),
+        _ => None,
+    }
+}
+
+#[test]
+fn damage_is_shown_by_the_first_check_that_fails(rt: HostRuntime) -> Result<(), Early> {
+    let mut pages = VecPages::new(rt.alloc(), 10, 192)?;
+    let mut work = Work::new();
+    let mut page = leaf_by_hand();
+    set_page_half(&mut page, 68, 4095);
+    store(&mut pages, 1, &page)?;
+    let shown = Evidence::Page {
+        page: 1,
+        level: 0,
+        low: 0,
+        high: u64::MAX,
+        check: 14,
+    };
+    assert_eq!(rt; damage(&mut pages, &mut work), Some(shown));
+    assert!(rt; work.page().bytes() == page.bytes());
+    Ok(())
+}
