@@ -12,3 +12,6 @@ pub mod RecordLaws
 pub mod WrittenLaws
 pub mod Editing
 pub mod Storing
+pub mod KeyPlaceLaws
+pub mod LeafLaws
+pub mod ChildEdits

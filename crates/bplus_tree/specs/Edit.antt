@@ -245,3 +245,10 @@ has_row key rows = is_first key (drop (place_of key rows) rows)
 abbrev pub child_place : ℕ → List Child → ℕ
 child_place key [] = 0
 child_place key (child ∷ rest) = if nat_lt child.0 key then suc (child_place key rest) else 0
+
+abbrev pub is_child_first : ℕ → List Child → Bool
+is_child_first key [] = false
+is_child_first key (child ∷ rest) = child.0 == key
+
+abbrev pub has_child : ℕ → List Child → Bool
+has_child key cs = is_child_first key (drop (child_place key cs) cs)
