@@ -1,11 +1,12 @@
 -- What the calls that change a tree do to the pages under a page.
-use Rattle.std.specs.Prelude.{◌≡◌, ◌≢◌, ℕ, suc, ◌+◌, ◌-◌, ◌*◌, ◌<◌, ◌≤◌, ◌⊎◌, Bool, true, false, List, [], ◌∷◌, ◌++◌, Option, Some, None, drop, nat_lt, ◌==◌, if◌then◌else◌, flat_map}
+use Rattle.std.specs.Prelude.{◌≡◌, ◌≢◌, ℕ, suc, ◌+◌, ◌-◌, ◌*◌, ◌<◌, ◌≤◌, ◌⊎◌, Bool, true, false, List, [], ◌∷◌, ◌++◌, Option, Some, None, drop, nat_lt, ◌==◌, if◌then◌else◌, flat_map, length, nat_le, ◌||◌}
+use Rattle.std.specs.List.{list_all}
 use Rattle.line_pages.specs.Lines.{Lines}
 use Rattle.line_pages.specs.Bytes.{bytes_of}
 use Rattle.slotted_page.specs.declared.root.Expect.{Expect}
-use Rattle.slotted_page.specs.Rows.{Row, Each, last_key}
+use Rattle.slotted_page.specs.Rows.{Row, Each, Ascends, last_key}
 use Rattle.slotted_page.specs.Spans.{Span, reach, spans}
-use Rattle.slotted_page.specs.Node.{Child, children, leaf_rows, entry_count, IsWellFormed}
+use Rattle.slotted_page.specs.Node.{Child, children, begins_at, first_keys, is_page_below, leaf_rows, entry_count, IsWellFormed}
 use Rattle.bplus_tree.specs.declared.root.Root.{Root}
 use Rattle.bplus_tree.specs.declared.outcome.Fit.{Fit}
 use Rattle.bplus_tree.specs.declared.outcome.Fit.TheVariants as fits
@@ -252,3 +253,11 @@ is_child_first key (child ∷ rest) = child.0 == key
 
 abbrev pub has_child : ℕ → List Child → Bool
 has_child key cs = is_child_first key (drop (child_place key cs) cs)
+
+-- what the children of a page of a tree are
+pub record AreChildren (expect : Expect) (cs : List Child) : Type 0 where
+  pub begins : begins_at expect.low cs ≡ true
+  pub order : Ascends expect.low expect.high (first_keys cs)
+  pub below : list_all (is_page_below expect.pages) cs ≡ true
+  pub full : (expect.root || nat_le 80 (length cs)) ≡ true
+  pub some : 2 ≤ length cs
