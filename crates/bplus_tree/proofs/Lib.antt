@@ -15,3 +15,4 @@ pub mod Storing
 pub mod KeyPlaceLaws
 pub mod LeafLaws
 pub mod ChildEdits
+pub mod PairLaws

@@ -19,7 +19,7 @@ use slotted_page::{
 use ssd_model::PageBuf;
 
 /// What an inner page of a tree is in itself.
-fn enter(page: &PageBuf, expect: &Expect) -> usize
+pub fn enter(page: &PageBuf, expect: &Expect) -> usize
     requires level { 1 ≤ expect.now.level }
     requires well { IsWellFormed page.now expect.now }
     ensures count { result ≡ length (children_of page.now) }
@@ -36,7 +36,7 @@ fn enter(page: &PageBuf, expect: &Expect) -> usize
 }
 
 /// The first child whose key is not below a key, or the number of children.
-fn child_at(page: &PageBuf, key: u64) -> usize
+pub fn child_at(page: &PageBuf, key: u64) -> usize
     requires { IsBranch page.now }
     ensures place { result ≡ child_place key (children_of page.now) }
     ensures within { result ≤ length (children_of page.now) }
@@ -137,7 +137,7 @@ fn inner_fit(page: &PageBuf, expect: &Expect) -> Fit
 }
 
 /// Takes the right one of two neighbours out of the page above, after a join in which it was emptied.
-fn mend_joined(page: &mut PageBuf, expect: &Expect, pair: &Pair) -> Fit
+pub fn mend_joined(page: &mut PageBuf, expect: &Expect, pair: &Pair) -> Fit
     requires level { 1 ≤ expect.now.level }
     requires well { IsWellFormed page.old expect.now }
     requires some { 3 ≤ entry_count page.old }
@@ -156,7 +156,7 @@ fn mend_joined(page: &mut PageBuf, expect: &Expect, pair: &Pair) -> Fit
 }
 
 /// Puts the right one of two neighbours at another key in the page above, after their entries were divided anew.
-fn mend_divided(page: &mut PageBuf, expect: &Expect, pair: &Pair, key: u64) -> Fit
+pub fn mend_divided(page: &mut PageBuf, expect: &Expect, pair: &Pair, key: u64) -> Fit
     requires level { 1 ≤ expect.now.level }
     requires well { IsWellFormed page.old expect.now }
     requires cut { IsCutIn pair.now (Some key) }

@@ -5,6 +5,7 @@ mod inner_edit;
 mod leaf_edit;
 mod lookup;
 mod outcome;
+mod pair;
 mod root;
 mod row;
 mod space;
