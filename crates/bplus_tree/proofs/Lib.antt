@@ -16,3 +16,4 @@ pub mod KeyPlaceLaws
 pub mod LeafLaws
 pub mod ChildEdits
 pub mod PairLaws
+pub mod MergeLaws

@@ -6,6 +6,7 @@ use Rattle.line_pages.specs.Bytes.{bytes_of}
 use Rattle.slotted_page.specs.declared.root.Expect.{Expect}
 use Rattle.slotted_page.specs.Rows.{Row, Each, Ascends, last_key}
 use Rattle.slotted_page.specs.Spans.{Span, reach, spans}
+use Rattle.slotted_page.specs.Sound.{row_bytes}
 use Rattle.slotted_page.specs.Node.{Child, children, begins_at, first_keys, is_page_below, leaf_rows, entry_count, IsWellFormed}
 use Rattle.bplus_tree.specs.declared.root.Root.{Root}
 use Rattle.bplus_tree.specs.declared.outcome.Fit.{Fit}
@@ -261,3 +262,26 @@ pub record AreChildren (expect : Expect) (cs : List Child) : Type 0 where
   pub below : list_all (is_page_below expect.pages) cs ≡ true
   pub full : (expect.root || nat_le 80 (length cs)) ≡ true
   pub some : 2 ≤ length cs
+
+-- what is expected of the left and the right one of two neighbours, either of which may be below the floor, and of a page
+-- with the entries of both
+abbrev pub left_of : ℕ → ℕ → Pair → Expect
+left_of count level pair = record { level = level; low = pair.low; high = pair.middle - 1; root = true; pages = count }
+
+abbrev pub right_of : ℕ → ℕ → Pair → Expect
+right_of count level pair = record { level = level; low = pair.middle; high = pair.high; root = true; pages = count }
+
+abbrev pub whole_of : ℕ → ℕ → Pair → Expect
+whole_of count level pair = record { level = level; low = pair.low; high = pair.high; root = false; pages = count }
+
+-- the bytes of two neighbours after a join: all entries in the left one, or in both
+abbrev pub Merges : {X : Type 0} → (List ℕ → List X) → Expect → List ℕ → List ℕ → List X → Option ℕ → Type 0
+Merges entries expect left right all None = Holds entries expect left all
+Merges entries expect left right all (Some key) = Divides entries expect left right all key
+
+-- a page that has as much as it has to
+abbrev pub IsEnoughLeaf : List ℕ → Type 0
+IsEnoughLeaf bytes = 1344 ≤ row_bytes (leaf_rows bytes)
+
+abbrev pub IsEnoughInner : List ℕ → Type 0
+IsEnoughInner bytes = 80 ≤ length (children bytes)

@@ -17,7 +17,7 @@ use slotted_page::{
 use ssd_model::PageBuf;
 
 /// What a leaf is in itself.
-fn open_leaf(page: &PageBuf) -> usize
+pub fn open_leaf(page: &PageBuf) -> usize
     requires { IsLeaf page.now }
     ensures count { result ≡ length (rows_of page.now) }
     ensures entries { result ≡ entry_count page.now }
@@ -38,7 +38,7 @@ pub fn top_of(expect: &Expect) -> u64
 }
 
 /// What a leaf of a tree is in itself.
-fn enter(page: &PageBuf, expect: &Expect)
+pub fn enter(page: &PageBuf, expect: &Expect)
     requires level { expect.now.level ≡ 0 }
     requires well { IsWellFormed page.now expect.now }
     ensures leaf { IsLeaf page.now }

@@ -4,6 +4,7 @@
 mod inner_edit;
 mod leaf_edit;
 mod lookup;
+mod merge;
 mod outcome;
 mod pair;
 mod root;
