@@ -17,3 +17,4 @@ pub mod LeafLaws
 pub mod ChildEdits
 pub mod PairLaws
 pub mod MergeLaws
+pub mod TreeDamageLaws

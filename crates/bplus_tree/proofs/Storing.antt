@@ -40,24 +40,24 @@ stored_short count old new page left right wrote free is part within =
     let w = Moves-write count old new page left free wrote is part within in
     record { rest = free; moves = w.moves; entries = w.entries; shows = wrote.bytes_are }
 
-pub store_cut : (count : ℕ) (old a b new : Lines) (page key more : ℕ) (left right : List ℕ) → Takes count old a more → Rewrites page left a b → Rewrites more right b new
+pub stored_cut : (count : ℕ) (old a b new : Lines) (page key more : ℕ) (left right : List ℕ) → Rewrites page left old a → Takes count a b more → Rewrites more right b new
     → Stores count old new page (Cut key more) left right
-store_cut count old a b new page key more left right takes first second free is part within =
-    let t = takes free is in
+stored_cut count old a b new page key more left right first takes second free is part within =
+    let w1 = Moves-write count old a page left free first is part within in
+    let part1 : ArePart a (page ∷ free) = λ n. omega (arith, part_after part w1.moves n) in
+    let t = takes free w1.moves.is_free in
     let m1 = Moves-widen (page ∷ []) (page ∷ more ∷ []) t.moves (λ n. omega arith) (λ n. omega arith) in
-    let part1 : ArePart a ((page ∷ more ∷ []) ++ t.rest) = part_after part m1 in
-    let w1 = Moves-write count a b page left t.rest first t.moves.is_free (λ n. omega (arith, part1 n)) t.moves.within in
-    let m2 = Moves-widen (page ∷ more ∷ []) (page ∷ more ∷ []) w1.moves (λ n. omega arith) (λ n. omega arith) in
-    let part2 : ArePart b ((page ∷ more ∷ []) ++ t.rest) = part_after part1 m2 in
-    let w2 = Moves-write count b new more right t.rest second w1.moves.is_free (λ n. omega (arith, part2 n)) w1.moves.within in
-    let m3 = Moves-widen (page ∷ more ∷ []) (page ∷ more ∷ []) w2.moves (λ n. omega arith) (λ n. omega arith) in
-    let mine = in_part a (page ∷ more ∷ t.rest) page part1 (rw (eq-eqb page page refl) (omega arith)) in
+    let part2 : ArePart b ((page ∷ more ∷ []) ++ t.rest) = part_after part1 m1 in
+    let w2 = Moves-write count b new more right t.rest second t.moves.is_free (λ n. omega (arith, part2 n)) t.moves.within in
+    let m2 = Moves-widen (page ∷ more ∷ []) (page ∷ more ∷ []) w2.moves (λ n. omega arith) (λ n. omega arith) in
+    let mine = in_part b (page ∷ more ∷ t.rest) page part2 (rw (eq-eqb page page refl) (omega arith)) in
     let apart : page ≢ more = λ e. let own = rw (eq-eqb page page refl, eq-eqb more page (sym e)) at mine.2 in omega (arith, own) in
+    let same : SameOn (page ∷ []) a b = same_beside (page ∷ []) (page ∷ []) part1 t.moves (λ n. omega arith) in
     record {
       rest = t.rest;
-      moves = Moves-trans m1 (Moves-trans m2 m3);
-      entries = λ l ne. w2.entries l ne ∙ w1.entries l ne ∙ t.entries l ne;
-      shows = (ap (λ p. page_bytes p) (second.others page apart) ∙ first.bytes_are, second.bytes_are);
+      moves = Moves-trans w1.moves (Moves-trans m1 m2);
+      entries = λ l ne. w2.entries l ne ∙ t.entries l ne ∙ w1.entries l ne;
+      shows = (ap (λ p. page_bytes p) (second.others page apart ∙ SameOn-first page [] a b same) ∙ first.bytes_are, second.bytes_are);
     }
 
 leaf_became : (e : Expect) (old new : Lines) (page : ℕ) (left right : List ℕ) (rows' : List Row) (fit : Fit) (outcome : Outcome) (free : List ℕ) → Fits leaf_rows (at_level e 0) left right rows' fit

@@ -183,14 +183,18 @@ Shows lines page Short left right = bytes_of lines page ≡ left
 Shows lines page (Cut key more) left right = (bytes_of lines page ≡ left) × (bytes_of lines more ≡ right)
 Shows lines page (Alone child) left right = ⊥
 
+-- a cut at a key
+abbrev pub IsCutAt : ℕ → ℕ → Outcome → Type 0
+IsCutAt count at Whole = ⊥
+IsCutAt count at Short = ⊥
+IsCutAt count at (Cut key right) = (key ≡ at) × (1 ≤ right) × (right < count)
+IsCutAt count at (Alone child) = ⊥
+
 -- the outcome that the bytes of a page lead to
 abbrev pub IsOutcome : ℕ → Fit → Outcome → Type 0
 IsOutcome count fits.Whole outcome = outcome ≡ Whole
 IsOutcome count fits.Short outcome = outcome ≡ Short
-IsOutcome count (fits.Cut at) Whole = ⊥
-IsOutcome count (fits.Cut at) Short = ⊥
-IsOutcome count (fits.Cut at) (Cut key right) = (key ≡ at) × (1 ≤ right) × (right < count)
-IsOutcome count (fits.Cut at) (Alone child) = ⊥
+IsOutcome count (fits.Cut at) outcome = IsCutAt count at outcome
 
 -- the bytes of a page, and those of a further page where it was cut, stand in the store
 pub record Stored (count : ℕ) (old new : Lines) (page : ℕ) (outcome : Outcome) (left right free : List ℕ) : Type 0 where
@@ -285,3 +289,16 @@ IsEnoughLeaf bytes = 1344 ≤ row_bytes (leaf_rows bytes)
 
 abbrev pub IsEnoughInner : List ℕ → Type 0
 IsEnoughInner bytes = 80 ≤ length (children bytes)
+
+-- the lines that are written for a page of which so many changed
+abbrev pub spent : ℕ → Fit → ℕ
+spent n fits.Whole = n
+spent n fits.Short = n
+spent n (fits.Cut key) = 129
+
+-- the room that is left where the page above has to change too
+abbrev pub IsSpent : ℕ → ℕ → ℕ → Outcome → Type 0
+IsSpent level old new Whole = Unit {0}
+IsSpent level old new Short = old ≤ new + (189 * level + 33)
+IsSpent level old new (Cut key right) = old ≤ new + (129 * level + 129)
+IsSpent level old new (Alone child) = Unit {0}

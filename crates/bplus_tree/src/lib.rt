@@ -1,6 +1,7 @@
 //! Ordered trees of rows over pages, and the pages that they take and give back.
 #![tactic(auto)]
 
+mod access;
 mod inner_edit;
 mod leaf_edit;
 mod lookup;
