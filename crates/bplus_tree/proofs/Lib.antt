@@ -18,3 +18,4 @@ pub mod ChildEdits
 pub mod PairLaws
 pub mod MergeLaws
 pub mod TreeDamageLaws
+pub mod Joined

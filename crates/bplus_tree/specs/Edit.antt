@@ -16,7 +16,8 @@ use Rattle.bplus_tree.specs.declared.outcome.Outcome.TheVariants.{Whole, Short, 
 use Rattle.bplus_tree.specs.declared.outcome.Pair.{Pair}
 use Rattle.bplus_tree.specs.Space.{high_of, IsFreeList}
 use Rattle.bplus_tree.specs.Tree.{IsTree, IsRooted, tree_rows, tree_pages}
-use Rattle.bplus_tree.specs.Moves.{ArePart, Moves, SameEntries, Changes}
+use Rattle.bplus_tree.specs.Moves.{ArePart, Moves, SameEntries, Changes, Gives}
+use Rattle.bplus_tree.specs.Written.{Rewrites}
 
 -- a part of a page, which is no root
 abbrev pub part : Expect → ℕ → ℕ → Expect
@@ -302,3 +303,14 @@ IsSpent level old new Whole = Unit {0}
 IsSpent level old new Short = old ≤ new + (189 * level + 33)
 IsSpent level old new (Cut key right) = old ≤ new + (129 * level + 129)
 IsSpent level old new (Alone child) = Unit {0}
+
+-- two neighbours that were written: the left one with these bytes, and the right one given back, or written too
+pub record WritesJoined (count : ℕ) (old new : Lines) (pair : Pair) (left : List ℕ) : Type 0 where
+  pub between : Lines
+  pub first : Rewrites pair.left left old between
+  pub gives : Gives count between new pair.right
+
+pub record WritesDivided (old new : Lines) (pair : Pair) (left right : List ℕ) : Type 0 where
+  pub between : Lines
+  pub first : Rewrites pair.left left old between
+  pub second : Rewrites pair.right right between new

@@ -3,6 +3,7 @@
 
 mod access;
 mod inner_edit;
+mod joining;
 mod leaf_edit;
 mod lookup;
 mod merge;
