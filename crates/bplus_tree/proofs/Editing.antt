@@ -20,7 +20,7 @@ use Rattle.bplus_tree.specs.Space.{high_of, IsFreeList}
 use Rattle.bplus_tree.specs.Tree.{times, IsTree, IsRooted, Tree, tree_rows, tree_pages, SameOn}
 use Rattle.bplus_tree.specs.Moves.{below, ArePart, Moves, SameEntries, Takes, Gives, ChangesRows}
 use Rattle.bplus_tree.specs.Written.{Rewrites}
-use Rattle.bplus_tree.specs.Edit.{part, loose, Holds, Divides, Fits, child_put, rows_of, pages_of, pages_left, Became, Edits, Turns, both, joined, Joins, IsPairAt, PairsUp, Mended, Mends, own, Shows, IsOutcome, Stored, Stores, Added, AddsChild, IsNewRoot, root_left}
+use Rattle.bplus_tree.specs.Edit.{part, loose, Holds, Divides, Fits, child_put, rows_of, pages_of, pages_left, Became, Edits, Turns, both, joined, Joins, IsPairAt, PairsUp, Mended, Mends, own, Shows, IsOutcome, Stored, Stores, Added, AddsChild, IsNewRoot, root_left, after_fit, MendWritten, MendGiven, Rewritten}
 use Rattle.bplus_tree.proofs.TreeLaws.{times-append, SameOn-first, tree_pages-same, tree_rows-same, IsTree-same}
 use Rattle.bplus_tree.proofs.OrderLaws.{IsChildTree, length-children, Each-get}
 use Rattle.bplus_tree.proofs.RowLaws.{row_put-amid, row_delete-amid}
@@ -318,11 +318,6 @@ joins_over count old mid level page high pair cut free g joins is whole bound =
     let t = joins free g.left_loose g.right_loose g.left g.right g.one is (pair_part old level page g.front (both pair) g.back free g.is whole) bound in
     (turn count old mid level page g.front (both pair) (joined pair cut) g.back (rows_of old level (both pair)) free t.rest g.is whole t.moves t.entries t.rows, t.trees)
 
-abbrev pub after_fit : Fit → Outcome
-after_fit fits.Whole = Whole
-after_fit fits.Short = Short
-after_fit (fits.Cut key) = Whole
-
 abbrev pub is_loose : Expect → Fit → Expect
 is_loose e fits.Whole = e
 is_loose e fits.Short = loose e
@@ -372,14 +367,17 @@ mend_written e old mid new level page pair cut fit bytes free g joins holds wrot
     (ap (rows_of new level) kids ∙ stay.rows ∙ b.rows ∙ sym (three_rows old level g.front (both pair) g.back) ∙ ap (rows_of old level) (sym g.is))
 
 pub mends_written : (e : Expect) (old first mid new : Lines) (page key count : ℕ) (pair : Pair) (cut : Option ℕ) (fit : Fit) (buffer bytes : List ℕ) → count ≡ e.pages → first ≡ old → buffer ≡ bytes_of old page
-    → ((k : ℕ) → fit ≢ fits.Cut k) → PairsUp (children buffer) e.high key pair → Joins count first mid (e.level - 1) pair cut → Mended e buffer bytes pair cut fit → Rewrites page bytes mid new
+    → ((k : ℕ) → fit ≢ fits.Cut k) → PairsUp (children buffer) e.high key pair → Joins count first mid (e.level - 1) pair cut → Mended e (bytes_of mid page) bytes pair cut fit → Rewrites page bytes mid new
     → Mends old new page e key (after_fit fit)
 mends_written e old first mid new page key count pair cut fit buffer bytes is_count same are uncut pairs joins mended wrote level is_level free xs ys s at_key was well front own back is whole bound =
     let lower : e.level - 1 ≡ level = omega (arith, is_level) in
     let pairs_old = subst (λ b. PairsUp (children b) e.high key pair) are pairs in
     let g = segment e.pages old level (children (bytes_of old page)) e.high xs ys s pair (pairs_old xs ys s at_key was) was front own back in
     let joins_old = subst (λ l. Joins e.pages old mid l pair cut) lower (subst (λ n. Joins n old mid (e.level - 1) pair cut) is_count (subst (λ lines. Joins count lines mid (e.level - 1) pair cut) same joins)) in
-    let holds = subst (λ b. Mended e b bytes pair cut fit) are mended g.front g.back g.is g.reach_is in
+    let part = subst (λ l. ArePart old ((page ∷ pages_of old level (children (bytes_of old page))) ++ free)) lower whole in
+    let r = joins_over e.pages old mid level page e.high pair cut free g joins_old is part bound in
+    let now : children (bytes_of mid page) ≡ g.front ++ (both pair ++ g.back) = ap (λ p. children (page_bytes p)) r.0.same ∙ g.is in
+    let holds = mended g.front g.back now g.reach_is in
     subst (λ l. Became e.pages old new l page e.low e.high e.root (after_fit fit) (rows_of old level (children (bytes_of old page))) free) (sym is_level)
     (mend_written e old mid new level page pair cut fit bytes free g joins_old
     (subst (λ l. Holds children (is_loose (at_level e l) fit) bytes (g.front ++ (joined pair cut ++ g.back))) is_level (holds_of children e bytes (g.front ++ (joined pair cut ++ g.back)) fit uncut holds)) wrote is
@@ -455,14 +453,25 @@ mend_alone e old mid new level page pair free g joins few well gives is whole bo
     }
 
 pub mends_alone : (e : Expect) (old first mid new : Lines) (page key count : ℕ) (pair : Pair) (buffer : List ℕ) → count ≡ e.pages → first ≡ old → buffer ≡ bytes_of old page
-    → PairsUp (children buffer) e.high key pair → Joins count first mid (e.level - 1) pair None → entry_count buffer < 3 → Gives count mid new page
+    → PairsUp (children buffer) e.high key pair → Joins count first mid (e.level - 1) pair None → entry_count (bytes_of mid page) < 3 → Gives count mid new page
     → Mends old new page e key (Alone pair.left)
 mends_alone e old first mid new page key count pair buffer is_count same are pairs joins few gives level is_level free xs ys s at_key was well front own back is whole bound =
     let lower : e.level - 1 ≡ level = omega (arith, is_level) in
     let pairs_old = subst (λ b. PairsUp (children b) e.high key pair) are pairs in
     let g = segment e.pages old level (children (bytes_of old page)) e.high xs ys s pair (pairs_old xs ys s at_key was) was front own back in
     let joins_old = subst (λ l. Joins e.pages old mid l pair None) lower (subst (λ n. Joins n old mid (e.level - 1) pair None) is_count (subst (λ lines. Joins count lines mid (e.level - 1) pair None) same joins)) in
+    let r = joins_over e.pages old mid level page e.high pair None free g joins_old is whole bound in
     subst (λ l. Became e.pages old new l page e.low e.high e.root (Alone pair.left) (rows_of old level (children (bytes_of old page))) free) (sym is_level)
-    (mend_alone e old mid new level page pair free g joins_old (omega (arith, few, ap entry_count are)) (subst (λ l. IsWellFormed (bytes_of old page) (at_level e l)) is_level well)
+    (mend_alone e old mid new level page pair free g joins_old (omega (arith, few, ap (λ p. entry_count (page_bytes p)) r.0.same)) (subst (λ l. IsWellFormed (bytes_of old page) (at_level e l)) is_level well)
     (subst (λ n. Gives n mid new page) is_count gives) is whole bound)
 
+
+-- the page above after a join
+pub mended_by : (e : Expect) (old first mid new : Lines) (page key count : ℕ) (pair : Pair) (cut : Option ℕ) (outcome : Outcome) (buffer : List ℕ) → count ≡ e.pages → first ≡ old → buffer ≡ bytes_of old page
+    → PairsUp (children buffer) e.high key pair → Joins count first mid (e.level - 1) pair cut → Rewritten count mid new page e pair cut outcome → Mends old new page e key outcome
+mended_by e old first mid new page key count pair cut outcome buffer is_count same are pairs joins (inl w) =
+    subst (λ (o : Outcome). Mends old new page e key o) (sym w.is)
+    (mends_written e old first mid new page key count pair cut w.fit buffer w.bytes is_count same are w.uncut pairs joins w.mended w.wrote)
+mended_by e old first mid new page key count pair cut outcome buffer is_count same are pairs joins (inr w) =
+    subst (λ (o : Outcome). Mends old new page e key o) (sym w.is)
+    (mends_alone e old first mid new page key count pair buffer is_count same are pairs (subst (λ (c : Option ℕ). Joins count first mid (e.level - 1) pair c) w.none joins) w.few w.gives)

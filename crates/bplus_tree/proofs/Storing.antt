@@ -1,5 +1,5 @@
 -- Pages that were written, and the trees over them.
-use Rattle.std.proofs.Common.{◌≡◌, ◌≢◌, ℕ, zero, suc, ◌+◌, ◌-◌, ◌<◌, ◌≤◌, ◌⊎◌, inl, inr, Bool, true, false, List, [], ◌∷◌, ◌++◌, length, Option, Some, None, refl, sym, ap, subst, ◌∙◌, arith, append-nil, append_assoc, nat_lt, nat_eq, flat_map, slice_get}
+use Rattle.std.proofs.Common.{◌≡◌, ◌≢◌, ℕ, zero, suc, ◌+◌, ◌-◌, ◌<◌, ◌≤◌, ◌⊎◌, inl, inr, Bool, true, false, List, [], ◌∷◌, ◌++◌, length, Option, Some, None, Result, Ok, Err, IfOk, refl, sym, ap, subst, ◌∙◌, arith, append-nil, append_assoc, nat_lt, nat_eq, flat_map, slice_get}
 use Rattle.std.proofs.lemmas.Bool.{lt-ltb, le-ltb, eq-eqb, eqb-true, ne_eqb, cases_Bool, cases_lt}
 use Rattle.std.proofs.lemmas.List.Concat.{flat_map-append}
 use Rattle.line_pages.specs.Lines.{Lines}
@@ -20,7 +20,7 @@ use Rattle.bplus_tree.specs.Space.{high_of, IsFreeList}
 use Rattle.bplus_tree.specs.Tree.{times, IsTree, IsRooted, Tree, tree_rows, tree_pages, SameOn}
 use Rattle.bplus_tree.specs.Moves.{below, ArePart, Moves, SameEntries, Takes, Gives, ChangesRows}
 use Rattle.bplus_tree.specs.Written.{Rewrites}
-use Rattle.bplus_tree.specs.Edit.{part, loose, Holds, Divides, Fits, child_put, rows_of, pages_of, pages_left, Became, Edits, Turns, both, joined, Joins, IsPairAt, PairsUp, Mended, Mends, own, Shows, IsOutcome, Stored, Stores, Added, AddsChild, IsNewRoot, root_left}
+use Rattle.bplus_tree.specs.Edit.{part, loose, Holds, Divides, Fits, child_put, rows_of, pages_of, pages_left, Became, Edits, Turns, both, joined, Joins, IsPairAt, PairsUp, Mended, Mends, own, Shows, IsOutcome, Stored, Stores, Added, AddsChild, IsNewRoot, root_left, spent}
 use Rattle.bplus_tree.proofs.TreeLaws.{times-append, SameOn-first, tree_pages-same, tree_rows-same, IsTree-same}
 use Rattle.bplus_tree.proofs.OrderLaws.{IsChildTree, length-children, Each-get}
 use Rattle.bplus_tree.proofs.RowLaws.{row_put-amid, row_delete-amid}
@@ -288,3 +288,22 @@ root_cut count old mid a new root top separator right bytes step some few puts t
         });
       };
     }
+
+-- the room that a page takes
+pub spent_most : (n : ℕ) (fit : Fit) → n ≤ 64 → spent n fit ≤ 129
+spent_most n fits.Whole few = omega (arith, few)
+spent_most n fits.Short few = omega (arith, few)
+spent_most n (fits.Cut key) few = omega arith
+
+pub spent_least : (n m : ℕ) (fit : Fit) → ((k : ℕ) → fit ≢ fits.Cut k) → n ≤ m → spent n fit ≤ m
+spent_least n m fits.Whole uncut few = few
+spent_least n m fits.Short uncut few = few
+spent_least n m (fits.Cut key) uncut few = absurd (uncut key refl)
+
+pub if_ok : {T E : Type 0} {P Q : T → Type 0} (r : Result T E) → ((v : T) → P v → Q v) → IfOk r P → IfOk r Q
+if_ok (Ok v) to h = to v h
+if_ok (Err e) to h = tt
+
+pub if_both : {T E : Type 0} {P R Q : T → Type 0} (r : Result T E) → ((v : T) → P v → R v → Q v) → IfOk r P → IfOk r R → IfOk r Q
+if_both (Ok v) to h k = to v h k
+if_both (Err e) to h k = tt

@@ -314,3 +314,26 @@ pub record WritesDivided (old new : Lines) (pair : Pair) (left right : List ℕ)
   pub between : Lines
   pub first : Rewrites pair.left left old between
   pub second : Rewrites pair.right right between new
+
+abbrev pub after_fit : Fit → Outcome
+after_fit fits.Whole = Whole
+after_fit fits.Short = Short
+after_fit (fits.Cut key) = Whole
+
+-- The page above after a join: written with its children, or given back where one is left.
+pub record MendWritten (old new : Lines) (page : ℕ) (expect : Expect) (pair : Pair) (cut : Option ℕ) (outcome : Outcome) : Type 0 where
+  pub fit : Fit
+  pub bytes : List ℕ
+  pub mended : Mended expect (bytes_of old page) bytes pair cut fit
+  pub wrote : Rewrites page bytes old new
+  pub uncut : (key : ℕ) → fit ≢ fits.Cut key
+  pub is : outcome ≡ after_fit fit
+
+pub record MendGiven (count : ℕ) (old new : Lines) (page : ℕ) (pair : Pair) (cut : Option ℕ) (outcome : Outcome) : Type 0 where
+  pub few : entry_count (bytes_of old page) < 3
+  pub none : cut ≡ None
+  pub gives : Gives count old new page
+  pub is : outcome ≡ Alone pair.left
+
+abbrev pub Rewritten : ℕ → Lines → Lines → ℕ → Expect → Pair → Option ℕ → Outcome → Type 0
+Rewritten count old new page expect pair cut outcome = MendWritten old new page expect pair cut outcome ⊎ MendGiven count old new page pair cut outcome

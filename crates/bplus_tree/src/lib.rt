@@ -2,6 +2,7 @@
 #![tactic(auto)]
 
 mod access;
+mod change;
 mod inner_edit;
 mod joining;
 mod leaf_edit;
@@ -12,6 +13,7 @@ mod pair;
 mod root;
 mod row;
 mod space;
+mod tree;
 mod write;
 
 pub use lookup::get;
