@@ -19,3 +19,4 @@ mod write;
 pub use lookup::get;
 pub use root::Root;
 pub use space::{give_page, take_page};
+pub use tree::{delete, put};
