@@ -1,17 +1,17 @@
 -- Children by the place of a key, and inner pages within bounds.
-use Rattle.std.proofs.Common.{◌≡◌, ◌≢◌, ℕ, zero, suc, Option, Some, None, ◌+◌, ◌-◌, ◌*◌, ◌/◌, ◌<◌, ◌≤◌, inl, inr, Bool, true, false, List, [], ◌∷◌, ◌++◌, length, take, drop, get_or, refl, sym, ap, subst, ◌∙◌, arith, nat_lt, nat_le, nat_eq, take-append-drop, append_assoc, ◌&&◌, ◌||◌, length-append, length-drop}
+use Rattle.std.proofs.Common.{◌≡◌, ℕ, zero, suc, Some, ◌+◌, ◌-◌, ◌<◌, ◌≤◌, inl, inr, Bool, true, false, List, [], ◌∷◌, ◌++◌, length, take, drop, get_or, refl, sym, ap, subst, ◌∙◌, arith, nat_lt, nat_le, nat_eq, take-append-drop, append_assoc, ◌||◌, length-append, length-drop}
 use Rattle.std.specs.List.{insert, remove, list_all}
 use Rattle.std.proofs.lemmas.List.{length-take-le}
 use Rattle.std.proofs.lemmas.Bool.{lt-ltb, le-ltb, le-leb, ltb-true, eqb-true, eq-eqb, ne_eqb, cases_lt, cases_eq, and_parts, and_from, leb-true}
 use Rattle.slotted_page.specs.declared.root.Expect.{Expect}
-use Rattle.slotted_page.specs.Rows.{Ascends, Each, last_key}
+use Rattle.slotted_page.specs.Rows.{Ascends, Each}
 use Rattle.slotted_page.specs.Cut.{children_left}
-use Rattle.slotted_page.specs.Node.{Child, children, first_keys, begins_at, is_page_below, page_level, entry_count, IsWellFormed}
+use Rattle.slotted_page.specs.Node.{Child, children, first_keys, begins_at, is_page_below, page_level, IsWellFormed}
 use Rattle.slotted_page.specs.Inner.{IsBranch}
-use Rattle.slotted_page.proofs.PageFacts.{inner_facts, level_of}
-use Rattle.slotted_page.proofs.BranchLemmas.{branch_from, branch_to}
+use Rattle.slotted_page.proofs.PageFacts.{inner_facts}
+use Rattle.slotted_page.proofs.BranchLemmas.{branch_to}
 use Rattle.slotted_page.proofs.InnerLemmas.{length_children}
-use Rattle.bplus_tree.specs.Edit.{part, Divides, child_put, child_place, is_child_first, has_child, AreChildren, both, joined, Mended, IsPair, IsCutIn, IsPairAt, PairsUp, Fits, Holds, loose}
+use Rattle.bplus_tree.specs.Edit.{part, Divides, child_put, child_place, has_child, AreChildren, both, joined, IsCutIn, Holds}
 use Rattle.bplus_tree.specs.declared.outcome.Pair.{Pair}
 use Rattle.bplus_tree.proofs.Editing.{child_put-behind, child_put-next, keys_below}
 use Rattle.slotted_page.specs.Spans.{reach}
@@ -87,7 +87,6 @@ child_again key page (row ∷ rows) there =
       | inl lt ↦ let rest : has_child key rows ≡ true = rw (lt-ltb row.0 key lt) at there in rw (lt-ltb row.0 key lt) (ap (λ r. row ∷ r) (child_again key page rows rest))
       | inr ge ↦ let same : nat_eq row.0 key ≡ true = rw (le-ltb row.0 key ge) at there in rw (le-ltb row.0 key ge, same) refl
     ]
-
 
 pub child_order : (low high key page : ℕ) (cs : List Child) → low ≤ key → key ≤ high → Ascends low high (first_keys cs) → Ascends low high (first_keys (child_put key page cs))
 child_order low high key page [] from to up = (from, to, tt)

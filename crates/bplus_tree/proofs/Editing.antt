@@ -1,32 +1,31 @@
 -- Trees under a page before and after a call that changes them.
-use Rattle.std.proofs.Common.{◌≡◌, ◌≢◌, ℕ, zero, suc, ◌+◌, ◌-◌, ◌<◌, ◌≤◌, ◌⊎◌, inl, inr, Bool, true, false, List, [], ◌∷◌, ◌++◌, length, Option, Some, None, refl, sym, ap, subst, ◌∙◌, arith, append-nil, append_assoc, nat_lt, nat_eq, flat_map, slice_get}
-use Rattle.std.proofs.lemmas.Bool.{lt-ltb, le-ltb, eq-eqb, eqb-true, ne_eqb, cases_Bool, cases_lt}
+use Rattle.std.proofs.Common.{◌≡◌, ◌≢◌, ℕ, zero, suc, ◌+◌, ◌-◌, ◌<◌, ◌≤◌, ◌⊎◌, inl, inr, Bool, true, false, List, [], ◌∷◌, ◌++◌, length, Option, Some, None, refl, sym, ap, subst, ◌∙◌, arith, append-nil, append_assoc, slice_get}
+use Rattle.std.proofs.lemmas.Bool.{lt-ltb, le-ltb, eqb-true, ne_eqb, cases_Bool, cases_lt}
 use Rattle.std.proofs.lemmas.List.Concat.{flat_map-append}
 use Rattle.line_pages.specs.Lines.{Lines}
 use Rattle.line_pages.specs.Bytes.{bytes_of, page_bytes}
 use Rattle.slotted_page.specs.declared.root.Expect.{Expect}
-use Rattle.slotted_page.specs.Rows.{Row, row_put, row_delete, Each, Ascends, AllBelow, AllAbove, last_key}
+use Rattle.slotted_page.specs.Rows.{Row, row_put, row_delete, Each, Ascends, AllBelow, AllAbove}
 use Rattle.slotted_page.specs.Spans.{Span, reach, spans}
-use Rattle.slotted_page.specs.Node.{Child, leaf_rows, children, first_keys, IsWellFormed, entry_count, begins_at, leaf_checks, inner_checks, first_failing}
+use Rattle.slotted_page.specs.Node.{Child, children, first_keys, IsWellFormed, entry_count, begins_at, leaf_checks, inner_checks, first_failing}
 use Rattle.slotted_page.proofs.FactLemmas.{all_hold}
 use Rattle.slotted_page.proofs.PageFacts.{inner_facts}
-use Rattle.bplus_tree.specs.declared.root.Root.{Root}
 use Rattle.bplus_tree.specs.declared.outcome.Fit.{Fit}
 use Rattle.bplus_tree.specs.declared.outcome.Fit.TheVariants as fits
 use Rattle.bplus_tree.specs.declared.outcome.Outcome.{Outcome}
-use Rattle.bplus_tree.specs.declared.outcome.Outcome.TheVariants.{Whole, Short, Cut, Alone}
+use Rattle.bplus_tree.specs.declared.outcome.Outcome.TheVariants.{Whole, Short, Alone}
 use Rattle.bplus_tree.specs.declared.outcome.Pair.{Pair}
 use Rattle.bplus_tree.specs.Space.{high_of, IsFreeList}
-use Rattle.bplus_tree.specs.Tree.{times, IsTree, IsRooted, Tree, tree_rows, tree_pages, SameOn}
-use Rattle.bplus_tree.specs.Moves.{below, ArePart, Moves, SameEntries, Takes, Gives, ChangesRows}
+use Rattle.bplus_tree.specs.Tree.{times, IsTree, tree_rows, tree_pages, SameOn}
+use Rattle.bplus_tree.specs.Moves.{below, ArePart, Moves, SameEntries, Gives}
 use Rattle.bplus_tree.specs.Written.{Rewrites}
-use Rattle.bplus_tree.specs.Edit.{part, loose, Holds, Divides, Fits, child_put, rows_of, pages_of, pages_left, Became, Edits, Turns, both, joined, Joins, IsPairAt, PairsUp, Mended, Mends, own, Shows, IsOutcome, Stored, Stores, Added, AddsChild, IsNewRoot, root_left, after_fit, MendWritten, MendGiven, Rewritten}
+use Rattle.bplus_tree.specs.Edit.{part, loose, Holds, Fits, child_put, rows_of, pages_of, Became, Edits, both, joined, Joins, IsPairAt, PairsUp, Mended, Mends, own, after_fit, Rewritten}
 use Rattle.bplus_tree.proofs.TreeLaws.{times-append, SameOn-first, tree_pages-same, tree_rows-same, IsTree-same}
 use Rattle.bplus_tree.proofs.OrderLaws.{IsChildTree, length-children, Each-get}
 use Rattle.bplus_tree.proofs.RowLaws.{row_put-amid, row_delete-amid}
 use Rattle.bplus_tree.proofs.FanLaws.{StayUnder, spans-parts, spans-join, stay_under, beside}
 use Rattle.bplus_tree.proofs.MovesLaws.{Moves-trans}
-use Rattle.bplus_tree.proofs.Places.{Moves-widen, Moves-write, in_part, part_after, same_beside}
+use Rattle.bplus_tree.proofs.Places.{Moves-widen, Moves-write, part_after, same_beside}
 
 -- a change of rows that acts in the part alone that the key belongs to
 pub record IsLocal (key : ℕ) (step : List Row → List Row) : Type 0 where
@@ -162,8 +161,15 @@ one_child count old mid level s free rest m =
 pub child_part : (old : Lines) (level page : ℕ) (xs ys : List Child) (s : Child) (free : List ℕ) → children (bytes_of old page) ≡ xs ++ ((s ∷ []) ++ ys)
     → ArePart old (tree_pages old (suc level) page ++ free) → ArePart old (tree_pages old level s.1 ++ free)
 child_part old level page xs ys s free was whole =
-    λ n. omega (arith, whole n, ap (λ all. times n (pages_of old level all)) was, three_pages old level xs (s ∷ []) ys n, times-append n (tree_pages old level s.1) [],
-    times-append n (tree_pages old (suc level) page) free, times-append n (tree_pages old level s.1) free)
+    λ n. omega (
+      arith,
+      whole n,
+      ap (λ all. times n (pages_of old level all)) was,
+      three_pages old level xs (s ∷ []) ys n,
+      times-append n (tree_pages old level s.1) [],
+      times-append n (tree_pages old (suc level) page) free,
+      times-append n (tree_pages old level s.1) free,
+    )
 
 -- the child stays as full as it has to be
 pub edits_kept : (e : Expect) (old mid new : Lines) (page key child low high at : ℕ) (step : List Row → List Row) → IsLocal key step → 1 ≤ e.level → mid ≡ old
@@ -445,7 +451,7 @@ mend_alone e old mid new level page pair free g joins few well gives is whole bo
       moves = subst (λ l. Moves e.pages old new (tree_pages old (suc level) page) (tree_pages new l pair.left) free (page ∷ b.rest)) lower moves;
       entries = λ l ne. w.entries l ne ∙ b.entries l ne;
       tree = (
-        elim (cases_Bool e.root) [ | inl t ↦ t | inr f ↦ absurd (omega (arith, facts.full f, few)) ],
+        elim (cases_Bool e.root) [ inl t ↦ t | inr f ↦ absurd (omega (arith, facts.full f, few)) ],
         omega arith,
         subst (λ l. IsTree e.pages new l pair.left e.low e.high true) lower tree,
       );
@@ -464,7 +470,6 @@ mends_alone e old first mid new page key count pair buffer is_count same are pai
     subst (λ l. Became e.pages old new l page e.low e.high e.root (Alone pair.left) (rows_of old level (children (bytes_of old page))) free) (sym is_level)
     (mend_alone e old mid new level page pair free g joins_old (omega (arith, few, ap (λ p. entry_count (page_bytes p)) r.0.same)) (subst (λ l. IsWellFormed (bytes_of old page) (at_level e l)) is_level well)
     (subst (λ n. Gives n mid new page) is_count gives) is whole bound)
-
 
 -- the page above after a join
 pub mended_by : (e : Expect) (old first mid new : Lines) (page key count : ℕ) (pair : Pair) (cut : Option ℕ) (outcome : Outcome) (buffer : List ℕ) → count ≡ e.pages → first ≡ old → buffer ≡ bytes_of old page

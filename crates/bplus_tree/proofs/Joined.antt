@@ -1,24 +1,21 @@
 -- Two neighbours of a tree before and after they were joined.
-use Rattle.std.proofs.Common.{◌≡◌, ◌≢◌, ℕ, zero, suc, ◌+◌, ◌-◌, ◌<◌, ◌≤◌, ◌⊎◌, inl, inr, Bool, true, false, List, [], ◌∷◌, ◌++◌, length, Option, Some, None, refl, sym, ap, subst, ◌∙◌, arith, append-nil, append_assoc, nat_le, ◌||◌, flat_map}
+use Rattle.std.proofs.Common.{◌≡◌, ◌≢◌, ℕ, zero, suc, ◌+◌, ◌-◌, ◌≤◌, ◌⊎◌, inl, inr, Bool, false, List, [], ◌∷◌, ◌++◌, length, Option, Some, None, refl, sym, ap, subst, ◌∙◌, arith, append-nil}
 use Rattle.std.proofs.lemmas.Bool.{eq-eqb}
 use Rattle.std.proofs.lemmas.List.Concat.{flat_map-append}
 use Rattle.line_pages.specs.Lines.{Lines}
 use Rattle.line_pages.specs.Bytes.{bytes_of, page_bytes}
 use Rattle.line_pages.proofs.ByteLaws.{length-page_bytes}
-use Rattle.slotted_page.specs.declared.root.Expect.{Expect}
 use Rattle.slotted_page.specs.Rows.{Row, Each}
-use Rattle.slotted_page.specs.Spans.{Span, reach, spans}
-use Rattle.slotted_page.specs.Sound.{row_bytes}
-use Rattle.slotted_page.specs.Node.{Child, leaf_rows, children, IsWellFormed, entry_count, begins_at}
+use Rattle.slotted_page.specs.Spans.{reach, spans}
+use Rattle.slotted_page.specs.Node.{Child, leaf_rows, children, IsWellFormed}
 use Rattle.slotted_page.proofs.FactLemmas.{leaf_used_is}
 use Rattle.slotted_page.proofs.PageFacts.{leaf_facts, inner_facts}
 use Rattle.slotted_page.proofs.InnerLemmas.{length_children}
 use Rattle.bplus_tree.specs.declared.outcome.Pair.{Pair}
 use Rattle.bplus_tree.specs.Space.{high_of, IsFreeList}
 use Rattle.bplus_tree.specs.Tree.{times, IsTree, tree_rows, tree_pages, SameOn}
-use Rattle.bplus_tree.specs.Moves.{ArePart, Moves, SameEntries, Gives}
-use Rattle.bplus_tree.specs.Written.{Rewrites}
-use Rattle.bplus_tree.specs.Edit.{part, Holds, Divides, rows_of, pages_of, Turns, both, joined, Joins, whole_of, Merges, IsEnoughLeaf, IsEnoughInner, WritesJoined, WritesDivided}
+use Rattle.bplus_tree.specs.Moves.{ArePart, Moves, SameEntries}
+use Rattle.bplus_tree.specs.Edit.{part, rows_of, pages_of, Turns, both, joined, Joins, whole_of, Merges, IsEnoughLeaf, IsEnoughInner, WritesJoined, WritesDivided}
 use Rattle.bplus_tree.proofs.TreeLaws.{times-append, SameOn-first}
 use Rattle.bplus_tree.proofs.OrderLaws.{IsChildTree, length-children}
 use Rattle.bplus_tree.proofs.FanLaws.{spans-parts, spans-join, stay_under}
@@ -99,12 +96,16 @@ one_enough P Q a b f h (inr e) = inr (h e)
 leaf_turns : (count : ℕ) (old new : Lines) (pair : Pair) (cut : Option ℕ) (left right free : List ℕ) → Merges leaf_rows (whole_of count 0 pair) left right (leaf_rows (bytes_of old pair.left) ++ leaf_rows (bytes_of old pair.right)) cut
     → JoinWritten count old new pair cut left right free → Turns count old new 0 (both pair) (joined pair cut) pair.high (rows_of old 0 (both pair)) free
 leaf_turns count old new pair None left right free m w = record {
-  rest = w.rest; moves = w.moves; entries = w.entries;
+  rest = w.rest;
+  moves = w.moves;
+  entries = w.entries;
   trees = (subst (λ b. IsWellFormed b (whole_of count 0 pair)) (sym w.left_is) m.well, tt);
   rows = append-nil (leaf_rows (bytes_of new pair.left)) ∙ ap leaf_rows w.left_is ∙ m.are ∙ ap (λ r. leaf_rows (bytes_of old pair.left) ++ r) (sym (append-nil (leaf_rows (bytes_of old pair.right))));
 }
 leaf_turns count old new pair (Some key) left right free m w = record {
-  rest = w.rest; moves = w.moves; entries = w.entries;
+  rest = w.rest;
+  moves = w.moves;
+  entries = w.entries;
   trees = (
     subst (λ b. IsWellFormed b (part (whole_of count 0 pair) pair.low (key - 1))) (sym w.left_is) m.left_well,
     (subst (λ b. IsWellFormed b (part (whole_of count 0 pair) key pair.high)) (sym w.right_is) m.right_well, tt),
@@ -141,8 +142,16 @@ turned count old new level pair (Some key) left right free cs rows' counted m w 
     record {
       rest = w.rest;
       moves = Moves-widen (pages_of old (suc level) (both pair)) (pages_of new (suc level) (joined pair (Some key))) w.moves
-          (λ n. omega (arith, counted n, times-append n (tree_pages new (suc level) pair.left) (tree_pages new (suc level) pair.right ++ []), times-append n (tree_pages new (suc level) pair.right) [],
-          ap (λ (all : List Child). times n (pages_of new level all)) kids_left, ap (λ (all : List Child). times n (pages_of new level all)) kids_right, ap (times n) pages_are, times-append n (pages_of new level (children left)) (pages_of new level (children right)))) (λ n. omega (arith, counted n));
+          (λ n. omega (
+            arith,
+            counted n,
+            times-append n (tree_pages new (suc level) pair.left) (tree_pages new (suc level) pair.right ++ []),
+            times-append n (tree_pages new (suc level) pair.right) [],
+            ap (λ (all : List Child). times n (pages_of new level all)) kids_left,
+            ap (λ (all : List Child). times n (pages_of new level all)) kids_right,
+            ap (times n) pages_are,
+            times-append n (pages_of new level (children left)) (pages_of new level (children right)),
+          )) (λ n. omega (arith, counted n));
       entries = w.entries;
       trees = (
         tree_of count new level pair.left pair.low (key - 1) false left w.left_is m.left_well (subst (λ h. Each P (spans (children left) h)) bound parts.0),

@@ -1,13 +1,11 @@
 -- Rows and children by the place of a key.
-use Rattle.std.proofs.Common.{◌≡◌, ◌≢◌, ℕ, zero, suc, ◌+◌, ◌*◌, ◌<◌, ◌≤◌, inl, inr, Bool, true, false, List, [], ◌∷◌, ◌++◌, length, take, drop, get_or, refl, sym, ap, subst, ◌∙◌, arith, nat_lt, nat_eq, slice_set}
+use Rattle.std.proofs.Common.{◌≡◌, ℕ, zero, suc, ◌+◌, ◌*◌, ◌<◌, ◌≤◌, inl, inr, true, false, List, [], ◌∷◌, length, get_or, refl, sym, ap, arith, nat_eq, slice_set}
 use Rattle.std.specs.List.{insert, remove}
-use Rattle.std.proofs.lemmas.Bool.{lt-ltb, le-ltb, ltb-true, eqb-true, eq-eqb, ne_eqb, cases_lt, cases_eq}
+use Rattle.std.proofs.lemmas.Bool.{lt-ltb, le-ltb, eqb-true, eq-eqb, ne_eqb, cases_lt, cases_eq}
 use Rattle.slotted_page.specs.Rows.{Row, keys, row_put, row_delete, Ascends}
-use Rattle.slotted_page.specs.Cut.{row_size}
 use Rattle.slotted_page.specs.Sound.{row_bytes}
-use Rattle.slotted_page.specs.Node.{Child, first_keys}
-use Rattle.slotted_page.proofs.RowLemmas.{row_bytes-cons, row_bytes-nil}
-use Rattle.bplus_tree.specs.Edit.{place_of, is_first, has_row, child_put, child_place}
+use Rattle.slotted_page.proofs.RowLemmas.{row_bytes-cons}
+use Rattle.bplus_tree.specs.Edit.{place_of, has_row}
 
 pub place_within : (key : ℕ) (rows : List Row) → place_of key rows ≤ length rows
 place_within key [] = omega arith
@@ -114,7 +112,7 @@ delete_none key low high (row ∷ rows) up none =
           rw (ne_eqb row.0 key (λ e. omega (arith, e, lt))) (ap (λ r. row ∷ r) (delete_none key (row.0 + 1) high rows up.2 rest))
       | inr ge ↦
           let other : nat_eq row.0 key ≡ false = rw (le-ltb row.0 key ge) at none in
-          rw other (ap (λ r. row ∷ r) (above_all key (row.0 + 1) high rows (elim (cases_eq row.0 key) [ | inl e ↦ let wrong = eq-eqb row.0 key e in absurd (cc) | inr ne ↦ omega (arith, ge, ne) ]) up.2))
+          rw other (ap (λ r. row ∷ r) (above_all key (row.0 + 1) high rows (elim (cases_eq row.0 key) [ inl e ↦ let wrong = eq-eqb row.0 key e in absurd (cc) | inr ne ↦ omega (arith, ge, ne) ]) up.2))
     ]
 
 pub rows_few : (rows : List Row) → 12 * length rows ≤ row_bytes rows

@@ -1,13 +1,13 @@
 -- Leaves within bounds, and the lines in which a leaf that fell below the floor can differ.
 use Rattle.std.proofs.Common.{◌≡◌, ◌+◌, ◌-◌, ◌*◌, ◌/◌, ◌<◌, ◌≤◌, ◌⊎◌, inl, inr, ℕ, zero, suc, Bool, true, false, List, [], ◌∷◌, length, take, drop, get_or, slice_set, ◌++◌, take-append-drop, refl, sym, ap, subst, ◌∙◌, arith, nat_le, ◌||◌}
-use Rattle.std.proofs.lemmas.Bool.{le-leb, eq-eqb, cases_lt}
+use Rattle.std.proofs.lemmas.Bool.{le-leb, cases_lt}
 use Rattle.ssd_model.specs.Page.{Same}
 use Rattle.slotted_page.specs.declared.root.Expect.{Expect}
 use Rattle.slotted_page.specs.Rows.{Row, keys, row_put, Ascends, last_key}
 use Rattle.slotted_page.proofs.RowLemmas.{row_bytes-cons, row_bytes-nil}
 use Rattle.bplus_tree.proofs.RowLaws.{Ascends-put}
-use Rattle.slotted_page.specs.Node.{leaf_rows, leaf_checks, bytes_used, slots, entry_count, heap_start, first_failing, any_leaf, IsLeaf, IsWellFormed}
-use Rattle.slotted_page.specs.Sound.{IsSound, IsRows, IsPacked, AddsBelow, row_bytes}
+use Rattle.slotted_page.specs.Node.{leaf_rows, leaf_checks, entry_count, heap_start, first_failing, any_leaf, IsLeaf, IsWellFormed}
+use Rattle.slotted_page.specs.Sound.{IsPacked, AddsBelow, row_bytes}
 use Rattle.slotted_page.proofs.FactLemmas.{AllHold, all_hold, none_fails, ascends-is, sound_of, leaf_used_is, leaf_from}
 use Rattle.slotted_page.proofs.PageFacts.{leaf_facts}
 use Rattle.slotted_page.proofs.SlotLemmas.{length_rows}
@@ -22,8 +22,26 @@ unfolding first_failing
 leaf_to bytes low high pages root size leaf order full =
     let all : AllHold (leaf_checks bytes any_leaf) = all_hold (leaf_checks bytes any_leaf) leaf in
     none_fails (leaf_checks bytes (record { level = 0; low = low; high = high; root = root; pages = pages })) (
-      all.0, (all.1.0, (all.1.1.0, (all.1.1.1.0, (all.1.1.1.1.0, (ascends-is low high (keys (leaf_rows bytes)) order, (all.1.1.1.1.1.1.0,
-        (ap (λ (n : ℕ). root || nat_le 1344 n) (leaf_used_is bytes (sound_of bytes size leaf)) ∙ full, tt))))))),
+      all.0,
+      (
+        all.1.0,
+        (
+          all.1.1.0,
+          (
+            all.1.1.1.0,
+            (
+              all.1.1.1.1.0,
+              (
+                ascends-is low high (keys (leaf_rows bytes)) order,
+                (
+                  all.1.1.1.1.1.1.0,
+                  (ap (λ (n : ℕ). root || nat_le 1344 n) (leaf_used_is bytes (sound_of bytes size leaf)) ∙ full, tt),
+                ),
+              ),
+            ),
+          ),
+        ),
+      ),
     )
 
 both_same : (a b c : ℕ) (one two three : List ℕ) → Same a 4096 one two → Same b c two three → a ≤ b → c ≤ 4096 → Same b c one three

@@ -1,20 +1,19 @@
 -- The entries of two neighbours, one after the other.
-use Rattle.std.proofs.Common.{◌≡◌, ℕ, zero, suc, ◌+◌, ◌-◌, ◌*◌, ◌/◌, ◌<◌, ◌≤◌, ◌⊎◌, inl, inr, Bool, true, false, List, [], ◌∷◌, ◌++◌, length, take, drop, get_or, Option, Some, None, refl, sym, ap, subst, ◌∙◌, arith, nat_le, length-append, length-take}
+use Rattle.std.proofs.Common.{◌≡◌, ℕ, ◌+◌, ◌-◌, ◌<◌, ◌≤◌, ◌⊎◌, inl, inr, Bool, true, List, [], ◌∷◌, ◌++◌, length, get_or, Some, refl, sym, ap, subst, ◌∙◌, arith, length-append}
 use Rattle.std.specs.List.{list_all}
 use Rattle.std.proofs.lemmas.Bool.{le-leb, and_parts, and_from}
 use Rattle.std.proofs.lemmas.List.{map-append}
-use Rattle.slotted_page.specs.declared.root.Expect.{Expect}
-use Rattle.slotted_page.specs.Rows.{Row, keys, key_of, Ascends, last_key}
+use Rattle.slotted_page.specs.Rows.{Row, keys, key_of, Ascends}
 use Rattle.slotted_page.specs.Cut.{rows_left, children_left}
-use Rattle.slotted_page.specs.Node.{Child, leaf_rows, children, first_keys, begins_at, is_page_below, page_level, IsLeaf, IsWellFormed}
-use Rattle.slotted_page.specs.Inner.{IsBranch, IsJoinedBranch, IsDividedBranch}
+use Rattle.slotted_page.specs.Node.{Child, leaf_rows, children, first_keys, begins_at, is_page_below, page_level, IsLeaf}
+use Rattle.slotted_page.specs.Inner.{IsJoinedBranch, IsDividedBranch}
 use Rattle.slotted_page.specs.Sound.{row_bytes, IsJoined, IsDivided}
 use Rattle.slotted_page.proofs.RowLemmas.{row_bytes-append}
 use Rattle.bplus_tree.specs.declared.outcome.Pair.{Pair}
-use Rattle.bplus_tree.specs.Edit.{part, Holds, Divides, AreChildren, left_of, right_of, whole_of, Merges, IsEnoughLeaf, IsEnoughInner, IsPair, IsCutIn}
+use Rattle.bplus_tree.specs.Edit.{part, Holds, Divides, AreChildren, left_of, right_of, whole_of, IsEnoughLeaf, IsEnoughInner, IsPair, IsCutIn}
 use Rattle.bplus_tree.proofs.RowLaws.{Ascends-append}
-use Rattle.bplus_tree.proofs.LeafLaws.{leaf_within, cut_divides, wide_order, parted, some_rows}
-use Rattle.bplus_tree.proofs.ChildEdits.{inner_within, cut_children_divide, parted_children}
+use Rattle.bplus_tree.proofs.LeafLaws.{leaf_within, cut_divides}
+use Rattle.bplus_tree.proofs.ChildEdits.{inner_within, cut_children_divide}
 
 pub rows_order : (count : ℕ) (pair : Pair) (one two : List Row) → IsPair count pair → Ascends pair.low (pair.middle - 1) (keys one) → Ascends pair.middle pair.high (keys two) → Ascends pair.low pair.high (keys (one ++ two))
 rows_order count pair one two is a b =

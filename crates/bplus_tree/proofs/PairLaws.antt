@@ -12,7 +12,7 @@ use Rattle.line_pages.specs.Bytes.{u64_at}
 use Rattle.slotted_page.proofs.KeyLaws.{Ascends-at, Ascends-last}
 use Rattle.slotted_page.proofs.ChildLaws.{first_key_at}
 use Rattle.bplus_tree.specs.declared.outcome.Pair.{Pair}
-use Rattle.bplus_tree.specs.Edit.{AreChildren, IsPair, IsPairAt, PairsUp, child_place, IsNewRoot}
+use Rattle.bplus_tree.specs.Edit.{AreChildren, IsPair, PairsUp, child_place, IsNewRoot}
 use Rattle.bplus_tree.proofs.ChildEdits.{stands_at, inner_within}
 
 all_get : (p : Child → Bool) (cs : List Child) (i : ℕ) (d : Child) → list_all p cs ≡ true → i < length cs → p (get_or cs i d) ≡ true

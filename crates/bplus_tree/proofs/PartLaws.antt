@@ -1,5 +1,5 @@
 -- Parts of a page that were read to their places in a buffer.
-use Rattle.std.proofs.Common.{◌≡◌, ℕ, ◌+◌, ◌-◌, ◌*◌, ◌<◌, ◌≤◌, inl, inr, Bool, true, false, List, ◌++◌, length, take, drop, get_or, Option, Some, None, refl, sym, ap, ◌∙◌, arith, get_or-append-add, get_or-take, zero-add, cond}
+use Rattle.std.proofs.Common.{◌≡◌, ℕ, ◌+◌, ◌-◌, ◌*◌, ◌<◌, ◌≤◌, inl, inr, false, List, ◌++◌, length, take, drop, get_or, Some, None, sym, ap, ◌∙◌, arith, get_or-append-add, get_or-take, zero-add, cond}
 use Rattle.std.proofs.lemmas.Bool.{cases_lt}
 use Rattle.std.proofs.lemmas.List.{length-take-le, get_or_append_left}
 use Rattle.nvm_model.specs.declared.line.Line.{Line}
@@ -13,7 +13,7 @@ use Rattle.line_pages.specs.Touch.{begins}
 use Rattle.line_pages.specs.Standing.{Standing, ReadsPage}
 use Rattle.line_pages.proofs.TouchLaws.{goes_on}
 use Rattle.line_pages.specs.Bytes.{overwritten, line_bytes, page_bytes, with_line_bytes}
-use Rattle.line_pages.proofs.ByteLaws.{length-line_bytes, length-page_bytes, get_or-pieces}
+use Rattle.line_pages.proofs.ByteLaws.{length-line_bytes, get_or-pieces}
 
 put_in : (xs new : List ℕ) (at j : ℕ) → at ≤ length xs → j < length new → get_or (overwritten xs at new) (at + j) 0 ≡ get_or new j 0
 put_in xs new at j fits within =

@@ -1,16 +1,15 @@
 -- Pages that are written, taken, given back and left alone.
-use Rattle.std.proofs.Common.{◌≡◌, ◌≢◌, ℕ, ◌+◌, ◌<◌, ◌≤◌, inl, inr, List, [], ◌∷◌, ◌++◌, length, Result, Ok, Err, IfOk, OnOk, refl, sym, ap, subst, ◌∙◌, arith, nat_lt, nat_eq}
+use Rattle.std.proofs.Common.{◌≡◌, ◌≢◌, ℕ, ◌+◌, ◌<◌, ◌≤◌, inl, inr, List, [], ◌∷◌, ◌++◌, length, Result, Ok, Err, IfOk, OnOk, refl, sym, ap, subst, ◌∙◌, arith}
 use Rattle.std.proofs.lemmas.Bool.{lt-ltb, le-ltb, eq-eqb, ne_eqb, cases_lt, cases_eq}
 use Rattle.std.proofs.lemmas.List.{get_or-set_other, get_or-set_same}
 use Rattle.line_pages.specs.Lines.{Lines}
-use Rattle.line_pages.specs.Bytes.{bytes_of}
 use Rattle.bplus_tree.specs.Space.{word, with_word, next_of, high_of, free_head, IsFreeFrom, IsFreeList, FitsHeader, header_after_take, page_taken, after_take, after_give}
 use Rattle.bplus_tree.specs.Tree.{times, SameOn}
 use Rattle.bplus_tree.specs.Moves.{below, ArePart, Moves, SameEntries, Taken, Takes, Given, Gives}
 use Rattle.bplus_tree.specs.Written.{Rewrites}
 use Rattle.bplus_tree.proofs.TreeLaws.{times-append}
 use Rattle.bplus_tree.proofs.SpaceLaws.{free_from-same, take_page-effect}
-use Rattle.bplus_tree.proofs.MovesLaws.{Moves-trans, take_moves, give_moves}
+use Rattle.bplus_tree.proofs.MovesLaws.{take_moves, give_moves}
 
 -- the same step, seen by a tree with more pages
 pub Moves-widen : {count : ℕ} {a b : Lines} {used used' free free' : List ℕ} (wide wide' : List ℕ) → Moves count a b used used' free free'
@@ -71,7 +70,6 @@ Moves-write count old new page bytes free wrote is part within =
       };
       entries = λ l ne. ap (λ p. p l) first;
     }
-
 
 -- a page taken, and a page given back, by the pages that pass between a tree and the free list
 high_after : (count : ℕ) (lines : Lines) → length (lines 0 0).words ≡ 8 → high_of lines ≤ count → (free_head lines ≡ 0 → high_of lines ≢ count) → (high_of lines ≤ high_of (after_take lines)) × (high_of (after_take lines) ≤ count)

@@ -1,11 +1,10 @@
 -- What a row's record gives in a well-formed leaf.
-use Rattle.std.proofs.Common.{◌≡◌, ℕ, zero, suc, ◌+◌, ◌-◌, ◌*◌, ◌<◌, ◌≤◌, Bool, true, false, List, [], ◌∷◌, length, get_or, Option, Some, None, refl, sym, ap, ◌∙◌, arith, slice_get, nat_le, ◌&&◌, cond, drop, length-take}
+use Rattle.std.proofs.Common.{◌≡◌, ℕ, zero, suc, ◌+◌, ◌-◌, ◌<◌, ◌≤◌, Bool, true, List, [], ◌∷◌, length, get_or, Some, None, sym, ap, ◌∙◌, arith, slice_get, nat_le, cond, drop, length-take}
 use Rattle.std.specs.List.{list_all}
-use Rattle.std.specs.Prelude.{slice_range}
 use Rattle.std.proofs.lemmas.Bool.{le-leb, and_parts, and_from}
 use Rattle.slotted_page.specs.declared.root.Expect.{Expect}
 use Rattle.slotted_page.specs.Rows.{Row}
-use Rattle.slotted_page.specs.Node.{Slot, entry_count, heap_start, slots, leaf_rows, row_in, is_in_heap, is_printable, has_printable_value, IsWellFormed}
+use Rattle.slotted_page.specs.Node.{entry_count, heap_start, slots, leaf_rows, row_in, is_in_heap, is_printable, has_printable_value, IsWellFormed}
 use Rattle.slotted_page.specs.Sound.{slot_of, InHeap}
 use Rattle.slotted_page.specs.Value.{is_value, value_of}
 use Rattle.slotted_page.proofs.PageFacts.{leaf_facts}

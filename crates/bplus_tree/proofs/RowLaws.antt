@@ -1,7 +1,7 @@
 -- Ordered lists of rows, and what an operation does to the part of a list that its key belongs to.
-use Rattle.std.proofs.Common.{◌≡◌, ℕ, ◌+◌, ◌<◌, ◌≤◌, inl, inr, true, List, [], ◌∷◌, ◌++◌, Option, Some, None, refl, ap, subst, ◌∙◌, arith, nat_le, ◌&&◌}
-use Rattle.std.proofs.lemmas.Bool.{leb-true, lt-ltb, le-ltb, eq-eqb, ne_eqb, and_parts, cases_lt, cases_eq}
-use Rattle.slotted_page.specs.Rows.{Row, keys, row_get, row_put, row_delete, row_next, Ascends, ascends, Each, AllBelow, AllAbove}
+use Rattle.std.proofs.Common.{◌≡◌, ℕ, ◌+◌, ◌<◌, ◌≤◌, inl, inr, List, [], ◌∷◌, ◌++◌, Option, Some, None, refl, ap, subst, ◌∙◌, arith}
+use Rattle.std.proofs.lemmas.Bool.{lt-ltb, le-ltb, eq-eqb, ne_eqb, cases_lt, cases_eq}
+use Rattle.slotted_page.specs.Rows.{Row, keys, row_get, row_put, row_delete, row_next, Ascends, Each, AllBelow, AllAbove}
 
 pub Ascends-lower : (low next high : ℕ) (ks : List ℕ) → low ≤ next → Ascends next high ks → Ascends low high ks
 Ascends-lower low next high [] h up = tt

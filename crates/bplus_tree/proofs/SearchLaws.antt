@@ -1,6 +1,6 @@
 -- A search goes down one level.
-use Rattle.std.proofs.Common.{◌≡◌, ◌≢◌, ℕ, zero, suc, ◌+◌, ◌-◌, ◌≤◌, inl, inr, Bool, true, false, not, cond, List, [], ◌∷◌, ◌++◌, map, length, take, drop, Option, Some, None, Result, Ok, Err, IfOk, IfErr, OnOk, refl, sym, ap, subst, ◌∙◌, arith, nat_eq, take-append-drop, append_assoc, slice_get}
-use Rattle.std.proofs.lemmas.Bool.{eq-eqb, ne_eqb, cases_eq, and_left}
+use Rattle.std.proofs.Common.{◌≡◌, ◌≢◌, ℕ, zero, suc, ◌+◌, ◌-◌, ◌≤◌, Bool, true, false, not, cond, List, [], ◌∷◌, ◌++◌, map, length, take, drop, Option, Some, None, Result, Ok, Err, IfOk, IfErr, OnOk, refl, sym, ap, subst, ◌∙◌, arith, nat_eq, take-append-drop, slice_get}
+use Rattle.std.proofs.lemmas.Bool.{eq-eqb, ne_eqb, and_left}
 use Rattle.line_pages.specs.declared.stop.Stop.{Stop}
 use Rattle.slotted_page.specs.declared.root.Expect.{Expect}
 use Rattle.slotted_page.specs.declared.lookup.Spot.TheVariants.{Row, Gap, Child}
@@ -151,7 +151,12 @@ pub way_end : {A : Type 0} (expect : Expect) (page key : ℕ) (old new : Standin
 way_end expect page key old new level starts reads =
     let a = page_adds reads starts in
     record {
-      added = a.added; touches = a.touches; visits = a.visits; begun = a.begun; access = a.access; reads = a.reads;
+      added = a.added;
+      touches = a.touches;
+      visits = a.visits;
+      begun = a.begun;
+      access = a.access;
+      reads = a.reads;
       fact = record {
         rest = [];
         begins = a.fact;

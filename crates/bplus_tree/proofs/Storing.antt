@@ -1,34 +1,29 @@
 -- Pages that were written, and the trees over them.
-use Rattle.std.proofs.Common.{◌≡◌, ◌≢◌, ℕ, zero, suc, ◌+◌, ◌-◌, ◌<◌, ◌≤◌, ◌⊎◌, inl, inr, Bool, true, false, List, [], ◌∷◌, ◌++◌, length, Option, Some, None, Result, Ok, Err, IfOk, refl, sym, ap, subst, ◌∙◌, arith, append-nil, append_assoc, nat_lt, nat_eq, flat_map, slice_get}
-use Rattle.std.proofs.lemmas.Bool.{lt-ltb, le-ltb, eq-eqb, eqb-true, ne_eqb, cases_Bool, cases_lt}
+use Rattle.std.proofs.Common.{◌≡◌, ◌≢◌, ℕ, suc, ◌+◌, ◌-◌, ◌<◌, ◌≤◌, Bool, true, false, List, [], ◌∷◌, ◌++◌, Some, Result, Ok, Err, IfOk, OnOk, refl, sym, ap, subst, ◌∙◌, arith, append-nil, slice_get}
+use Rattle.std.proofs.lemmas.Bool.{eq-eqb}
 use Rattle.std.proofs.lemmas.List.Concat.{flat_map-append}
 use Rattle.line_pages.specs.Lines.{Lines}
 use Rattle.line_pages.specs.Bytes.{bytes_of, page_bytes}
 use Rattle.slotted_page.specs.declared.root.Expect.{Expect}
-use Rattle.slotted_page.specs.Rows.{Row, row_put, row_delete, Each, Ascends, AllBelow, AllAbove, last_key}
+use Rattle.slotted_page.specs.Rows.{Row, Each, Ascends, last_key}
 use Rattle.slotted_page.specs.Spans.{Span, reach, spans}
-use Rattle.slotted_page.specs.Node.{Child, leaf_rows, children, first_keys, IsWellFormed, entry_count, begins_at, leaf_checks, inner_checks, first_failing}
-use Rattle.slotted_page.proofs.FactLemmas.{all_hold}
+use Rattle.slotted_page.specs.Node.{Child, leaf_rows, children, first_keys, IsWellFormed}
 use Rattle.slotted_page.proofs.PageFacts.{inner_facts}
 use Rattle.bplus_tree.specs.declared.root.Root.{Root}
 use Rattle.bplus_tree.specs.declared.outcome.Fit.{Fit}
 use Rattle.bplus_tree.specs.declared.outcome.Fit.TheVariants as fits
 use Rattle.bplus_tree.specs.declared.outcome.Outcome.{Outcome}
 use Rattle.bplus_tree.specs.declared.outcome.Outcome.TheVariants.{Whole, Short, Cut, Alone}
-use Rattle.bplus_tree.specs.declared.outcome.Pair.{Pair}
-use Rattle.bplus_tree.specs.Space.{high_of, IsFreeList}
-use Rattle.bplus_tree.specs.Tree.{times, IsTree, IsRooted, Tree, tree_rows, tree_pages, SameOn}
-use Rattle.bplus_tree.specs.Moves.{below, ArePart, Moves, SameEntries, Takes, Gives, ChangesRows}
+use Rattle.bplus_tree.specs.Tree.{times, IsTree, Tree, tree_rows, tree_pages, SameOn}
+use Rattle.bplus_tree.specs.Moves.{ArePart, Moves, Takes, ChangesRows}
 use Rattle.bplus_tree.specs.Written.{Rewrites}
-use Rattle.bplus_tree.specs.Edit.{part, loose, Holds, Divides, Fits, child_put, rows_of, pages_of, pages_left, Became, Edits, Turns, both, joined, Joins, IsPairAt, PairsUp, Mended, Mends, own, Shows, IsOutcome, Stored, Stores, Added, AddsChild, IsNewRoot, root_left, spent}
-use Rattle.bplus_tree.proofs.TreeLaws.{times-append, SameOn-first, tree_pages-same, tree_rows-same, IsTree-same}
+use Rattle.bplus_tree.specs.Edit.{part, loose, Divides, Fits, child_put, rows_of, pages_of, Became, Edits, IsOutcome, Stored, Stores, AddsChild, IsNewRoot, root_left, spent, IsSpent}
+use Rattle.bplus_tree.proofs.TreeLaws.{times-append, SameOn-first}
 use Rattle.bplus_tree.proofs.OrderLaws.{IsChildTree, length-children, Each-get}
-use Rattle.bplus_tree.proofs.RowLaws.{row_put-amid, row_delete-amid}
-use Rattle.bplus_tree.proofs.FanLaws.{StayUnder, spans-parts, spans-join, stay_under, beside}
+use Rattle.bplus_tree.proofs.FanLaws.{spans-parts, spans-join, stay_under, beside}
 use Rattle.bplus_tree.proofs.MovesLaws.{Moves-trans}
 use Rattle.bplus_tree.proofs.Places.{Moves-widen, Moves-write, in_part, part_after, same_beside}
-
-use Rattle.bplus_tree.proofs.Editing.{IsLocal, at_level, tree_of, reach_begins, Located, located, child_put-behind, child_put-next, keys_below, one_above, once_after, Beside, turn, step_at, one_child, child_part, leaf_root, inner_root}
+use Rattle.bplus_tree.proofs.Editing.{IsLocal, at_level, tree_of, reach_begins, located, child_put-behind, child_put-next, keys_below, one_above, once_after, Beside, turn, child_part}
 
 pub stored_whole : (count : ℕ) (old new : Lines) (page : ℕ) (left right : List ℕ) → Rewrites page left old new → Stores count old new page Whole left right
 stored_whole count old new page left right wrote free is part within =
@@ -63,7 +58,9 @@ stored_cut count old a b new page key more left right first takes second free is
 leaf_became : (e : Expect) (old new : Lines) (page : ℕ) (left right : List ℕ) (rows' : List Row) (fit : Fit) (outcome : Outcome) (free : List ℕ) → Fits leaf_rows (at_level e 0) left right rows' fit
     → IsOutcome e.pages fit outcome → Stored e.pages old new page outcome left right free → Became e.pages old new 0 page e.low e.high e.root outcome rows' free
 leaf_became e old new page left right rows' fits.Whole Whole free fit is s = record {
-  rest = s.rest; moves = s.moves; entries = s.entries;
+  rest = s.rest;
+  moves = s.moves;
+  entries = s.entries;
   tree = subst (λ b. IsWellFormed b (at_level e 0)) (sym s.shows) fit.well;
   rows = ap leaf_rows s.shows ∙ fit.are;
 }
@@ -72,7 +69,9 @@ leaf_became e old new page left right rows' fits.Whole (Cut key more) free fit i
 leaf_became e old new page left right rows' fits.Whole (Alone child) free fit is s = absurd (cc)
 leaf_became e old new page left right rows' fits.Short Whole free fit is s = absurd (cc)
 leaf_became e old new page left right rows' fits.Short Short free fit is s = record {
-  rest = s.rest; moves = s.moves; entries = s.entries;
+  rest = s.rest;
+  moves = s.moves;
+  entries = s.entries;
   tree = subst (λ b. IsWellFormed b (loose (at_level e 0))) (sym s.shows) fit.well;
   rows = ap leaf_rows s.shows ∙ fit.are;
 }
@@ -83,7 +82,9 @@ leaf_became e old new page left right rows' (fits.Cut at) Short free fit is s = 
 leaf_became e old new page left right rows' (fits.Cut at) (Cut key more) free found is s =
     let fit = subst (λ k. Divides leaf_rows (at_level e 0) left right rows' k) (sym is.0) found in
     record {
-      rest = s.rest; moves = s.moves; entries = s.entries;
+      rest = s.rest;
+      moves = s.moves;
+      entries = s.entries;
       tree = (
         subst (λ b. IsWellFormed b (part (at_level e 0) e.low (key - 1))) (sym s.shows.0) fit.left_well,
         subst (λ b. IsWellFormed b (part (at_level e 0) key e.high)) (sym s.shows.1) fit.right_well,
@@ -143,8 +144,14 @@ added e old mid new level page xs ms ys seg rows' free left right (fits.Cut at) 
     let pages_are : pages_of new level (children left) ++ pages_of new level (children right) ≡ pages_of mid level cs =
     sym (flat_map-append (λ (child : Child). tree_pages new level child.1) (children left) (children right)) ∙ ap (pages_of new level) fit.are ∙ stay.pages in
     let counted : (n : ℕ) → times n (tree_pages new (suc level) page ++ tree_pages new (suc level) more) ≡ times n (page ∷ more ∷ []) + times n (pages_of mid level cs) =
-    λ n. omega (arith, times-append n (tree_pages new (suc level) page) (tree_pages new (suc level) more),
-    ap (λ all. times n (pages_of new level all)) kids_left, ap (λ all. times n (pages_of new level all)) kids_right, ap (times n) pages_are, times-append n (pages_of new level (children left)) (pages_of new level (children right))) in
+    λ n. omega (
+      arith,
+      times-append n (tree_pages new (suc level) page) (tree_pages new (suc level) more),
+      ap (λ all. times n (pages_of new level all)) kids_left,
+      ap (λ all. times n (pages_of new level all)) kids_right,
+      ap (times n) pages_are,
+      times-append n (pages_of new level (children left)) (pages_of new level (children right)),
+    ) in
     record {
       rest = s.rest;
       moves = Moves-trans b.moves (Moves-widen (page ∷ pages_of mid level cs) (tree_pages new (suc level) page ++ tree_pages new (suc level) more) s.moves (λ n. omega (arith, counted n)) (λ n. omega arith));
@@ -211,9 +218,13 @@ root_edited count old new root Whole step uncut some few deletes rows used free 
     let used' = tree_pages new (root.levels - 1) root.page in
     let moves = subst (λ u. Moves count old new u used' free d.rest) (sym r.tree.used_are) d.moves in
     record {
-      used' = used'; free' = d.rest; moves = moves; entries = d.entries;
+      used' = used';
+      free' = d.rest;
+      moves = moves;
+      entries = d.entries;
       tree = record {
-        some_levels = some; few_levels = few;
+        some_levels = some;
+        few_levels = few;
         tree = record { is_tree = d.tree; rows_are = ap step r.tree.rows_are ∙ sym d.rows; used_are = refl; once = once_after new used' d.rest (part_after part moves) };
       };
     }
@@ -222,9 +233,13 @@ root_edited count old new root Short step uncut some few deletes rows used free 
     let used' = tree_pages new (root.levels - 1) root.page in
     let moves = subst (λ u. Moves count old new u used' free d.rest) (sym r.tree.used_are) d.moves in
     record {
-      used' = used'; free' = d.rest; moves = moves; entries = d.entries;
+      used' = used';
+      free' = d.rest;
+      moves = moves;
+      entries = d.entries;
       tree = record {
-        some_levels = some; few_levels = few;
+        some_levels = some;
+        few_levels = few;
         tree = record { is_tree = d.tree; rows_are = ap step r.tree.rows_are ∙ sym d.rows; used_are = refl; once = once_after new used' d.rest (part_after part moves) };
       };
     }
@@ -233,9 +248,13 @@ root_edited count old new root (Alone child) step uncut some few deletes rows us
     let used' = tree_pages new (root.levels - 1 - 1) child in
     let moves = subst (λ u. Moves count old new u used' free d.rest) (sym r.tree.used_are) d.moves in
     record {
-      used' = used'; free' = d.rest; moves = moves; entries = d.entries;
+      used' = used';
+      free' = d.rest;
+      moves = moves;
+      entries = d.entries;
       tree = record {
-        some_levels = omega (arith, d.tree.1); few_levels = omega (arith, few);
+        some_levels = omega (arith, d.tree.1);
+        few_levels = omega (arith, few);
         tree = record { is_tree = d.tree.2; rows_are = ap step r.tree.rows_are ∙ sym d.rows; used_are = refl; once = once_after new used' d.rest (part_after part moves) };
       };
     }
@@ -307,3 +326,19 @@ if_ok (Err e) to h = tt
 pub if_both : {T E : Type 0} {P R Q : T → Type 0} (r : Result T E) → ((v : T) → P v → R v → Q v) → IfOk r P → IfOk r R → IfOk r Q
 if_both (Ok v) to h k = to v h k
 if_both (Err e) to h k = tt
+
+-- the room that a leaf takes
+pub leaf_spent : {E : Type 0} (count old mid new n : ℕ) (fit : Fit) (r : Result Outcome E) → mid ≡ old → n ≤ 64 → (fit ≡ fits.Short → n ≤ 33) → IfOk r (IsOutcome count fit) → OnOk r (mid ≤ new + spent n fit) → IfOk r (IsSpent 0 old new)
+leaf_spent count old mid new n fits.Whole (Ok Whole) same few short is room = omega (arith, same, few, room)
+leaf_spent count old mid new n fits.Whole (Ok Short) same few short is room = absurd (cc)
+leaf_spent count old mid new n fits.Whole (Ok (Cut key right)) same few short is room = absurd (cc)
+leaf_spent count old mid new n fits.Whole (Ok (Alone child)) same few short is room = absurd (cc)
+leaf_spent count old mid new n fits.Short (Ok Whole) same few short is room = absurd (cc)
+leaf_spent count old mid new n fits.Short (Ok Short) same few short is room = omega (arith, same, short refl, room)
+leaf_spent count old mid new n fits.Short (Ok (Cut key right)) same few short is room = absurd (cc)
+leaf_spent count old mid new n fits.Short (Ok (Alone child)) same few short is room = absurd (cc)
+leaf_spent count old mid new n (fits.Cut at) (Ok Whole) same few short is room = absurd is
+leaf_spent count old mid new n (fits.Cut at) (Ok Short) same few short is room = absurd is
+leaf_spent count old mid new n (fits.Cut at) (Ok (Cut key right)) same few short is room = omega (arith, same, room)
+leaf_spent count old mid new n (fits.Cut at) (Ok (Alone child)) same few short is room = absurd is
+leaf_spent count old mid new n fit (Err stop) same few short is room = tt

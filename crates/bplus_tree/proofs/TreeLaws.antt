@@ -1,17 +1,12 @@
 -- Laws of trees: what a page's checks give, order, frame, the way to a key, and how many pages a tree has.
-use Rattle.std.proofs.Common.{◌≡◌, ◌≢◌, ℕ, zero, suc, ◌+◌, ◌*◌, ◌≤◌, inl, inr, Bool, true, false, List, [], ◌∷◌, ◌++◌, None, refl, ap, arith, nat_le, ◌||◌, flat_map}
-use Rattle.std.specs.List.{list_all}
-use Rattle.std.proofs.lemmas.Bool.{leb-true, eqb-true, eq-eqb, ne_eqb, and_parts, cases_Bool}
-use Rattle.slotted_page.specs.declared.root.Expect.{Expect}
+use Rattle.std.proofs.Common.{◌≡◌, ℕ, zero, suc, ◌+◌, Bool, false, List, [], ◌∷◌, ◌++◌, refl, ap, arith, flat_map}
+use Rattle.std.proofs.lemmas.Bool.{eq-eqb}
 use Rattle.line_pages.specs.Lines.{Lines}
 use Rattle.line_pages.specs.Bytes.{bytes_of}
-use Rattle.slotted_page.specs.Checks.{first_failure}
-use Rattle.slotted_page.specs.Rows.{keys, Ascends, ascends}
-use Rattle.slotted_page.specs.Node.{Child, slots, leaf_rows, children, bytes_used, is_in_heap, all_apart, begins_at, first_keys, is_page_below, has_printable_value, leaf_checks, inner_checks, entry_count, heap_start, page_kind, page_level, checks, first_failing, IsWellFormed}
+use Rattle.slotted_page.specs.Node.{Child, children}
 use Rattle.bplus_tree.specs.Tree.{times, IsTree, tree_rows, tree_pages, SameOn}
 use Rattle.slotted_page.specs.Rows.{Each}
 use Rattle.slotted_page.specs.Spans.{Span, spans}
-use Rattle.slotted_page.proofs.FactLemmas.{ascends-true}
 
 -- times
 

@@ -1,9 +1,8 @@
 -- Lines that changed, and pages written line by line.
-use Rattle.std.proofs.Common.{◌≡◌, ◌≢◌, ℕ, zero, suc, ◌+◌, ◌-◌, ◌*◌, ◌<◌, ◌≤◌, inl, inr, Bool, true, false, List, [], ◌∷◌, ◌++◌, length, take, drop, get_or, get_or-drop, get_or-take, length-drop, Option, Some, None, Result, Ok, Err, OnOk, refl, sym, ap, subst, ◌∙◌, arith, cond, add-one, zero-add, ◌==◌, ◌&&◌}
+use Rattle.std.proofs.Common.{◌≡◌, ◌≢◌, ℕ, zero, suc, ◌+◌, ◌-◌, ◌*◌, ◌<◌, ◌≤◌, inl, inr, true, false, List, length, take, drop, get_or, get_or-drop, get_or-take, length-drop, Result, Ok, Err, OnOk, refl, sym, ap, subst, ◌∙◌, arith, cond, add-one, zero-add, ◌==◌, ◌&&◌}
 use Rattle.std.specs.Str.{bytes_eq}
-use Rattle.std.specs.List.{slice_range}
 use Rattle.std.proofs.lemmas.Slice.Eq.{bytes_eq-Decides}
-use Rattle.std.proofs.lemmas.Bool.{cases_lt, cases_eq, cases_Bool, ne_eqb, eq-eqb}
+use Rattle.std.proofs.lemmas.Bool.{cases_eq, cases_Bool, ne_eqb, eq-eqb}
 use Rattle.nvm_model.specs.declared.line.Line.{Line}
 use Rattle.ssd_model.specs.Page.{Same}
 use Rattle.line_pages.specs.Lines.{Lines, with_line}
@@ -164,8 +163,23 @@ changed_two old new p q r size size_new pq qr few same last =
     let at_r : q + (r - q) ≡ r = omega (arith, qr) in
     let none = changed_same old new p (q - p) (λ k low high. part_same old new (64 * p) (64 * q) k size size_new same (omega (arith, low)) (omega (arith, high, pq)) (omega (arith, qr, few))) in
     let end = changed_same old new r (64 - r) (λ k low high. part_same old new (64 * r) 4096 k size size_new last (omega (arith, low)) (omega (arith, high, few)) (omega arith)) in
-    omega (arith, changed_all old new, ap (changed_in old new 0) whole, ap (changed_in old new p) second, ap (changed_in old new q) third, one, two, three,
-    ap (λ (k : ℕ). changed_in old new k (64 - p)) at_p, ap (λ (k : ℕ). changed_in old new k (64 - q)) at_q, ap (λ (k : ℕ). changed_in old new k (64 - r)) at_r, none, end, changed_few old new 0 p, changed_few old new q (r - q))
+    omega (
+      arith,
+      changed_all old new,
+      ap (changed_in old new 0) whole,
+      ap (changed_in old new p) second,
+      ap (changed_in old new q) third,
+      one,
+      two,
+      three,
+      ap (λ (k : ℕ). changed_in old new k (64 - p)) at_p,
+      ap (λ (k : ℕ). changed_in old new k (64 - q)) at_q,
+      ap (λ (k : ℕ). changed_in old new k (64 - r)) at_r,
+      none,
+      end,
+      changed_few old new 0 p,
+      changed_few old new q (r - q),
+    )
 
 pub rewrites_from : {T E : Type 0} (old first new : Lines) (page : ℕ) (bytes buffer : List ℕ) (r : Result T E) → first ≡ old → buffer ≡ bytes_of old page → (buffer ≡ bytes_of first page → OnOk r (Rewrites page bytes first new)) → OnOk r (Rewrites page bytes old new)
 rewrites_from old first new page bytes buffer r same is writes =

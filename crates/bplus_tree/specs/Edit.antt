@@ -1,5 +1,5 @@
 -- What the calls that change a tree do to the pages under a page.
-use Rattle.std.specs.Prelude.{◌≡◌, ◌≢◌, ℕ, suc, ◌+◌, ◌-◌, ◌*◌, ◌<◌, ◌≤◌, ◌⊎◌, Bool, true, false, List, [], ◌∷◌, ◌++◌, Option, Some, None, drop, nat_lt, ◌==◌, if◌then◌else◌, flat_map, length, nat_le, ◌||◌}
+use Rattle.std.specs.Prelude.{◌≡◌, ◌≢◌, ℕ, suc, ◌+◌, ◌-◌, ◌*◌, ◌<◌, ◌≤◌, ◌⊎◌, Bool, true, false, List, [], ◌∷◌, ◌++◌, Option, Some, None, drop, max, nat_lt, ◌==◌, if◌then◌else◌, flat_map, length, nat_le, ◌||◌}
 use Rattle.std.specs.List.{list_all}
 use Rattle.line_pages.specs.Lines.{Lines}
 use Rattle.line_pages.specs.Bytes.{bytes_of}
@@ -15,8 +15,8 @@ use Rattle.bplus_tree.specs.declared.outcome.Outcome.{Outcome}
 use Rattle.bplus_tree.specs.declared.outcome.Outcome.TheVariants.{Whole, Short, Cut, Alone}
 use Rattle.bplus_tree.specs.declared.outcome.Pair.{Pair}
 use Rattle.bplus_tree.specs.Space.{high_of, IsFreeList}
-use Rattle.bplus_tree.specs.Tree.{IsTree, IsRooted, tree_rows, tree_pages}
-use Rattle.bplus_tree.specs.Moves.{ArePart, Moves, SameEntries, Changes, Gives}
+use Rattle.bplus_tree.specs.Tree.{IsTree, tree_rows, tree_pages}
+use Rattle.bplus_tree.specs.Moves.{ArePart, Moves, SameEntries, Gives}
 use Rattle.bplus_tree.specs.Written.{Rewrites}
 
 -- a part of a page, which is no root
@@ -105,13 +105,6 @@ StaysBelow expect Whole = Unit {0}
 StaysBelow expect Short = Unit {0}
 StaysBelow expect (Cut key right) = expect.root ≡ true → expect.level ≢ 3
 StaysBelow expect (Alone child) = Unit {0}
-
--- the most lines that were written where the page above has to change too
-abbrev pub cost : ℕ → Outcome → ℕ
-cost level Whole = 600
-cost level Short = 189 * level + 33
-cost level (Cut key right) = 129 * level + 129
-cost level (Alone child) = 600
 
 -- some children in place of others
 pub record Turns (count : ℕ) (old new : Lines) (level : ℕ) (ss ms : List Child) (high : ℕ) (rows' : List Row) (free : List ℕ) : Type 0 where
@@ -297,12 +290,12 @@ spent n fits.Whole = n
 spent n fits.Short = n
 spent n (fits.Cut key) = 129
 
--- the room that is left where the page above has to change too
+-- the lines that were written for a tree of this level
 abbrev pub IsSpent : ℕ → ℕ → ℕ → Outcome → Type 0
-IsSpent level old new Whole = Unit {0}
+IsSpent level old new Whole = old ≤ new + max (129 * level + 129) (189 * level + 33)
 IsSpent level old new Short = old ≤ new + (189 * level + 33)
 IsSpent level old new (Cut key right) = old ≤ new + (129 * level + 129)
-IsSpent level old new (Alone child) = Unit {0}
+IsSpent level old new (Alone child) = old ≤ new + max (129 * level + 129) (189 * level + 33)
 
 -- two neighbours that were written: the left one with these bytes, and the right one given back, or written too
 pub record WritesJoined (count : ℕ) (old new : Lines) (pair : Pair) (left : List ℕ) : Type 0 where

@@ -125,12 +125,7 @@ pub fn write_new<P: Pages>(
 }
 
 /// Writes a page that was cut, and takes a further page for its right part.
-fn store_cut<P: Pages>(
-    pages: &mut P,
-    page: u64,
-    key: u64,
-    work: &mut Work,
-) -> Result<Outcome, Stop>
+fn store_cut<P: Pages>(pages: &mut P, page: u64, key: u64, work: &mut Work) -> Result<Outcome, Stop>
     requires ready { P.is_ready pages.old }
     requires page { page < (P.standing pages.old).count }
     requires room { 129 ≤ (P.standing pages.old).room }
@@ -151,12 +146,7 @@ fn store_cut<P: Pages>(
 
 /// Writes a page whose old bytes stand in `spare` and its new ones in `page`, and takes a further page for those in `right`
 /// where it was cut.
-pub fn store<P: Pages>(
-    pages: &mut P,
-    page: u64,
-    fit: Fit,
-    work: &mut Work,
-) -> Result<Outcome, Stop>
+pub fn store<P: Pages>(pages: &mut P, page: u64, fit: Fit, work: &mut Work) -> Result<Outcome, Stop>
     requires ready { P.is_ready pages.old }
     requires page { page < (P.standing pages.old).count }
     requires room { spent (lines_changed work.old.spare work.old.page) fit ≤ (P.standing pages.old).room }

@@ -10,12 +10,9 @@ ghost use Rattle.slotted_page.specs.Inner.{IsInner, IsBranch};
 ghost use Rattle.bplus_tree.specs.declared.outcome.Fit.TheVariants as fits;
 ghost use Rattle.bplus_tree.specs.Edit.{Fits, child_put, child_place, has_child, AreChildren, both, joined, IsCutIn, IsPair, PairsUp, Mended};
 
-
 use crate::leaf_edit::top_of;
 use crate::outcome::{Fit, Pair};
-use slotted_page::{
-    Expect, child_key, children, inner_cut, inner_insert, inner_remove,
-};
+use slotted_page::{Expect, child_key, children, inner_cut, inner_insert, inner_remove};
 use ssd_model::PageBuf;
 
 /// What an inner page of a tree is in itself.

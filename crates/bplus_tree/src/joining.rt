@@ -67,7 +67,12 @@ fn merge(work: &mut Work, pair: &Pair, level: u8, count: u64) -> Option<u64>
 }
 
 /// Writes the left one, with the entries of both, and gives the right one back.
-fn write_joined<P: Pages>(pages: &mut P, pair: &Pair, count: u64, work: &mut Work) -> Result<(), Stop>
+fn write_joined<P: Pages>(
+    pages: &mut P,
+    pair: &Pair,
+    count: u64,
+    work: &mut Work,
+) -> Result<(), Stop>
     requires ready { P.is_ready pages.old }
     requires count { count ≡ (P.standing pages.old).count }
     requires is { IsPair count pair.now }
@@ -85,7 +90,12 @@ fn write_joined<P: Pages>(pages: &mut P, pair: &Pair, count: u64, work: &mut Wor
 }
 
 /// Writes both.
-fn write_divided<P: Pages>(pages: &mut P, pair: &Pair, count: u64, work: &mut Work) -> Result<(), Stop>
+fn write_divided<P: Pages>(
+    pages: &mut P,
+    pair: &Pair,
+    count: u64,
+    work: &mut Work,
+) -> Result<(), Stop>
     requires ready { P.is_ready pages.old }
     requires count { count ≡ (P.standing pages.old).count }
     requires is { IsPair count pair.now }

@@ -57,12 +57,7 @@ fn are_full(left: &PageBuf, right: &PageBuf, one: &Expect, two: &Expect) -> bool
 }
 
 /// Joins two leaves, or divides their rows anew. The answer is the key from which on the rows are in the right one.
-pub fn merge_leaves(
-    left: &mut PageBuf,
-    right: &mut PageBuf,
-    pair: &Pair,
-    count: u64,
-) -> Option<u64>
+pub fn merge_leaves(left: &mut PageBuf, right: &mut PageBuf, pair: &Pair, count: u64) -> Option<u64>
     requires is { IsPair count pair.now }
     requires left { IsWellFormed left.old (left_of count 0 pair.now) }
     requires right { IsWellFormed right.old (right_of count 0 pair.now) }

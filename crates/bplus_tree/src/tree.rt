@@ -34,6 +34,7 @@ fn put_row<P: Pages>(
     requires printable { list_all is_printable value.now ≡ true }
     requires room { 600 ≤ (P.standing pages.old).room }
     ensures rows { IsTrue (P.standing pages.old).told → OnOk result (ChangesRows (P.standing pages.old).count (P.standing pages.old).current (P.standing pages.new).current root.old root.new (row_put key value.now)) }
+    ensures room { OnOk result ((P.standing pages.old).room ≤ (P.standing pages.new).room + 600) }
     ensures some { OnOk result (1 ≤ root.new.page) }
     ensures page { OnOk result (root.new.page < (P.standing pages.old).count) }
     ensures some_levels { 1 ≤ root.new.levels }
@@ -52,7 +53,14 @@ fn put_row<P: Pages>(
         Outcome::Short => Ok(()),
         Outcome::Cut(separator, right) => {
             let top = take(pages, work)?;
-            root_of(&mut work.page, root.levels, root.page, separator, right, count);
+            root_of(
+                &mut work.page,
+                root.levels,
+                root.page,
+                separator,
+                right,
+                count,
+            );
             write_new(pages, top, &work.page, &mut work.spare)?;
             root.page = top;
             root.levels += 1;
@@ -80,6 +88,7 @@ fn delete_row<P: Pages>(
     requires few_levels { root.old.levels ≤ 4 }
     requires room { 600 ≤ (P.standing pages.old).room }
     ensures rows { IsTrue (P.standing pages.old).told → OnOk result (ChangesRows (P.standing pages.old).count (P.standing pages.old).current (P.standing pages.new).current root.old root.new (row_delete key)) }
+    ensures room { OnOk result ((P.standing pages.old).room ≤ (P.standing pages.new).room + 600) }
     ensures some { OnOk result (1 ≤ root.new.page) }
     ensures page { OnOk result (root.new.page < (P.standing pages.old).count) }
     ensures some_levels { 1 ≤ root.new.levels }
@@ -165,6 +174,7 @@ pub fn put<P: Pages>(
     requires room { 600 ≤ (P.standing pages.old).room }
     // the rows, and whether the key is new
     ensures rows { IsTrue (P.standing pages.old).told → OnOk result (ChangesRows (P.standing pages.old).count (P.standing pages.old).current (P.standing pages.new).current root.old root.new (row_put key value.now)) }
+    ensures room { OnOk result ((P.standing pages.old).room ≤ (P.standing pages.new).room + 600) }
     ensures fresh { IsTrue (P.standing pages.old).told → (rows : List Row) (used : List ℕ) → IsRooted (P.standing pages.old).count (P.standing pages.old).current root.old rows used → IfOk result (λ fresh. fresh ≡ not (is_some (row_get key rows))) }
     // why it stops
     ensures cause { HasCause (IsTreeDamage (P.standing pages.old).told (P.standing pages.old).count work.new.page) (P.standing pages.old) (P.standing pages.new) result }
@@ -198,6 +208,7 @@ pub fn delete<P: Pages>(
     requires room { 600 ≤ (P.standing pages.old).room }
     // the rows, and whether one was removed
     ensures rows { IsTrue (P.standing pages.old).told → OnOk result (ChangesRows (P.standing pages.old).count (P.standing pages.old).current (P.standing pages.new).current root.old root.new (row_delete key)) }
+    ensures room { OnOk result ((P.standing pages.old).room ≤ (P.standing pages.new).room + 600) }
     ensures found { IsTrue (P.standing pages.old).told → (rows : List Row) (used : List ℕ) → IsRooted (P.standing pages.old).count (P.standing pages.old).current root.old rows used → IfOk result (λ found. found ≡ is_some (row_get key rows)) }
     // why it stops
     ensures cause { HasCause (IsTreeDamage (P.standing pages.old).told (P.standing pages.old).count work.new.page) (P.standing pages.old) (P.standing pages.new) result }

@@ -1,6 +1,6 @@
-use Rattle.std.proofs.Common.{◌≤◌, arith, IsTrue, sym, subst, ap, ◌∙◌}
+use Rattle.std.proofs.Common.{arith, IsTrue, sym, subst}
 use Rattle.bplus_tree.specs.Moves.{Takes}
-use Rattle.bplus_tree.specs.Written.{Rewrites, lines_changed}
+use Rattle.bplus_tree.specs.Written.{Rewrites}
 use Rattle.bplus_tree.proofs.WrittenLaws.{changed_most}
 use Rattle.slotted_page.specs.declared.work.Work.{Work}
 use Rattle.bplus_tree.proofs.Storing.{stored_cut}

@@ -1,4 +1,4 @@
-use Rattle.std.proofs.Common.{◌≤◌, arith, IsTrue, sym, subst, ap, ◌∙◌}
+use Rattle.std.proofs.Common.{arith, IsTrue, sym, subst}
 use Rattle.bplus_tree.proofs.WrittenLaws.{changed_most, rewrites_from, at_most_64}
 use Rattle.bplus_tree.proofs.access.write_new.Goals as goal
 

@@ -1,10 +1,10 @@
-use Rattle.std.proofs.Common.{◌≡◌, ◌-◌, false, IsTrue, refl, sym, subst, ap, ◌∙◌}
+use Rattle.std.proofs.Common.{◌-◌, false, IsTrue, sym, subst}
 use Rattle.slotted_page.specs.declared.root.Expect.{Expect}
-use Rattle.slotted_page.specs.Rows.{row_put, row_delete}
-use Rattle.bplus_tree.specs.declared.outcome.Outcome.TheVariants.{Whole, Short, Cut, Alone}
+use Rattle.slotted_page.specs.Rows.{row_delete}
+use Rattle.bplus_tree.specs.declared.outcome.Outcome.TheVariants.{Whole, Short, Alone}
 use Rattle.bplus_tree.specs.Edit.{Edits}
-use Rattle.bplus_tree.proofs.Editing.{put_local, delete_local, edits_kept, edits_short, edits_alone}
-use Rattle.bplus_tree.proofs.Storing.{if_ok, edits_cut}
+use Rattle.bplus_tree.proofs.Editing.{delete_local, edits_kept, edits_short, edits_alone}
+use Rattle.bplus_tree.proofs.Storing.{if_ok}
 use Rattle.bplus_tree.proofs.change.+delete_in.Goals as goal
 
 pub returns-in-Whole-clause-edits : goal.returns-in-Whole-clause-edits

@@ -1,9 +1,9 @@
-use Rattle.std.proofs.Common.{◌≡◌, ◌-◌, false, IsTrue, refl, sym, subst, ap, ◌∙◌}
+use Rattle.std.proofs.Common.{◌-◌, false, IsTrue, sym, subst}
 use Rattle.slotted_page.specs.declared.root.Expect.{Expect}
-use Rattle.slotted_page.specs.Rows.{row_put, row_delete}
+use Rattle.slotted_page.specs.Rows.{row_put}
 use Rattle.bplus_tree.specs.declared.outcome.Outcome.TheVariants.{Whole, Short, Cut, Alone}
 use Rattle.bplus_tree.specs.Edit.{Edits, IsSafe}
-use Rattle.bplus_tree.proofs.Editing.{put_local, delete_local, edits_kept, edits_short, edits_alone}
+use Rattle.bplus_tree.proofs.Editing.{put_local, edits_kept, edits_short, edits_alone}
 use Rattle.bplus_tree.proofs.Storing.{if_ok, edits_cut}
 use Rattle.bplus_tree.proofs.change.+put_in.Goals as goal
 

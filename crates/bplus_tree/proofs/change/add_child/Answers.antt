@@ -1,9 +1,5 @@
-use Rattle.std.proofs.Common.{◌≡◌, ◌≢◌, ◌<◌, ◌≤◌, ◌+◌, ℕ, true, inl, inr, Result, Ok, Err, IfOk, OnOk, refl, IsTrue, arith, sym, subst, ap, ◌∙◌}
-use Rattle.std.proofs.lemmas.Bool.{cases_eq}
-use Rattle.line_pages.specs.Lines.{Lines}
-use Rattle.line_pages.specs.Bytes.{bytes_of}
+use Rattle.std.proofs.Common.{◌≡◌, ◌≤◌, ◌+◌, ℕ, true, Result, Ok, Err, IfOk, OnOk, refl, arith, sym, subst}
 use Rattle.slotted_page.specs.declared.root.Expect.{Expect}
-use Rattle.slotted_page.specs.Node.{entry_count}
 use Rattle.slotted_page.proofs.PageFacts.{inner_facts}
 use Rattle.bplus_tree.specs.declared.outcome.Fit.{Fit}
 use Rattle.bplus_tree.specs.declared.outcome.Fit.TheVariants as fits
@@ -13,8 +9,8 @@ use Rattle.bplus_tree.specs.Written.{lines_changed}
 use Rattle.line_pages.specs.declared.stop.Stop.{Stop}
 use Rattle.line_pages.specs.declared.stop.Evidence.TheVariants.{Page}
 use Rattle.line_pages.specs.Standing.{HasCause}
-use Rattle.bplus_tree.specs.Damage.{IsFullRoot, IsTreeDamage}
-use Rattle.bplus_tree.specs.Edit.{IsOutcome, StaysBelow, spent}
+use Rattle.bplus_tree.specs.Damage.{IsTreeDamage}
+use Rattle.bplus_tree.specs.Edit.{IsOutcome, StaysBelow}
 use Rattle.bplus_tree.proofs.WrittenLaws.{changed_most}
 use Rattle.bplus_tree.proofs.Storing.{spent_most}
 use Rattle.bplus_tree.proofs.TreeDamageLaws.{root_damage}

@@ -1,5 +1,5 @@
-use Rattle.std.proofs.Common.{◌≡◌, refl, IsTrue, sym, subst, ap, ◌∙◌}
-use Rattle.bplus_tree.specs.Edit.{Rewritten, Joins}
+use Rattle.std.proofs.Common.{◌≡◌, refl, IsTrue, sym, subst, ◌∙◌}
+use Rattle.bplus_tree.specs.Edit.{Rewritten}
 use Rattle.bplus_tree.proofs.Editing.{mended_by}
 use Rattle.bplus_tree.proofs.Storing.{if_ok}
 use Rattle.bplus_tree.proofs.change.mend.Goals as goal

@@ -1,4 +1,4 @@
-use Rattle.std.proofs.Common.{◌+◌, ◌≤◌, arith, [], sym}
+use Rattle.std.proofs.Common.{arith}
 use Rattle.slotted_page.specs.Node.{Child}
 use Rattle.slotted_page.specs.Node.{children}
 use Rattle.bplus_tree.proofs.ChildEdits.{within_place, next_place, here_place}

@@ -1,4 +1,4 @@
-use Rattle.std.proofs.Common.{◌≡◌, ℕ, List, arith, sym, ap, subst, ◌∙◌, true, false}
+use Rattle.std.proofs.Common.{◌≡◌, ℕ, List, sym, ap, subst, ◌∙◌, true, false}
 use Rattle.std.specs.List.{insert, remove}
 use Rattle.slotted_page.specs.Node.{Child, children}
 use Rattle.bplus_tree.specs.Edit.{Fits, child_put, child_place, has_child}

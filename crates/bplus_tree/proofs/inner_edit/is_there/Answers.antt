@@ -1,8 +1,8 @@
-use Rattle.std.proofs.Common.{◌≡◌, ◌<◌, ℕ, nat_eq, get_or, [], length, arith, sym, ap, subst, ◌∙◌}
+use Rattle.std.proofs.Common.{◌<◌, ℕ, nat_eq, get_or, length, arith, sym, ap, ◌∙◌}
 use Rattle.slotted_page.specs.Node.{Child}
 use Rattle.slotted_page.specs.Node.{children}
 use Rattle.bplus_tree.specs.Edit.{child_place}
-use Rattle.bplus_tree.proofs.ChildEdits.{has_child-is, has_child-none}
+use Rattle.bplus_tree.proofs.ChildEdits.{has_child-is}
 use Rattle.bplus_tree.proofs.inner_edit.is_there.Goals as goal
 
 none : Child

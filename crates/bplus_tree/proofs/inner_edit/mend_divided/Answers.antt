@@ -1,4 +1,4 @@
-use Rattle.std.proofs.Common.{◌≡◌, ◌≤◌, ◌<◌, ◌*◌, ◌++◌, ◌∷◌, ℕ, List, arith, sym, ap, subst, ◌∙◌, true, false, length, Some}
+use Rattle.std.proofs.Common.{◌≡◌, ◌++◌, ◌∷◌, ℕ, List, arith, sym, ap, subst, ◌∙◌}
 use Rattle.std.specs.List.{remove, insert}
 use Rattle.ssd_model.specs.Page.{Same}
 use Rattle.slotted_page.specs.Rows.{Ascends, last_key}

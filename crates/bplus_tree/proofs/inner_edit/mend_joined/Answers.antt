@@ -1,9 +1,9 @@
-use Rattle.std.proofs.Common.{◌≡◌, ◌≤◌, ◌++◌, ◌∷◌, List, arith, sym, ap, subst, ◌∙◌, true, length, None}
+use Rattle.std.proofs.Common.{◌≡◌, ◌++◌, ◌∷◌, List, arith, sym, ap, subst, ◌∙◌, length}
 use Rattle.std.specs.List.{remove, list_all}
 use Rattle.slotted_page.specs.Rows.{Ascends}
 use Rattle.slotted_page.specs.Node.{Child, children, begins_at, first_keys, is_page_below}
 use Rattle.slotted_page.proofs.PageFacts.{clash}
-use Rattle.bplus_tree.specs.Edit.{Fits, joined}
+use Rattle.bplus_tree.specs.Edit.{Fits}
 use Rattle.bplus_tree.proofs.WrittenLaws.{changed_first}
 use Rattle.bplus_tree.proofs.LeafLaws.{none_changed}
 use Rattle.bplus_tree.proofs.ChildEdits.{taken_out}

@@ -1,7 +1,6 @@
-use Rattle.std.proofs.Common.{◌≡◌, ◌≢◌, IsTrue, Some, None, sym, subst, ap, ◌∙◌}
+use Rattle.std.proofs.Common.{◌≡◌, IsTrue, Some, None, sym, subst, ap, ◌∙◌}
 use Rattle.line_pages.specs.Lines.{Lines}
 use Rattle.line_pages.specs.Bytes.{bytes_of}
-use Rattle.bplus_tree.specs.Edit.{WritesJoined, WritesDivided}
 use Rattle.bplus_tree.proofs.Joined.{joins, joined_written, divided_written}
 use Rattle.bplus_tree.proofs.joining.join.Goals as goal
 

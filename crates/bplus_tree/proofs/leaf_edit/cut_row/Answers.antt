@@ -1,11 +1,10 @@
-use Rattle.std.proofs.Common.{◌≡◌, ◌<◌, ◌+◌, List, [], length, take, drop, get_or, arith, subst, ap, sym, ◌∙◌, refl, take-append-drop}
+use Rattle.std.proofs.Common.{◌<◌, [], arith}
 use Rattle.std.specs.List.{insert}
-use Rattle.slotted_page.specs.Rows.{Row, keys}
+use Rattle.slotted_page.specs.Rows.{keys}
 use Rattle.slotted_page.specs.Cut.{rows_left}
 use Rattle.slotted_page.specs.Node.{leaf_rows}
 use Rattle.slotted_page.specs.Sound.{row_bytes}
 use Rattle.slotted_page.proofs.RowLemmas.{row_bytes-insert}
-use Rattle.bplus_tree.specs.Edit.{part}
 use Rattle.bplus_tree.proofs.LeafLaws.{wide_order, some_rows, cut_divides}
 use Rattle.bplus_tree.proofs.leaf_edit.cut_row.Goals as goal
 

@@ -1,5 +1,4 @@
-use Rattle.std.proofs.Common.{arith}
-use Rattle.slotted_page.proofs.FactLemmas.{leaf_from, sound_of, leaf_used_is}
+use Rattle.slotted_page.proofs.FactLemmas.{leaf_from}
 use Rattle.slotted_page.proofs.PageFacts.{leaf_facts}
 use Rattle.bplus_tree.proofs.LeafLaws.{enter_full}
 use Rattle.bplus_tree.proofs.leaf_edit.enter.Goals as goal

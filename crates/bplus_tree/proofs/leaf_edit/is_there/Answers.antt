@@ -1,8 +1,8 @@
-use Rattle.std.proofs.Common.{◌≡◌, ◌<◌, ℕ, nat_eq, get_or, [], length, arith, sym, ap, subst, ◌∙◌}
+use Rattle.std.proofs.Common.{◌<◌, ℕ, nat_eq, get_or, [], length, arith, sym, ap, ◌∙◌}
 use Rattle.slotted_page.specs.Rows.{Row}
 use Rattle.slotted_page.specs.Node.{leaf_rows}
 use Rattle.bplus_tree.specs.Edit.{place_of}
-use Rattle.bplus_tree.proofs.KeyPlaceLaws.{has_row-is, has_row-none}
+use Rattle.bplus_tree.proofs.KeyPlaceLaws.{has_row-is}
 use Rattle.bplus_tree.proofs.leaf_edit.is_there.Goals as goal
 
 none : Row

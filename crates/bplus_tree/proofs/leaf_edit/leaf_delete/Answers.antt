@@ -1,7 +1,6 @@
-use Rattle.std.proofs.Common.{◌≡◌, ◌≤◌, ◌*◌, ℕ, List, arith, refl, subst, ap, sym, ◌∙◌, true, false, length}
-use Rattle.ssd_model.specs.Page.{Same}
+use Rattle.std.proofs.Common.{◌≡◌, ℕ, List, arith, subst, ap, sym, ◌∙◌, true}
 use Rattle.slotted_page.specs.Rows.{Row, keys, row_delete, Ascends}
-use Rattle.slotted_page.specs.Node.{leaf_rows, entry_count}
+use Rattle.slotted_page.specs.Node.{leaf_rows}
 use Rattle.bplus_tree.specs.Edit.{Fits, has_row, place_of}
 use Rattle.std.specs.List.{remove}
 use Rattle.bplus_tree.proofs.RowLaws.{Ascends-delete}

@@ -1,4 +1,4 @@
-use Rattle.std.proofs.Common.{◌+◌, ◌≤◌, arith, [], sym}
+use Rattle.std.proofs.Common.{arith, []}
 use Rattle.slotted_page.specs.Rows.{Row}
 use Rattle.slotted_page.specs.Node.{leaf_rows}
 use Rattle.bplus_tree.proofs.KeyPlaceLaws.{place_within, place_next, place_here}

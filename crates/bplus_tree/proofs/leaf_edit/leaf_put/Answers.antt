@@ -1,6 +1,6 @@
-use Rattle.std.proofs.Common.{◌≡◌, ◌≤◌, ◌||◌, ℕ, Bool, List, [], arith, refl, subst, ap, sym, ◌∙◌, true, false, length, nat_le, slice_set, get_or}
+use Rattle.std.proofs.Common.{◌≡◌, ◌||◌, ℕ, List, [], arith, subst, ap, sym, ◌∙◌, true, false, length, nat_le, slice_set, get_or}
 use Rattle.std.specs.List.{insert, remove}
-use Rattle.slotted_page.specs.Rows.{Row, keys, row_put, Ascends}
+use Rattle.slotted_page.specs.Rows.{Row, row_put}
 use Rattle.slotted_page.specs.Node.{leaf_rows}
 use Rattle.slotted_page.specs.Sound.{row_bytes}
 use Rattle.bplus_tree.specs.Edit.{Fits, has_row, place_of}

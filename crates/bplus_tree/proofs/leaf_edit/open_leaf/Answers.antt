@@ -1,6 +1,4 @@
-use Rattle.std.proofs.Common.{◌∙◌}
 use Rattle.slotted_page.proofs.FactLemmas.{sound_of, rows_of_leaf}
-use Rattle.slotted_page.proofs.SlotLemmas.{length_rows}
 use Rattle.bplus_tree.proofs.leaf_edit.open_leaf.Goals as goal
 
 pub leaf_rows-requires : goal.leaf_rows-requires

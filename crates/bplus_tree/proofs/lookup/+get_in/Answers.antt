@@ -1,4 +1,4 @@
-use Rattle.std.proofs.Common.{◌≡◌, Some, slice_get, IsTrue, IfOk, sym, subst, ◌∙◌}
+use Rattle.std.proofs.Common.{◌≡◌, Some, slice_get, IsTrue, IfOk, sym, subst}
 use Rattle.line_pages.specs.Lines.{Lines}
 use Rattle.line_pages.specs.Bytes.{bytes_of}
 use Rattle.slotted_page.specs.Rows.{Row}

@@ -1,4 +1,4 @@
-use Rattle.std.proofs.Common.{◌≡◌, ℕ, ◌+◌, ◌-◌, ◌≤◌, true, arith, IsTrue, Result, Ok, Err, OnOk, subst, ◌∙◌}
+use Rattle.std.proofs.Common.{◌≡◌, ℕ, ◌+◌, ◌-◌, ◌≤◌, arith, Result, Ok, Err, OnOk, subst}
 use Rattle.slotted_page.specs.declared.root.Expect.{Expect}
 use Rattle.bplus_tree.proofs.SearchLaws.{way_visits}
 use Rattle.bplus_tree.proofs.lookup.get.Goals as goal

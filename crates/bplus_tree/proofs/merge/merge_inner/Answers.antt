@@ -1,8 +1,7 @@
-use Rattle.std.proofs.Common.{◌≡◌, ◌-◌, ◌++◌, List, [], length, length-drop, arith, sym, ap, subst, ◌∙◌, refl}
+use Rattle.std.proofs.Common.{◌≡◌, ◌++◌, length, length-drop, arith, ap, subst, ◌∙◌}
 use Rattle.slotted_page.specs.declared.root.Expect.{Expect}
-use Rattle.slotted_page.specs.Rows.{Ascends}
 use Rattle.slotted_page.specs.Cut.{children_left}
-use Rattle.slotted_page.specs.Node.{Child, children, first_keys, page_level}
+use Rattle.slotted_page.specs.Node.{children, first_keys, page_level}
 use Rattle.bplus_tree.specs.Edit.{AreChildren, left_of, right_of}
 use Rattle.bplus_tree.proofs.LeafLaws.{wide_order}
 use Rattle.bplus_tree.proofs.MergeLaws.{children_order, inner_joined, inner_divided, half_facts}

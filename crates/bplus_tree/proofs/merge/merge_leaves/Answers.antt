@@ -1,9 +1,7 @@
-use Rattle.std.proofs.Common.{◌≡◌, ◌-◌, ◌++◌, List, [], arith, sym, ap, subst, ◌∙◌, refl}
+use Rattle.std.proofs.Common.{◌-◌, ◌++◌, [], arith, ap, subst}
 use Rattle.slotted_page.specs.declared.root.Expect.{Expect}
-use Rattle.slotted_page.specs.Rows.{Row, keys, Ascends}
+use Rattle.slotted_page.specs.Rows.{keys, Ascends}
 use Rattle.slotted_page.specs.Node.{leaf_rows}
-use Rattle.slotted_page.specs.Sound.{IsJoined, IsDivided}
-use Rattle.bplus_tree.specs.Edit.{left_of, right_of, whole_of}
 use Rattle.bplus_tree.proofs.LeafLaws.{wide_order}
 use Rattle.bplus_tree.proofs.MergeLaws.{rows_order, leaves_joined, leaves_divided, leaves_kept}
 use Rattle.bplus_tree.proofs.merge.merge_leaves.Goals as goal

@@ -1,5 +1,5 @@
-use Rattle.std.proofs.Common.{◌+◌, ◌≤◌, arith}
-use Rattle.slotted_page.specs.Node.{Child, children}
+use Rattle.std.proofs.Common.{◌+◌, arith}
+use Rattle.slotted_page.specs.Node.{children}
 use Rattle.bplus_tree.proofs.PairLaws.{key_before}
 use Rattle.bplus_tree.proofs.pair.high_after.Goals as goal
 

@@ -1,5 +1,5 @@
 use Rattle.slotted_page.specs.Node.{children}
-use Rattle.std.proofs.Common.{arith, ◌+◌, ◌<◌, ◌≤◌}
+use Rattle.std.proofs.Common.{arith}
 use Rattle.bplus_tree.proofs.PairLaws.{pairs_right, pairs_left}
 use Rattle.bplus_tree.proofs.pair.pair_of.Goals as goal
 

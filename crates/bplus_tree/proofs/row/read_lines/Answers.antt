@@ -1,4 +1,4 @@
-use Rattle.std.proofs.Common.{◌≡◌, ◌+◌, ◌*◌, ◌≤◌, IsTrue, arith, refl, ap, sym, subst, ◌∙◌}
+use Rattle.std.proofs.Common.{◌+◌, ◌*◌, IsTrue, arith, refl, ap, sym, subst, ◌∙◌}
 use Rattle.ssd_model.specs.Page.{Same}
 use Rattle.line_pages.specs.Bytes.{bytes_of}
 use Rattle.line_pages.proofs.StandingLaws.{Continues-refl, Continues-trans, ReadsPage-refl, ReadsPage-trans, one_read}

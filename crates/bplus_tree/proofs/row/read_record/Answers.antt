@@ -1,4 +1,4 @@
-use Rattle.std.proofs.Common.{◌≡◌, ◌≤◌, ◌*◌, ◌+◌, ◌/◌, arith, ◌∙◌}
+use Rattle.std.proofs.Common.{◌+◌, ◌/◌, arith, ◌∙◌}
 use Rattle.line_pages.specs.Bytes.{bytes_of}
 use Rattle.line_pages.proofs.ByteLaws.{length-page_bytes}
 use Rattle.bplus_tree.proofs.PartLaws.{found_same}

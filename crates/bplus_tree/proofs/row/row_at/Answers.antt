@@ -1,4 +1,3 @@
-use Rattle.std.proofs.Common.{◌≡◌, Option, Some, None, IsTrue, IfOk, Result, Ok, Err, sym, subst, ap, ◌∙◌}
 use Rattle.line_pages.specs.Bytes.{bytes_of}
 use Rattle.slotted_page.proofs.OpenLaws.{then_reads}
 use Rattle.bplus_tree.proofs.RecordLaws.{found_row}

@@ -1,4 +1,4 @@
-use Rattle.std.proofs.Common.{◌≡◌, ◌≢◌, Result, Ok, Err, OnOk, IsTrue, sym, subst}
+use Rattle.std.proofs.Common.{◌≢◌, Result, Ok, Err, OnOk, IsTrue, sym, subst}
 use Rattle.bplus_tree.specs.Space.{word}
 use Rattle.bplus_tree.proofs.Places.{take_answer}
 use Rattle.bplus_tree.proofs.space.take_page.Goals as goal

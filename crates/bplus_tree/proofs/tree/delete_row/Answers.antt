@@ -1,7 +1,7 @@
-use Rattle.std.proofs.Common.{◌≡◌, ◌≢◌, ◌-◌, true, IsTrue, sym, subst, ap, ◌∙◌}
+use Rattle.std.proofs.Common.{◌-◌, true, subst}
 use Rattle.slotted_page.specs.declared.root.Expect.{Expect}
 use Rattle.slotted_page.specs.Rows.{row_delete, last_key}
-use Rattle.bplus_tree.specs.declared.outcome.Outcome.TheVariants.{Whole, Short, Cut, Alone}
+use Rattle.bplus_tree.specs.declared.outcome.Outcome.TheVariants.{Whole, Short, Alone}
 use Rattle.bplus_tree.specs.Edit.{Edits}
 use Rattle.bplus_tree.proofs.Storing.{root_edited}
 use Rattle.bplus_tree.proofs.tree.delete_row.Goals as goal

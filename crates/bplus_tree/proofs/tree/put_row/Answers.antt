@@ -1,17 +1,14 @@
-use Rattle.std.proofs.Common.{◌≡◌, ◌≢◌, ◌≤◌, ◌-◌, ℕ, inl, inr, true, arith, refl, IsTrue, sym, subst, ap, ◌∙◌}
+use Rattle.std.proofs.Common.{◌≢◌, ◌≤◌, ◌-◌, ℕ, true, arith, refl, IsTrue, sym, subst}
 use Rattle.slotted_page.specs.declared.root.Expect.{Expect}
 use Rattle.slotted_page.specs.Rows.{row_put, last_key}
 use Rattle.bplus_tree.specs.declared.outcome.Outcome.TheVariants.{Whole, Short, Cut, Alone}
-use Rattle.bplus_tree.specs.Edit.{Edits, IsNewRoot, StaysBelow, IsSafe}
+use Rattle.bplus_tree.specs.Edit.{Edits, IsNewRoot, StaysBelow}
 use Rattle.bplus_tree.specs.Moves.{Takes}
-use Rattle.bplus_tree.specs.Written.{Rewrites}
 use Rattle.bplus_tree.proofs.Storing.{root_edited, root_cut}
-use Rattle.std.proofs.lemmas.Bool.{cases_eq}
 use Rattle.bplus_tree.proofs.tree.put_row.Goals as goal
 
 few_levels : (levels : ℕ) → levels ≤ 4 → levels - 1 ≢ 3 → levels ≤ 3
 few_levels levels few below = omega (arith, few, below)
-
 
 pub returns-in-Alone-clause-rows : goal.returns-in-Alone-clause-rows
 returns-in-Alone-clause-rows g c = λ told.

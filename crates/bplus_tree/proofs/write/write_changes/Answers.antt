@@ -1,9 +1,8 @@
-use Rattle.std.proofs.Common.{◌≡◌, ℕ, suc, ◌+◌, ◌-◌, ◌*◌, ◌≤◌, inl, Bool, true, false, IsTrue, arith, refl, ap, sym, subst, ◌∙◌, cond, add-one}
+use Rattle.std.proofs.Common.{◌≡◌, ℕ, ◌+◌, ◌-◌, ◌≤◌, inl, Bool, true, false, IsTrue, arith, refl, ap, sym, subst, ◌∙◌, cond}
 use Rattle.std.specs.Str.{bytes_eq}
-use Rattle.line_pages.specs.Bytes.{bytes_of}
 use Rattle.line_pages.proofs.StandingLaws.{Continues-refl, Continues-trans}
-use Rattle.bplus_tree.specs.Written.{line_part, changed_in, lines_changed}
-use Rattle.bplus_tree.proofs.WrittenLaws.{changed_all, changed_at, changed_none, visited_on, visited_few, visited_one, writing_start, writing_step, writing_end}
+use Rattle.bplus_tree.specs.Written.{line_part, changed_in}
+use Rattle.bplus_tree.proofs.WrittenLaws.{changed_all, changed_at, changed_none, visited_on, visited_one, writing_start, writing_step, writing_end}
 use Rattle.bplus_tree.proofs.write.write_changes.Goals as goal
 
 pub loop-line-init : goal.loop-line-init
@@ -29,6 +28,7 @@ pub write_changed-requires-clause-room : goal.write_changed-requires-clause-room
 write_changed-requires-clause-room g c =
     let step = changed_at c.args.old.now c.args.new.now c.loop-line.line (c.loop-line-test.true) in
     one_left (bytes_eq (line_part c.args.old.now c.loop-line.line) (line_part c.args.new.now c.loop-line.line)) _ _ _ _ _ c.requires.room c.loop-line.invariant.room step
+
 pub loop-line-preserved : goal.loop-line-preserved
 loop-line-preserved g c =
     let step = c.in_ok-write_changed.ensures in

@@ -1,5 +1,5 @@
 -- So far the lines below are as they are to be, and the others as they were.
-use Rattle.std.proofs.Common.{◌≡◌, ◌+◌, ◌-◌, ◌≤◌, length, IsTrue}
+use Rattle.std.proofs.Common.{◌≡◌, ◌+◌, ◌-◌, length, IsTrue}
 use Rattle.line_pages.specs.Bytes.{bytes_of}
 use Rattle.line_pages.specs.Standing.{Continues}
 use Rattle.bplus_tree.specs.Written.{Visited, changed_in, lines_changed}
