@@ -13,6 +13,8 @@ mod pair;
 mod root;
 mod row;
 mod space;
+#[cfg(test)]
+mod tests;
 mod tree;
 mod write;
 
