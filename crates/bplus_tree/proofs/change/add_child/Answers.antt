@@ -1,0 +1,63 @@
+use Rattle.std.proofs.Common.{◌≡◌, ◌≤◌, ◌+◌, ℕ, true, Result, Ok, Err, IfOk, OnOk, refl, arith, sym, subst}
+use Rattle.slotted_page.specs.declared.root.Expect.{Expect}
+use Rattle.slotted_page.proofs.PageFacts.{inner_facts}
+use Rattle.bplus_tree.specs.declared.outcome.Fit.{Fit}
+use Rattle.bplus_tree.specs.declared.outcome.Fit.TheVariants as fits
+use Rattle.bplus_tree.specs.declared.outcome.Outcome.{Outcome}
+use Rattle.bplus_tree.specs.declared.outcome.Outcome.TheVariants.{Whole, Short, Cut, Alone}
+use Rattle.bplus_tree.specs.Written.{lines_changed}
+use Rattle.line_pages.specs.declared.stop.Stop.{Stop}
+use Rattle.line_pages.specs.declared.stop.Evidence.TheVariants.{Page}
+use Rattle.line_pages.specs.Standing.{HasCause}
+use Rattle.bplus_tree.specs.Damage.{IsTreeDamage}
+use Rattle.bplus_tree.specs.Edit.{IsOutcome, StaysBelow}
+use Rattle.bplus_tree.proofs.WrittenLaws.{changed_most}
+use Rattle.bplus_tree.proofs.Storing.{spent_most}
+use Rattle.bplus_tree.proofs.TreeDamageLaws.{root_damage}
+use Rattle.bplus_tree.proofs.change.add_child.Goals as goal
+
+stays : {E : Type 0} (count : ℕ) (e : Expect) (fit : Fit) (r : Result Outcome E) → (e.root ≡ true → e.level ≡ 3 → fit ≡ fits.Whole) → IfOk r (IsOutcome count fit) → IfOk r (StaysBelow e)
+stays count e fit (Ok Whole) whole is = tt
+stays count e fit (Ok Short) whole is = tt
+stays count e fits.Whole (Ok (Cut key right)) whole is = absurd (cc)
+stays count e fits.Short (Ok (Cut key right)) whole is = absurd (cc)
+stays count e (fits.Cut at) (Ok (Cut key right)) whole is = λ root level. let e2 = whole root level in absurd (cc)
+stays count e fit (Ok (Alone child)) whole is = tt
+stays count e fit (Err stop) whole is = tt
+
+pub returns-clause-below : goal.returns-clause-below
+returns-clause-below g c =
+    let e = c.args.expect.now in
+    let bytes = c.load.new.work.page in
+    stays _ e c.inner_put-fit.result c.store.result
+    (λ root level.
+    let not_full = c.is_full_root.ensures.room c.if-is_full_root.false root level in
+    let facts = inner_facts bytes e (λ z. omega (arith, z, level)) c.in_ok-load.ensures.well in
+    c.inner_put-fit.ensures.room (omega (arith, not_full, facts.room)))
+    c.store.ensures.is
+
+pub store-requires-clause-room : goal.store-requires-clause-room
+store-requires-clause-room g c =
+    let most = spent_most (lines_changed c.copy_from.new.self c.inner_put-fit.new.left) c.inner_put-fit.result (changed_most c.copy_from.new.self c.inner_put-fit.new.left) in
+    omega (arith, most, c.requires.room, c.in_ok-load.ensures.keeps.room)
+
+total : {T E : Type 0} (r : Result T E) (old mid new n : ℕ) → mid ≡ old → n ≤ 129 → OnOk r (mid ≤ new + n) → OnOk r (old ≤ new + 129)
+total (Ok v) old mid new n a b e = omega (arith, a, b, e)
+total (Err s) old mid new n a b e = tt
+
+pub returns-clause-room : goal.returns-clause-room
+returns-clause-room g c =
+    total c.store.result _ _ _ _ c.in_ok-load.ensures.keeps.room (spent_most (lines_changed c.copy_from.new.self c.inner_put-fit.new.left) c.inner_put-fit.result (changed_most c.copy_from.new.self c.inner_put-fit.new.left)) c.store.ensures.room
+
+pub returns-then-is_full_root-clause-cause : goal.returns-then-is_full_root-clause-cause
+returns-then-is_full_root-clause-cause g c =
+    let e = c.args.expect.now in
+    let old = g.P.Pages.standing c.args.pages.now in
+    let new = g.P.Pages.standing c.load.new.pages in
+    let buffer = c.load.new.work.page in
+    let yes_full = c.if-is_full_root.true in
+    subst (λ (s : Stop). HasCause {T = Outcome} (IsTreeDamage old.told old.count buffer) old new (Err s)) (sym c.full_root.ensures) (record {
+      failed = root_damage old.told old.count old.current buffer (Page c.args.page e.level e.low e.high 39)
+          (λ told. (c.requires.page, c.in_ok-load.ensures.bytes told, c.is_full_root.ensures.level yes_full, c.requires.span (c.is_full_root.ensures.root yes_full), refl, c.is_full_root.ensures.full yes_full));
+      kept = tt;
+    })

@@ -1,0 +1,332 @@
+-- What the calls that change a tree do to the pages under a page.
+use Rattle.std.specs.Prelude.{◌≡◌, ◌≢◌, ℕ, suc, ◌+◌, ◌-◌, ◌*◌, ◌<◌, ◌≤◌, ◌⊎◌, Bool, true, false, List, [], ◌∷◌, ◌++◌, Option, Some, None, drop, max, nat_lt, ◌==◌, if◌then◌else◌, flat_map, length, nat_le, ◌||◌}
+use Rattle.std.specs.List.{list_all}
+use Rattle.line_pages.specs.Lines.{Lines}
+use Rattle.line_pages.specs.Bytes.{bytes_of}
+use Rattle.slotted_page.specs.declared.root.Expect.{Expect}
+use Rattle.slotted_page.specs.Rows.{Row, Each, Ascends, last_key}
+use Rattle.slotted_page.specs.Spans.{Span, reach, spans}
+use Rattle.slotted_page.specs.Sound.{row_bytes}
+use Rattle.slotted_page.specs.Node.{Child, children, begins_at, first_keys, is_page_below, leaf_rows, entry_count, IsWellFormed}
+use Rattle.bplus_tree.specs.declared.root.Root.{Root}
+use Rattle.bplus_tree.specs.declared.outcome.Fit.{Fit}
+use Rattle.bplus_tree.specs.declared.outcome.Fit.TheVariants as fits
+use Rattle.bplus_tree.specs.declared.outcome.Outcome.{Outcome}
+use Rattle.bplus_tree.specs.declared.outcome.Outcome.TheVariants.{Whole, Short, Cut, Alone}
+use Rattle.bplus_tree.specs.declared.outcome.Pair.{Pair}
+use Rattle.bplus_tree.specs.Space.{high_of, IsFreeList}
+use Rattle.bplus_tree.specs.Tree.{IsTree, tree_rows, tree_pages}
+use Rattle.bplus_tree.specs.Moves.{ArePart, Moves, SameEntries, Gives}
+use Rattle.bplus_tree.specs.Written.{Rewrites}
+
+-- a part of a page, which is no root
+abbrev pub part : Expect → ℕ → ℕ → Expect
+part expect low high = record { level = expect.level; low = low; high = high; root = false; pages = expect.pages }
+
+-- what is expected of a page that may have fallen below the floor, as a root may
+abbrev pub loose : Expect → Expect
+loose expect = record { level = expect.level; low = expect.low; high = expect.high; root = true; pages = expect.pages }
+
+-- The bytes of one page, or of two that part at a key, have these entries.
+pub record Holds {X : Type 0} (entries : List ℕ → List X) (expect : Expect) (bytes : List ℕ) (all : List X) : Type 0 where
+  pub well : IsWellFormed bytes expect
+  pub are : entries bytes ≡ all
+
+pub record Divides {X : Type 0} (entries : List ℕ → List X) (expect : Expect) (left right : List ℕ) (all : List X) (key : ℕ) : Type 0 where
+  pub above : expect.low < key
+  pub within : key ≤ expect.high
+  pub left_well : IsWellFormed left (part expect expect.low (key - 1))
+  pub right_well : IsWellFormed right (part expect key expect.high)
+  pub are : entries left ++ entries right ≡ all
+
+abbrev pub Fits : {X : Type 0} → (List ℕ → List X) → Expect → List ℕ → List ℕ → List X → Fit → Type 0
+Fits entries expect left right all fits.Whole = Holds entries expect left all
+Fits entries expect left right all fits.Short = Holds entries (loose expect) left all
+Fits entries expect left right all (fits.Cut key) = Divides entries expect left right all key
+
+-- the children with this child at the key, in the order of the keys
+abbrev pub child_put : ℕ → ℕ → List Child → List Child
+child_put key page [] = (key, page) ∷ []
+child_put key page (c ∷ cs) =
+    if nat_lt c.0 key then c ∷ child_put key page cs
+    else if c.0 == key then (key, page) ∷ cs
+    else (key, page) ∷ c ∷ cs
+
+abbrev pub rows_of : Lines → ℕ → List Child → List Row
+rows_of lines level cs = flat_map (λ (child : Child). tree_rows lines level child.1) cs
+
+abbrev pub pages_of : Lines → ℕ → List Child → List ℕ
+pages_of lines level cs = flat_map (λ (child : Child). tree_pages lines level child.1) cs
+
+-- what stands for a page afterwards: its pages, its rows, and that it is a tree, or two that part at a key
+abbrev pub pages_left : Lines → ℕ → ℕ → Outcome → List ℕ
+pages_left lines level page Whole = tree_pages lines level page
+pages_left lines level page Short = tree_pages lines level page
+pages_left lines level page (Cut key right) = tree_pages lines level page ++ tree_pages lines level right
+pages_left lines level page (Alone child) = tree_pages lines (level - 1) child
+
+abbrev pub rows_left : Lines → ℕ → ℕ → Outcome → List Row
+rows_left lines level page Whole = tree_rows lines level page
+rows_left lines level page Short = tree_rows lines level page
+rows_left lines level page (Cut key right) = tree_rows lines level page ++ tree_rows lines level right
+rows_left lines level page (Alone child) = tree_rows lines (level - 1) child
+
+abbrev pub TreeLeft : ℕ → Lines → ℕ → ℕ → ℕ → ℕ → Bool → Outcome → Type 0
+TreeLeft count lines level page low high root Whole = IsTree count lines level page low high root
+TreeLeft count lines level page low high root Short = IsTree count lines level page low high true
+TreeLeft count lines level page low high root (Cut key right) = IsTree count lines level page low (key - 1) false × IsTree count lines level right key high false
+TreeLeft count lines level page low high root (Alone child) = (root ≡ true) × (1 ≤ level) × IsTree count lines (level - 1) child low high true
+
+-- The tree under a page before and after: with these rows, in what stands for the page.
+pub record Became (count : ℕ) (old new : Lines) (level page low high : ℕ) (root : Bool) (outcome : Outcome) (rows' : List Row) (free : List ℕ) : Type 0 where
+  pub rest : List ℕ
+  pub moves : Moves count old new (tree_pages old level page) (pages_left new level page outcome) free rest
+  pub entries : SameEntries old new
+  pub tree : TreeLeft count new level page low high root outcome
+  pub rows : rows_left new level page outcome ≡ rows'
+
+-- A call that changes the rows of the tree under a page by `step`. It is said where there is a tree and a free list.
+abbrev pub Edits : Lines → Lines → ℕ → Expect → Outcome → (List Row → List Row) → Type 0
+Edits old new page expect outcome step =
+    (free : List ℕ) → IsTree expect.pages old expect.level page expect.low expect.high expect.root → IsFreeList old free → ArePart old (tree_pages old expect.level page ++ free)
+    → high_of old ≤ expect.pages
+    → Became expect.pages old new expect.level page expect.low expect.high expect.root outcome (step (tree_rows old expect.level page)) free
+
+-- what an outcome has, whatever the pages hold
+abbrev pub IsSafe : ℕ → Expect → Outcome → Type 0
+IsSafe count expect Whole = Unit {0}
+IsSafe count expect Short = Unit {0}
+IsSafe count expect (Cut key right) = (expect.low < key) × (key ≤ expect.high) × (1 ≤ right) × (right < count)
+IsSafe count expect (Alone child) = (1 ≤ expect.level) × (1 ≤ child) × (child < count)
+
+-- a root at level 3 is not cut
+abbrev pub StaysBelow : Expect → Outcome → Type 0
+StaysBelow expect Whole = Unit {0}
+StaysBelow expect Short = Unit {0}
+StaysBelow expect (Cut key right) = expect.root ≡ true → expect.level ≢ 3
+StaysBelow expect (Alone child) = Unit {0}
+
+-- some children in place of others
+pub record Turns (count : ℕ) (old new : Lines) (level : ℕ) (ss ms : List Child) (high : ℕ) (rows' : List Row) (free : List ℕ) : Type 0 where
+  pub rest : List ℕ
+  pub moves : Moves count old new (pages_of old level ss) (pages_of new level ms) free rest
+  pub entries : SameEntries old new
+  pub trees : Each (λ (s : Span). IsTree count new level s.page s.low s.high false) (spans ms high)
+  pub rows : rows_of new level ms ≡ rows'
+
+abbrev pub both : Pair → List Child
+both pair = (pair.low, pair.left) ∷ (pair.middle, pair.right) ∷ []
+
+-- what is left of two children after a join: the left one, and the right one from a key on where not all went into the left one
+abbrev pub joined : Pair → Option ℕ → List Child
+joined pair None = (pair.low, pair.left) ∷ []
+joined pair (Some key) = (pair.low, pair.left) ∷ (key, pair.right) ∷ []
+
+-- a cut between the two
+abbrev pub IsCutIn : Pair → Option ℕ → Type 0
+IsCutIn pair None = Unit {0}
+IsCutIn pair (Some key) = (pair.low < key) × (key ≤ pair.high)
+
+-- two pages of the store, and keys in order
+pub record IsPair (count : ℕ) (pair : Pair) : Type 0 where
+  pub left_some : 1 ≤ pair.left
+  pub left : pair.left < count
+  pub right_some : 1 ≤ pair.right
+  pub right : pair.right < count
+  pub order : pair.low < pair.middle
+  pub within : pair.middle ≤ pair.high
+
+abbrev pub Joins : ℕ → Lines → Lines → ℕ → Pair → Option ℕ → Type 0
+Joins count old new level pair cut =
+    (free : List ℕ) (left_loose right_loose : Bool) → IsTree count old level pair.left pair.low (pair.middle - 1) left_loose → IsTree count old level pair.right pair.middle pair.high right_loose
+    → (left_loose ≡ false) ⊎ (right_loose ≡ false) → IsFreeList old free → ArePart old (pages_of old level (both pair) ++ free) → high_of old ≤ count
+    → Turns count old new level (both pair) (joined pair cut) pair.high (rows_of old level (both pair)) free
+
+-- the child at a key with its right sibling, or else with its left one
+abbrev pub IsPairAt : List Child → Child → List Child → ℕ → Pair → Type 0
+IsPairAt xs s (y ∷ ys) high pair = pair ≡ record { left = s.1; low = s.0; middle = y.0; right = y.1; high = reach ys high }
+IsPairAt xs s [] high pair = (front : List Child) × (x : Child) × (xs ≡ front ++ x ∷ []) × (pair ≡ record { left = x.1; low = x.0; middle = s.0; right = s.1; high = high })
+
+abbrev pub PairsUp : List Child → ℕ → ℕ → Pair → Type 0
+PairsUp all high key pair = (xs ys : List Child) (s : Child) → s.0 ≡ key → all ≡ xs ++ ((s ∷ []) ++ ys) → IsPairAt xs s ys high pair
+
+-- the page above after the join
+abbrev pub Mended : Expect → List ℕ → List ℕ → Pair → Option ℕ → Fit → Type 0
+Mended expect old new pair cut fit =
+    (xs ys : List Child) → children old ≡ xs ++ (both pair ++ ys) → reach ys expect.high ≡ pair.high → Fits children expect new new (xs ++ (joined pair cut ++ ys)) fit
+
+-- A page whose child at a key may be below the floor is mended: its rows stay.
+abbrev pub Mends : Lines → Lines → ℕ → Expect → ℕ → Outcome → Type 0
+Mends old new page expect key outcome =
+    (level : ℕ) → expect.level ≡ suc level → (free : List ℕ) (xs ys : List Child) (s : Child) → s.0 ≡ key → children (bytes_of old page) ≡ xs ++ ((s ∷ []) ++ ys) → IsWellFormed (bytes_of old page) expect
+    → Each (λ (s : Span). IsTree expect.pages old level s.page s.low s.high false) (spans xs (s.0 - 1)) → IsTree expect.pages old level s.1 s.0 (reach ys expect.high) true
+    → Each (λ (s : Span). IsTree expect.pages old level s.page s.low s.high false) (spans ys expect.high)
+    → IsFreeList old free → ArePart old ((page ∷ pages_of old level (children (bytes_of old page))) ++ free) → high_of old ≤ expect.pages
+    → Became expect.pages old new expect.level page expect.low expect.high expect.root outcome (rows_of old level (children (bytes_of old page))) free
+
+-- the pages that were written
+abbrev pub own : ℕ → Outcome → List ℕ
+own page Whole = page ∷ []
+own page Short = page ∷ []
+own page (Cut key right) = page ∷ right ∷ []
+own page (Alone child) = page ∷ []
+
+abbrev pub Shows : Lines → ℕ → Outcome → List ℕ → List ℕ → Type 0
+Shows lines page Whole left right = bytes_of lines page ≡ left
+Shows lines page Short left right = bytes_of lines page ≡ left
+Shows lines page (Cut key more) left right = (bytes_of lines page ≡ left) × (bytes_of lines more ≡ right)
+Shows lines page (Alone child) left right = ⊥
+
+-- a cut at a key
+abbrev pub IsCutAt : ℕ → ℕ → Outcome → Type 0
+IsCutAt count at Whole = ⊥
+IsCutAt count at Short = ⊥
+IsCutAt count at (Cut key right) = (key ≡ at) × (1 ≤ right) × (right < count)
+IsCutAt count at (Alone child) = ⊥
+
+-- the outcome that the bytes of a page lead to
+abbrev pub IsOutcome : ℕ → Fit → Outcome → Type 0
+IsOutcome count fits.Whole outcome = outcome ≡ Whole
+IsOutcome count fits.Short outcome = outcome ≡ Short
+IsOutcome count (fits.Cut at) outcome = IsCutAt count at outcome
+
+-- the bytes of a page, and those of a further page where it was cut, stand in the store
+pub record Stored (count : ℕ) (old new : Lines) (page : ℕ) (outcome : Outcome) (left right free : List ℕ) : Type 0 where
+  pub rest : List ℕ
+  pub moves : Moves count old new (page ∷ []) (own page outcome) free rest
+  pub entries : SameEntries old new
+  pub shows : Shows new page outcome left right
+
+abbrev pub Stores : ℕ → Lines → Lines → ℕ → Outcome → List ℕ → List ℕ → Type 0
+Stores count old new page outcome left right =
+    (free : List ℕ) → IsFreeList old free → ArePart old (page ∷ free) → high_of old ≤ count → Stored count old new page outcome left right free
+
+-- One more child for an inner page, whose children and their pages are written already.
+pub record Added (old new : Lines) (page : ℕ) (expect : Expect) (all : List Child) (outcome : Outcome) (free : List ℕ) : Type 0 where
+  pub left : List ℕ
+  pub right : List ℕ
+  pub fit : Fit
+  pub stored : Stored expect.pages old new page outcome left right free
+  pub held : Fits children expect left right all fit
+  pub is : IsOutcome expect.pages fit outcome
+  pub long : fit ≢ fits.Short
+
+abbrev pub AddsChild : Lines → Lines → ℕ → Expect → ℕ → ℕ → Outcome → Type 0
+AddsChild old new page expect key child outcome =
+    (free : List ℕ) → IsFreeList old free → ArePart old (page ∷ free) → high_of old ≤ expect.pages
+    → Added old new page expect (child_put key child (children (bytes_of old page))) outcome free
+
+-- a new root over two pages
+abbrev pub IsNewRoot : List ℕ → ℕ → ℕ → ℕ → ℕ → ℕ → Type 0
+IsNewRoot bytes level first key second count = Holds children (record { level = level; low = 0; high = last_key; root = true; pages = count }) bytes ((0, first) ∷ (key, second) ∷ [])
+
+-- the root after a call that did not cut it
+abbrev pub root_left : Root → Outcome → Root
+root_left root Whole = root
+root_left root Short = root
+root_left root (Cut key right) = root
+root_left root (Alone child) = record { page = child; levels = root.levels - 1 }
+
+-- the first of the rows whose key is not below the key
+abbrev pub place_of : ℕ → List Row → ℕ
+place_of key [] = 0
+place_of key (row ∷ rows) = if nat_lt row.0 key then suc (place_of key rows) else 0
+
+-- whether the rows begin with one of the key
+abbrev pub is_first : ℕ → List Row → Bool
+is_first key [] = false
+is_first key (row ∷ rows) = row.0 == key
+
+-- whether the row at that place has the key
+abbrev pub has_row : ℕ → List Row → Bool
+has_row key rows = is_first key (drop (place_of key rows) rows)
+
+-- the same of children
+abbrev pub child_place : ℕ → List Child → ℕ
+child_place key [] = 0
+child_place key (child ∷ rest) = if nat_lt child.0 key then suc (child_place key rest) else 0
+
+abbrev pub is_child_first : ℕ → List Child → Bool
+is_child_first key [] = false
+is_child_first key (child ∷ rest) = child.0 == key
+
+abbrev pub has_child : ℕ → List Child → Bool
+has_child key cs = is_child_first key (drop (child_place key cs) cs)
+
+-- what the children of a page of a tree are
+pub record AreChildren (expect : Expect) (cs : List Child) : Type 0 where
+  pub begins : begins_at expect.low cs ≡ true
+  pub order : Ascends expect.low expect.high (first_keys cs)
+  pub below : list_all (is_page_below expect.pages) cs ≡ true
+  pub full : (expect.root || nat_le 80 (length cs)) ≡ true
+  pub some : 2 ≤ length cs
+
+-- what is expected of the left and the right one of two neighbours, either of which may be below the floor, and of a page
+-- with the entries of both
+abbrev pub left_of : ℕ → ℕ → Pair → Expect
+left_of count level pair = record { level = level; low = pair.low; high = pair.middle - 1; root = true; pages = count }
+
+abbrev pub right_of : ℕ → ℕ → Pair → Expect
+right_of count level pair = record { level = level; low = pair.middle; high = pair.high; root = true; pages = count }
+
+abbrev pub whole_of : ℕ → ℕ → Pair → Expect
+whole_of count level pair = record { level = level; low = pair.low; high = pair.high; root = false; pages = count }
+
+-- the bytes of two neighbours after a join: all entries in the left one, or in both
+abbrev pub Merges : {X : Type 0} → (List ℕ → List X) → Expect → List ℕ → List ℕ → List X → Option ℕ → Type 0
+Merges entries expect left right all None = Holds entries expect left all
+Merges entries expect left right all (Some key) = Divides entries expect left right all key
+
+-- a page that has as much as it has to
+abbrev pub IsEnoughLeaf : List ℕ → Type 0
+IsEnoughLeaf bytes = 1344 ≤ row_bytes (leaf_rows bytes)
+
+abbrev pub IsEnoughInner : List ℕ → Type 0
+IsEnoughInner bytes = 80 ≤ length (children bytes)
+
+-- the lines that are written for a page of which so many changed
+abbrev pub spent : ℕ → Fit → ℕ
+spent n fits.Whole = n
+spent n fits.Short = n
+spent n (fits.Cut key) = 129
+
+-- the lines that were written for a tree of this level
+abbrev pub IsSpent : ℕ → ℕ → ℕ → Outcome → Type 0
+IsSpent level old new Whole = old ≤ new + max (129 * level + 129) (189 * level + 33)
+IsSpent level old new Short = old ≤ new + (189 * level + 33)
+IsSpent level old new (Cut key right) = old ≤ new + (129 * level + 129)
+IsSpent level old new (Alone child) = old ≤ new + max (129 * level + 129) (189 * level + 33)
+
+-- two neighbours that were written: the left one with these bytes, and the right one given back, or written too
+pub record WritesJoined (count : ℕ) (old new : Lines) (pair : Pair) (left : List ℕ) : Type 0 where
+  pub between : Lines
+  pub first : Rewrites pair.left left old between
+  pub gives : Gives count between new pair.right
+
+pub record WritesDivided (old new : Lines) (pair : Pair) (left right : List ℕ) : Type 0 where
+  pub between : Lines
+  pub first : Rewrites pair.left left old between
+  pub second : Rewrites pair.right right between new
+
+abbrev pub after_fit : Fit → Outcome
+after_fit fits.Whole = Whole
+after_fit fits.Short = Short
+after_fit (fits.Cut key) = Whole
+
+-- The page above after a join: written with its children, or given back where one is left.
+pub record MendWritten (old new : Lines) (page : ℕ) (expect : Expect) (pair : Pair) (cut : Option ℕ) (outcome : Outcome) : Type 0 where
+  pub fit : Fit
+  pub bytes : List ℕ
+  pub mended : Mended expect (bytes_of old page) bytes pair cut fit
+  pub wrote : Rewrites page bytes old new
+  pub uncut : (key : ℕ) → fit ≢ fits.Cut key
+  pub is : outcome ≡ after_fit fit
+
+pub record MendGiven (count : ℕ) (old new : Lines) (page : ℕ) (pair : Pair) (cut : Option ℕ) (outcome : Outcome) : Type 0 where
+  pub few : entry_count (bytes_of old page) < 3
+  pub none : cut ≡ None
+  pub gives : Gives count old new page
+  pub is : outcome ≡ Alone pair.left
+
+abbrev pub Rewritten : ℕ → Lines → Lines → ℕ → Expect → Pair → Option ℕ → Outcome → Type 0
+Rewritten count old new page expect pair cut outcome = MendWritten old new page expect pair cut outcome ⊎ MendGiven count old new page pair cut outcome

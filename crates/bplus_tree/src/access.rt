@@ -1,0 +1,173 @@
+//! The calls on pages that the changes of a tree are made of, with the damage that they show in the words of trees.
+ghost use Rattle.std.specs.Prelude.{◌≡◌, ◌≢◌, ◌+◌, ◌*◌, ◌<◌, ◌≤◌, ℕ, List, length, true, IsTrue, OnOk, IfOk};
+ghost use Rattle.line_pages.specs.Bytes.{bytes_of};
+ghost use Rattle.line_pages.specs.Standing.{Continues, HasCause, Never, KeepsLines};
+ghost use Rattle.slotted_page.specs.Node.{IsWellFormed};
+ghost use Rattle.slotted_page.specs.Search.{is_root_span, IsSpot, IsSafeSpot};
+ghost use Rattle.slotted_page.specs.Work.{KeepsOthers};
+ghost use Rattle.bplus_tree.specs.Damage.{IsTreeDamage};
+ghost use Rattle.bplus_tree.specs.Moves.{Takes, Gives};
+ghost use Rattle.bplus_tree.specs.Written.{Rewrites, lines_changed};
+ghost use Rattle.bplus_tree.specs.Edit.{IsOutcome, IsCutAt, Stores, spent};
+
+use crate::outcome::{Fit, Outcome};
+use crate::space::{give_page, take_page};
+use crate::write::write_changes;
+use line_pages::{Pages, Stop, copy_page};
+use slotted_page::{Expect, Spot, Work, find, read_page};
+use ssd_model::PageBuf;
+
+/// Looks a key up in a page.
+pub fn look<P: Pages>(
+    pages: &mut P,
+    page: u64,
+    expect: &Expect,
+    key: u64,
+    work: &mut Work,
+) -> Result<Spot, Stop>
+    requires ready { P.is_ready pages.old }
+    requires page { page < (P.standing pages.old).count }
+    requires pages { expect.now.pages ≡ (P.standing pages.old).count }
+    requires root { is_root_span expect.now.low expect.now.high ≡ true → expect.now.root ≡ true }
+    requires above { expect.now.low ≤ key }
+    requires within { key ≤ expect.now.high }
+    ensures spot { IsTrue (P.standing pages.old).told → IsWellFormed (bytes_of (P.standing pages.old).current page) expect.now → IfOk result (IsSpot (bytes_of (P.standing pages.old).current page) expect.now key) }
+    ensures safe { IfOk result (IsSafeSpot expect.now key) }
+    ensures keeps { OnOk result (KeepsLines (P.standing pages.old) (P.standing pages.new)) }
+    ensures cause { HasCause (IsTreeDamage (P.standing pages.old).told (P.standing pages.old).count work.new.page) (P.standing pages.old) (P.standing pages.new) result }
+    ensures continues { Continues (P.may_leave pages.old) (P.may_leave pages.new) (P.is_steady pages.old) (P.standing pages.old) (P.standing pages.new) }
+    ensures few { (P.standing pages.new).visits ≤ (P.standing pages.old).visits + 1 }
+    ensures ready { OnOk result (P.is_ready pages.new) }
+    ensures steady { P.is_steady pages.old → OnOk result (P.is_steady pages.new) }
+{
+    find(pages, page, expect, key, work)
+}
+
+/// Reads a whole page and checks it.
+pub fn load<P: Pages>(
+    pages: &mut P,
+    page: u64,
+    expect: &Expect,
+    work: &mut Work,
+) -> Result<(), Stop>
+    requires ready { P.is_ready pages.old }
+    requires page { page < (P.standing pages.old).count }
+    requires pages { expect.now.pages ≡ (P.standing pages.old).count }
+    requires root { is_root_span expect.now.low expect.now.high ≡ true → expect.now.root ≡ true }
+    ensures well { OnOk result (IsWellFormed work.new.page expect.now) }
+    ensures bytes { IsTrue (P.standing pages.old).told → OnOk result (work.new.page ≡ bytes_of (P.standing pages.old).current page) }
+    ensures others { KeepsOthers work.old work.new }
+    ensures keeps { OnOk result (KeepsLines (P.standing pages.old) (P.standing pages.new)) }
+    ensures cause { HasCause (IsTreeDamage (P.standing pages.old).told (P.standing pages.old).count work.new.page) (P.standing pages.old) (P.standing pages.new) result }
+    ensures continues { Continues (P.may_leave pages.old) (P.may_leave pages.new) (P.is_steady pages.old) (P.standing pages.old) (P.standing pages.new) }
+    ensures few { (P.standing pages.new).visits ≤ (P.standing pages.old).visits + 1 }
+    ensures ready { OnOk result (P.is_ready pages.new) }
+    ensures steady { P.is_steady pages.old → OnOk result (P.is_steady pages.new) }
+{
+    read_page(pages, page, expect, work)
+}
+
+/// Takes a page for a tree.
+pub fn take<P: Pages>(pages: &mut P, work: &mut Work) -> Result<u64, Stop>
+    requires ready { P.is_ready pages.old }
+    requires room { 1 ≤ (P.standing pages.old).room }
+    ensures moves { IsTrue (P.standing pages.old).told → IfOk result (Takes (P.standing pages.old).count (P.standing pages.old).current (P.standing pages.new).current) }
+    ensures in_range { IfOk result (λ page. (1 ≤ page) × (page < (P.standing pages.old).count)) }
+    ensures room { OnOk result ((P.standing pages.new).room + 1 ≡ (P.standing pages.old).room) }
+    ensures work { OnOk result (work.new ≡ work.old) }
+    ensures cause { HasCause (IsTreeDamage (P.standing pages.old).told (P.standing pages.old).count work.new.page) (P.standing pages.old) (P.standing pages.new) result }
+    ensures continues { Continues (P.may_leave pages.old) (P.may_leave pages.new) (P.is_steady pages.old) (P.standing pages.old) (P.standing pages.new) }
+    ensures few { (P.standing pages.new).visits ≤ (P.standing pages.old).visits + 4 }
+    ensures ready { OnOk result (P.is_ready pages.new) }
+    ensures steady { P.is_steady pages.old → OnOk result (P.is_steady pages.new) }
+{
+    take_page(pages, work)
+}
+
+/// Gives a page back.
+pub fn give<P: Pages>(pages: &mut P, work: &mut Work, page: u64) -> Result<(), Stop>
+    requires ready { P.is_ready pages.old }
+    requires some { 1 ≤ page }
+    requires page { page < (P.standing pages.old).count }
+    requires room { 2 ≤ (P.standing pages.old).room }
+    ensures moves { IsTrue (P.standing pages.old).told → OnOk result (Gives (P.standing pages.old).count (P.standing pages.old).current (P.standing pages.new).current page) }
+    ensures room { OnOk result ((P.standing pages.new).room + 2 ≡ (P.standing pages.old).room) }
+    ensures work { OnOk result (work.new ≡ work.old) }
+    ensures cause { HasCause (IsTreeDamage (P.standing pages.old).told (P.standing pages.old).count work.new.page) (P.standing pages.old) (P.standing pages.new) result }
+    ensures continues { Continues (P.may_leave pages.old) (P.may_leave pages.new) (P.is_steady pages.old) (P.standing pages.old) (P.standing pages.new) }
+    ensures few { (P.standing pages.new).visits ≤ (P.standing pages.old).visits + 4 }
+    ensures ready { OnOk result (P.is_ready pages.new) }
+    ensures steady { P.is_steady pages.old → OnOk result (P.is_steady pages.new) }
+{
+    give_page(pages, work, page)
+}
+
+/// Writes all bytes of a page, by the lines in which they differ from those that stand there.
+pub fn write_new<P: Pages>(
+    pages: &mut P,
+    page: u64,
+    bytes: &PageBuf,
+    spare: &mut PageBuf,
+) -> Result<(), Stop>
+    requires ready { P.is_ready pages.old }
+    requires page { page < (P.standing pages.old).count }
+    requires room { 64 ≤ (P.standing pages.old).room }
+    ensures writes { IsTrue (P.standing pages.old).told → OnOk result (Rewrites page bytes.now (P.standing pages.old).current (P.standing pages.new).current) }
+    ensures room { OnOk result ((P.standing pages.old).room ≤ (P.standing pages.new).room + 64) }
+    ensures cause { HasCause Never (P.standing pages.old) (P.standing pages.new) result }
+    ensures continues { Continues (P.may_leave pages.old) (P.may_leave pages.new) (P.is_steady pages.old) (P.standing pages.old) (P.standing pages.new) }
+    ensures few { (P.standing pages.new).visits ≤ (P.standing pages.old).visits + 2 }
+    ensures ready { OnOk result (P.is_ready pages.new) }
+    ensures steady { P.is_steady pages.old → OnOk result (P.is_steady pages.new) }
+{
+    copy_page(pages, page, spare)?;
+    write_changes(pages, page, spare, bytes)
+}
+
+/// Writes a page that was cut, and takes a further page for its right part.
+fn store_cut<P: Pages>(pages: &mut P, page: u64, key: u64, work: &mut Work) -> Result<Outcome, Stop>
+    requires ready { P.is_ready pages.old }
+    requires page { page < (P.standing pages.old).count }
+    requires room { 129 ≤ (P.standing pages.old).room }
+    ensures stores { IsTrue (P.standing pages.old).told → work.old.spare ≡ bytes_of (P.standing pages.old).current page → IfOk result (λ outcome. Stores (P.standing pages.old).count (P.standing pages.old).current (P.standing pages.new).current page outcome work.old.page work.old.right) }
+    ensures is { IfOk result (IsCutAt (P.standing pages.old).count key) }
+    ensures room { OnOk result ((P.standing pages.old).room ≤ (P.standing pages.new).room + 129) }
+    ensures cause { HasCause (IsTreeDamage (P.standing pages.old).told (P.standing pages.old).count work.new.page) (P.standing pages.old) (P.standing pages.new) result }
+    ensures continues { Continues (P.may_leave pages.old) (P.may_leave pages.new) (P.is_steady pages.old) (P.standing pages.old) (P.standing pages.new) }
+    ensures few { (P.standing pages.new).visits ≤ (P.standing pages.old).visits + 7 }
+    ensures ready { OnOk result (P.is_ready pages.new) }
+    ensures steady { P.is_steady pages.old → OnOk result (P.is_steady pages.new) }
+{
+    write_changes(pages, page, &work.spare, &work.page)?;
+    let right = take(pages, work)?;
+    write_new(pages, right, &work.right, &mut work.spare)?;
+    Ok(Outcome::Cut(key, right))
+}
+
+/// Writes a page whose old bytes stand in `spare` and its new ones in `page`, and takes a further page for those in `right`
+/// where it was cut.
+pub fn store<P: Pages>(pages: &mut P, page: u64, fit: Fit, work: &mut Work) -> Result<Outcome, Stop>
+    requires ready { P.is_ready pages.old }
+    requires page { page < (P.standing pages.old).count }
+    requires room { spent (lines_changed work.old.spare work.old.page) fit ≤ (P.standing pages.old).room }
+    ensures stores { IsTrue (P.standing pages.old).told → work.old.spare ≡ bytes_of (P.standing pages.old).current page → IfOk result (λ outcome. Stores (P.standing pages.old).count (P.standing pages.old).current (P.standing pages.new).current page outcome work.old.page work.old.right) }
+    ensures is { IfOk result (IsOutcome (P.standing pages.old).count fit) }
+    ensures room { OnOk result ((P.standing pages.old).room ≤ (P.standing pages.new).room + spent (lines_changed work.old.spare work.old.page) fit) }
+    ensures cause { HasCause (IsTreeDamage (P.standing pages.old).told (P.standing pages.old).count work.new.page) (P.standing pages.old) (P.standing pages.new) result }
+    ensures continues { Continues (P.may_leave pages.old) (P.may_leave pages.new) (P.is_steady pages.old) (P.standing pages.old) (P.standing pages.new) }
+    ensures few { (P.standing pages.new).visits ≤ (P.standing pages.old).visits + 7 }
+    ensures ready { OnOk result (P.is_ready pages.new) }
+    ensures steady { P.is_steady pages.old → OnOk result (P.is_steady pages.new) }
+{
+    match fit {
+        Fit::Whole => {
+            write_changes(pages, page, &work.spare, &work.page)?;
+            Ok(Outcome::Whole)
+        }
+        Fit::Short => {
+            write_changes(pages, page, &work.spare, &work.page)?;
+            Ok(Outcome::Short)
+        }
+        Fit::Cut(key) => store_cut(pages, page, key, work),
+    }
+}

@@ -1,0 +1,348 @@
+//! Changes of the tree under a page, by recursion on its level.
+ghost use Rattle.std.specs.Prelude.{◌≡◌, ◌≢◌, ◌+◌, ◌-◌, ◌*◌, ◌<◌, ◌≤◌, ◌==◌, ℕ, List, length, true, false, None, IsTrue, OnOk, IfOk, IfErr, Err};
+ghost use Rattle.std.specs.List.{list_all};
+ghost use Rattle.line_pages.specs.Bytes.{bytes_of};
+ghost use Rattle.line_pages.specs.Standing.{Continues, HasCause, IsCause};
+ghost use Rattle.slotted_page.specs.Rows.{row_put, row_delete};
+ghost use Rattle.slotted_page.specs.Node.{IsWellFormed, entry_count, is_printable};
+ghost use Rattle.slotted_page.specs.Search.{is_root_span};
+ghost use Rattle.bplus_tree.specs.Damage.{IsTreeDamage, IsFullRoot};
+ghost use Rattle.bplus_tree.specs.Edit.{Edits, Mends, AddsChild, IsSafe, IsSpent, StaysBelow, IsPair, IsCutIn, Rewritten, after_fit};
+ghost use Rattle.bplus_tree.specs.Written.{Rewrites, lines_changed};
+
+use crate::access::{give, load, look, store};
+use crate::inner_edit::{inner_put, mend_divided, mend_joined};
+use crate::joining::join;
+use crate::leaf_edit::{leaf_delete, leaf_put};
+use crate::outcome::{Fit, Outcome, Pair};
+use crate::pair::pair_of;
+use crate::root::child_expect;
+use crate::write::write_changes;
+use line_pages::{Evidence, Pages, Stop, page_word};
+use slotted_page::{Expect, Spot, Work};
+use ssd_model::PageBuf;
+
+/// A put into a leaf.
+fn put_leaf<P: Pages>(
+    pages: &mut P,
+    page: u64,
+    expect: &Expect,
+    key: u64,
+    value: &[u8],
+    work: &mut Work,
+) -> Result<Outcome, Stop>
+    requires ready { P.is_ready pages.old }
+    requires page { page < (P.standing pages.old).count }
+    requires pages { expect.now.pages ≡ (P.standing pages.old).count }
+    requires root { is_root_span expect.now.low expect.now.high ≡ true → expect.now.root ≡ true }
+    requires level { expect.now.level ≡ 0 }
+    requires above { expect.now.low ≤ key }
+    requires within { key ≤ expect.now.high }
+    requires size { length value.now ≤ 480 }
+    requires printable { list_all is_printable value.now ≡ true }
+    requires room { 129 ≤ (P.standing pages.old).room }
+    ensures safe { IfOk result (IsSafe (P.standing pages.old).count expect.now) }
+    ensures below { IfOk result (StaysBelow expect.now) }
+    ensures edits { IsTrue (P.standing pages.old).told → IfOk result (λ outcome. Edits (P.standing pages.old).current (P.standing pages.new).current page expect.now outcome (row_put key value.now)) }
+    ensures room { IfOk result (IsSpent 0 (P.standing pages.old).room (P.standing pages.new).room) }
+    ensures cause { HasCause (IsTreeDamage (P.standing pages.old).told (P.standing pages.old).count work.new.page) (P.standing pages.old) (P.standing pages.new) result }
+    ensures continues { Continues (P.may_leave pages.old) (P.may_leave pages.new) (P.is_steady pages.old) (P.standing pages.old) (P.standing pages.new) }
+    ensures few { (P.standing pages.new).visits ≤ (P.standing pages.old).visits + 8 }
+    ensures ready { OnOk result (P.is_ready pages.new) }
+    ensures steady { P.is_steady pages.old → OnOk result (P.is_steady pages.new) }
+{
+    load(pages, page, expect, work)?;
+    work.spare.copy_from(&work.page);
+    let fit = leaf_put(&mut work.page, &mut work.right, expect, key, value);
+    store(pages, page, fit, work)
+}
+
+/// A delete in a leaf.
+fn delete_leaf<P: Pages>(
+    pages: &mut P,
+    page: u64,
+    expect: &Expect,
+    key: u64,
+    work: &mut Work,
+) -> Result<Outcome, Stop>
+    requires ready { P.is_ready pages.old }
+    requires page { page < (P.standing pages.old).count }
+    requires pages { expect.now.pages ≡ (P.standing pages.old).count }
+    requires root { is_root_span expect.now.low expect.now.high ≡ true → expect.now.root ≡ true }
+    requires level { expect.now.level ≡ 0 }
+    requires room { 33 ≤ (P.standing pages.old).room }
+    ensures safe { IfOk result (IsSafe (P.standing pages.old).count expect.now) }
+    ensures edits { IsTrue (P.standing pages.old).told → IfOk result (λ outcome. Edits (P.standing pages.old).current (P.standing pages.new).current page expect.now outcome (row_delete key)) }
+    ensures uncut { IfOk result (λ outcome. (k r : ℕ) → outcome ≢ Outcome.Cut k r) }
+    ensures room { IfOk result (IsSpent 0 (P.standing pages.old).room (P.standing pages.new).room) }
+    ensures cause { HasCause (IsTreeDamage (P.standing pages.old).told (P.standing pages.old).count work.new.page) (P.standing pages.old) (P.standing pages.new) result }
+    ensures continues { Continues (P.may_leave pages.old) (P.may_leave pages.new) (P.is_steady pages.old) (P.standing pages.old) (P.standing pages.new) }
+    ensures few { (P.standing pages.new).visits ≤ (P.standing pages.old).visits + 8 }
+    ensures ready { OnOk result (P.is_ready pages.new) }
+    ensures steady { P.is_steady pages.old → OnOk result (P.is_steady pages.new) }
+{
+    load(pages, page, expect, work)?;
+    work.spare.copy_from(&work.page);
+    let fit = leaf_delete(&mut work.page, expect, key);
+    store(pages, page, fit, work)
+}
+
+/// Whether a page is a root at level 3 with no room for a further child.
+fn is_full_root(page: &PageBuf, expect: &Expect) -> bool
+    ensures level { result ≡ true → expect.now.level ≡ 3 }
+    ensures root { result ≡ true → expect.now.root ≡ true }
+    ensures full { result ≡ true → entry_count page.now ≡ 240 }
+    ensures room { result ≡ false → expect.now.root ≡ true → expect.now.level ≡ 3 → entry_count page.now ≢ 240 }
+{
+    expect.root && expect.level == 3 && page_word(page, 8) == 240
+}
+
+/// One more child for an inner page. `Damaged` comes with check 39 where the page is a root at level 3 that has 240.
+fn add_child<P: Pages>(
+    pages: &mut P,
+    page: u64,
+    expect: &Expect,
+    key: u64,
+    child: u64,
+    work: &mut Work,
+) -> Result<Outcome, Stop>
+    requires ready { P.is_ready pages.old }
+    requires page { page < (P.standing pages.old).count }
+    requires pages { expect.now.pages ≡ (P.standing pages.old).count }
+    requires root { is_root_span expect.now.low expect.now.high ≡ true → expect.now.root ≡ true }
+    requires span { expect.now.root ≡ true → is_root_span expect.now.low expect.now.high ≡ true }
+    requires level { 1 ≤ expect.now.level }
+    requires above { expect.now.low < key }
+    requires within { key ≤ expect.now.high }
+    requires some { 1 ≤ child }
+    requires below { child < expect.now.pages }
+    requires room { 129 ≤ (P.standing pages.old).room }
+    ensures safe { IfOk result (IsSafe (P.standing pages.old).count expect.now) }
+    ensures below { IfOk result (StaysBelow expect.now) }
+    ensures adds { IsTrue (P.standing pages.old).told → IfOk result (λ outcome. AddsChild (P.standing pages.old).current (P.standing pages.new).current page expect.now key child outcome) }
+    ensures long { IfOk result (λ outcome. outcome ≢ Outcome.Short) }
+    ensures room { OnOk result ((P.standing pages.old).room ≤ (P.standing pages.new).room + 129) }
+    ensures cause { HasCause (IsTreeDamage (P.standing pages.old).told (P.standing pages.old).count work.new.page) (P.standing pages.old) (P.standing pages.new) result }
+    ensures continues { Continues (P.may_leave pages.old) (P.may_leave pages.new) (P.is_steady pages.old) (P.standing pages.old) (P.standing pages.new) }
+    ensures few { (P.standing pages.new).visits ≤ (P.standing pages.old).visits + 8 }
+    ensures ready { OnOk result (P.is_ready pages.new) }
+    ensures steady { P.is_steady pages.old → OnOk result (P.is_steady pages.new) }
+{
+    load(pages, page, expect, work)?;
+    if is_full_root(&work.page, expect) {
+        return Err(full_root(page, expect));
+    }
+    work.spare.copy_from(&work.page);
+    let fit = inner_put(&mut work.page, &mut work.right, expect, key, child);
+    store(pages, page, fit, work)
+}
+
+/// The stop for a root that would have to be cut and cannot.
+fn full_root(page: u64, expect: &Expect) -> Stop
+    ensures { result ≡ Stop.Damaged (Evidence.Page page expect.now.level expect.now.low expect.now.high 39) }
+{
+    Stop::Damaged(Evidence::Page {
+        page,
+        level: expect.level,
+        low: expect.low,
+        high: expect.high,
+        check: 39,
+    })
+}
+
+/// A put into the tree under a page.
+pub fn put_in<P: Pages>(
+    pages: &mut P,
+    page: u64,
+    expect: &Expect,
+    key: u64,
+    value: &[u8],
+    work: &mut Work,
+) -> Result<Outcome, Stop>
+    requires ready { P.is_ready pages.old }
+    requires page { page < (P.standing pages.old).count }
+    requires pages { expect.now.pages ≡ (P.standing pages.old).count }
+    requires root { is_root_span expect.now.low expect.now.high ≡ true → expect.now.root ≡ true }
+    requires span { expect.now.root ≡ true → is_root_span expect.now.low expect.now.high ≡ true }
+    requires some { 1 ≤ page }
+    requires above { expect.now.low ≤ key }
+    requires within { key ≤ expect.now.high }
+    requires size { length value.now ≤ 480 }
+    requires printable { list_all is_printable value.now ≡ true }
+    requires cut_room { 129 * expect.now.level + 129 ≤ (P.standing pages.old).room }
+    requires join_room { 189 * expect.now.level + 33 ≤ (P.standing pages.old).room }
+    ensures safe { IfOk result (IsSafe (P.standing pages.old).count expect.now) }
+    ensures below { IfOk result (StaysBelow expect.now) }
+    ensures edits { IsTrue (P.standing pages.old).told → IfOk result (λ outcome. Edits (P.standing pages.old).current (P.standing pages.new).current page expect.now outcome (row_put key value.now)) }
+    ensures room { IfOk result (IsSpent expect.now.level (P.standing pages.old).room (P.standing pages.new).room) }
+    ensures cause { HasCause (IsTreeDamage (P.standing pages.old).told (P.standing pages.old).count work.new.page) (P.standing pages.old) (P.standing pages.new) result }
+    ensures continues { Continues (P.may_leave pages.old) (P.may_leave pages.new) (P.is_steady pages.old) (P.standing pages.old) (P.standing pages.new) }
+    ensures few { (P.standing pages.new).visits ≤ (P.standing pages.old).visits + 14 * expect.now.level + 10 }
+    ensures ready { OnOk result (P.is_ready pages.new) }
+    ensures steady { P.is_steady pages.old → OnOk result (P.is_steady pages.new) }
+{
+    match look(pages, page, expect, key, work)? {
+        Spot::Child(_, child, low, high) => {
+            let lower = child_expect(expect, low, high);
+            match put_in(pages, child, &lower, key, value, work)? {
+                Outcome::Whole => Ok(Outcome::Whole),
+                Outcome::Short => mend(pages, page, expect, low, work),
+                Outcome::Cut(separator, right) => {
+                    add_child(pages, page, expect, separator, right, work)
+                }
+                Outcome::Alone(_) => Ok(Outcome::Whole),
+            }
+        }
+        _ => put_leaf(pages, page, expect, key, value, work),
+    }
+}
+
+/// A delete in the tree under a page.
+pub fn delete_in<P: Pages>(
+    pages: &mut P,
+    page: u64,
+    expect: &Expect,
+    key: u64,
+    work: &mut Work,
+) -> Result<Outcome, Stop>
+    requires ready { P.is_ready pages.old }
+    requires page { page < (P.standing pages.old).count }
+    requires pages { expect.now.pages ≡ (P.standing pages.old).count }
+    requires root { is_root_span expect.now.low expect.now.high ≡ true → expect.now.root ≡ true }
+    requires some { 1 ≤ page }
+    requires above { expect.now.low ≤ key }
+    requires within { key ≤ expect.now.high }
+    requires room { 189 * expect.now.level + 33 ≤ (P.standing pages.old).room }
+    ensures safe { IfOk result (IsSafe (P.standing pages.old).count expect.now) }
+    ensures edits { IsTrue (P.standing pages.old).told → IfOk result (λ outcome. Edits (P.standing pages.old).current (P.standing pages.new).current page expect.now outcome (row_delete key)) }
+    ensures uncut { IfOk result (λ outcome. (k r : ℕ) → outcome ≢ Outcome.Cut k r) }
+    ensures room { IfOk result (IsSpent expect.now.level (P.standing pages.old).room (P.standing pages.new).room) }
+    ensures cause { HasCause (IsTreeDamage (P.standing pages.old).told (P.standing pages.old).count work.new.page) (P.standing pages.old) (P.standing pages.new) result }
+    ensures continues { Continues (P.may_leave pages.old) (P.may_leave pages.new) (P.is_steady pages.old) (P.standing pages.old) (P.standing pages.new) }
+    ensures few { (P.standing pages.new).visits ≤ (P.standing pages.old).visits + 14 * expect.now.level + 10 }
+    ensures ready { OnOk result (P.is_ready pages.new) }
+    ensures steady { P.is_steady pages.old → OnOk result (P.is_steady pages.new) }
+{
+    match look(pages, page, expect, key, work)? {
+        Spot::Child(_, child, low, high) => {
+            let lower = child_expect(expect, low, high);
+            match delete_in(pages, child, &lower, key, work)? {
+                Outcome::Whole => Ok(Outcome::Whole),
+                Outcome::Short => mend(pages, page, expect, low, work),
+                Outcome::Cut(_, _) => Ok(Outcome::Whole),
+                Outcome::Alone(_) => Ok(Outcome::Whole),
+            }
+        }
+        _ => delete_leaf(pages, page, expect, key, work),
+    }
+}
+
+/// Joins the child at a key with its right sibling, or else with its left one.
+fn mend<P: Pages>(
+    pages: &mut P,
+    page: u64,
+    expect: &Expect,
+    key: u64,
+    work: &mut Work,
+) -> Result<Outcome, Stop>
+    requires ready { P.is_ready pages.old }
+    requires page { page < (P.standing pages.old).count }
+    requires pages { expect.now.pages ≡ (P.standing pages.old).count }
+    requires root { is_root_span expect.now.low expect.now.high ≡ true → expect.now.root ≡ true }
+    requires some { 1 ≤ page }
+    requires level { 1 ≤ expect.now.level }
+    requires room { 189 ≤ (P.standing pages.old).room }
+    ensures safe { IfOk result (IsSafe (P.standing pages.old).count expect.now) }
+    ensures mends { IsTrue (P.standing pages.old).told → IfOk result (Mends (P.standing pages.old).current (P.standing pages.new).current page expect.now key) }
+    ensures uncut { IfOk result (λ outcome. (k r : ℕ) → outcome ≢ Outcome.Cut k r) }
+    ensures room { OnOk result ((P.standing pages.old).room ≤ (P.standing pages.new).room + 189) }
+    ensures cause { HasCause (IsTreeDamage (P.standing pages.old).told (P.standing pages.old).count work.new.page) (P.standing pages.old) (P.standing pages.new) result }
+    ensures continues { Continues (P.may_leave pages.old) (P.may_leave pages.new) (P.is_steady pages.old) (P.standing pages.old) (P.standing pages.new) }
+    ensures few { (P.standing pages.new).visits ≤ (P.standing pages.old).visits + 13 }
+    ensures ready { OnOk result (P.is_ready pages.new) }
+    ensures steady { P.is_steady pages.old → OnOk result (P.is_steady pages.new) }
+{
+    load(pages, page, expect, work)?;
+    let pair = pair_of(&work.page, expect, key);
+    let cut = join(pages, &pair, expect.level - 1, expect.pages, work)?;
+    rewrite(pages, page, expect, &pair, cut, work)
+}
+
+/// Writes the page above two neighbours after they were joined, or gives it back where it has one child left.
+fn rewrite<P: Pages>(
+    pages: &mut P,
+    page: u64,
+    expect: &Expect,
+    pair: &Pair,
+    cut: Option<u64>,
+    work: &mut Work,
+) -> Result<Outcome, Stop>
+    requires ready { P.is_ready pages.old }
+    requires page { page < (P.standing pages.old).count }
+    requires pages { expect.now.pages ≡ (P.standing pages.old).count }
+    requires root { is_root_span expect.now.low expect.now.high ≡ true → expect.now.root ≡ true }
+    requires some { 1 ≤ page }
+    requires level { 1 ≤ expect.now.level }
+    requires pair { IsPair expect.now.pages pair.now }
+    requires cut { IsCutIn pair.now cut }
+    requires room { 61 ≤ (P.standing pages.old).room }
+    ensures safe { IfOk result (IsSafe (P.standing pages.old).count expect.now) }
+    ensures rewrites { IsTrue (P.standing pages.old).told → IfOk result (Rewritten (P.standing pages.old).count (P.standing pages.old).current (P.standing pages.new).current page expect.now pair.now cut) }
+    ensures uncut { IfOk result (λ outcome. (k r : ℕ) → outcome ≢ Outcome.Cut k r) }
+    ensures room { OnOk result ((P.standing pages.old).room ≤ (P.standing pages.new).room + 61) }
+    ensures cause { HasCause (IsTreeDamage (P.standing pages.old).told (P.standing pages.old).count work.new.page) (P.standing pages.old) (P.standing pages.new) result }
+    ensures continues { Continues (P.may_leave pages.old) (P.may_leave pages.new) (P.is_steady pages.old) (P.standing pages.old) (P.standing pages.new) }
+    ensures few { (P.standing pages.new).visits ≤ (P.standing pages.old).visits + 5 }
+    ensures ready { OnOk result (P.is_ready pages.new) }
+    ensures steady { P.is_steady pages.old → OnOk result (P.is_steady pages.new) }
+{
+    load(pages, page, expect, work)?;
+    work.spare.copy_from(&work.page);
+    match cut {
+        Some(key) => {
+            let fit = mend_divided(&mut work.page, expect, pair, key);
+            keep(pages, page, fit, work)
+        }
+        None => {
+            if page_word(&work.page, 8) < 3 {
+                give(pages, work, page)?;
+                return Ok(Outcome::Alone(pair.left));
+            }
+            let fit = mend_joined(&mut work.page, expect, pair);
+            keep(pages, page, fit, work)
+        }
+    }
+}
+
+/// What stands for a page that was not cut.
+fn outcome_of(fit: Fit) -> Outcome
+    ensures is { result ≡ after_fit fit }
+    ensures uncut { (k r : ℕ) → result ≢ Outcome.Cut k r }
+    ensures safe { (count : ℕ) (expect : Expect) → IsSafe count expect result }
+{
+    match fit {
+        Fit::Whole => Outcome::Whole,
+        Fit::Short => Outcome::Short,
+        Fit::Cut(_) => Outcome::Whole,
+    }
+}
+
+/// Writes a page that was not cut.
+fn keep<P: Pages>(pages: &mut P, page: u64, fit: Fit, work: &mut Work) -> Result<Outcome, Stop>
+    requires ready { P.is_ready pages.old }
+    requires page { page < (P.standing pages.old).count }
+    requires room { lines_changed work.old.spare work.old.page ≤ (P.standing pages.old).room }
+    ensures is { IfOk result (λ outcome. outcome ≡ after_fit fit) }
+    ensures uncut { IfOk result (λ outcome. (k r : ℕ) → outcome ≢ Outcome.Cut k r) }
+    ensures safe { (count : ℕ) (expect : Expect) → IfOk result (IsSafe count expect) }
+    ensures writes { IsTrue (P.standing pages.old).told → work.old.spare ≡ bytes_of (P.standing pages.old).current page → OnOk result (Rewrites page work.old.page (P.standing pages.old).current (P.standing pages.new).current) }
+    ensures room { OnOk result ((P.standing pages.new).room + lines_changed work.old.spare work.old.page ≡ (P.standing pages.old).room) }
+    ensures cause { HasCause (IsTreeDamage (P.standing pages.old).told (P.standing pages.old).count work.new.page) (P.standing pages.old) (P.standing pages.new) result }
+    ensures continues { Continues (P.may_leave pages.old) (P.may_leave pages.new) (P.is_steady pages.old) (P.standing pages.old) (P.standing pages.new) }
+    ensures few { (P.standing pages.new).visits ≤ (P.standing pages.old).visits + 1 }
+    ensures ready { OnOk result (P.is_ready pages.new) }
+    ensures steady { P.is_steady pages.old → OnOk result (P.is_steady pages.new) }
+{
+    write_changes(pages, page, &work.spare, &work.page)?;
+    Ok(outcome_of(fit))
+}

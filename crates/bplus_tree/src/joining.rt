@@ -1,0 +1,147 @@
+//! Two neighbours of a tree joined.
+ghost use Rattle.std.specs.Prelude.{◌≡◌, ◌≢◌, ◌+◌, ◌<◌, ◌≤◌, ◌⊎◌, ◌++◌, ℕ, List, length, Option, None, Some, IsTrue, OnOk, IfOk};
+ghost use Rattle.line_pages.specs.Bytes.{bytes_of};
+ghost use Rattle.line_pages.specs.Standing.{Continues, HasCause, KeepsLines};
+ghost use Rattle.slotted_page.specs.Node.{IsWellFormed, leaf_rows as rows_of, children as children_of};
+ghost use Rattle.bplus_tree.specs.Damage.{IsTreeDamage};
+ghost use Rattle.bplus_tree.specs.Moves.{Gives};
+ghost use Rattle.bplus_tree.specs.Written.{Rewrites};
+ghost use Rattle.bplus_tree.specs.Edit.{left_of, right_of, whole_of, Merges, IsEnoughLeaf, IsEnoughInner, IsCutIn, IsPair, Joins, WritesJoined, WritesDivided};
+
+use crate::access::{give, load};
+use crate::merge::{left_expect, merge_inner, merge_leaves, right_expect};
+use crate::outcome::Pair;
+use crate::write::write_changes;
+use line_pages::{Pages, Stop};
+use slotted_page::Work;
+
+/// Reads two neighbours: the left one into `left` and `spare`, the right one into `right` and `page`.
+fn fetch<P: Pages>(
+    pages: &mut P,
+    pair: &Pair,
+    level: u8,
+    count: u64,
+    work: &mut Work,
+) -> Result<(), Stop>
+    requires ready { P.is_ready pages.old }
+    requires count { count ≡ (P.standing pages.old).count }
+    requires is { IsPair count pair.now }
+    ensures left { OnOk result (IsWellFormed work.new.left (left_of count level pair.now)) }
+    ensures right { OnOk result (IsWellFormed work.new.right (right_of count level pair.now)) }
+    ensures spare { OnOk result (work.new.spare ≡ work.new.left) }
+    ensures page { OnOk result (work.new.page ≡ work.new.right) }
+    ensures left_is { IsTrue (P.standing pages.old).told → OnOk result (work.new.left ≡ bytes_of (P.standing pages.old).current pair.now.left) }
+    ensures right_is { IsTrue (P.standing pages.old).told → OnOk result (work.new.right ≡ bytes_of (P.standing pages.old).current pair.now.right) }
+    ensures keeps { OnOk result (KeepsLines (P.standing pages.old) (P.standing pages.new)) }
+    ensures cause { HasCause (IsTreeDamage (P.standing pages.old).told (P.standing pages.old).count work.new.page) (P.standing pages.old) (P.standing pages.new) result }
+    ensures continues { Continues (P.may_leave pages.old) (P.may_leave pages.new) (P.is_steady pages.old) (P.standing pages.old) (P.standing pages.new) }
+    ensures few { (P.standing pages.new).visits ≤ (P.standing pages.old).visits + 2 }
+    ensures ready { OnOk result (P.is_ready pages.new) }
+    ensures steady { P.is_steady pages.old → OnOk result (P.is_steady pages.new) }
+{
+    let one = left_expect(pair, level, count);
+    load(pages, pair.left, &one, work)?;
+    work.left.copy_from(&work.page);
+    work.spare.copy_from(&work.page);
+    let two = right_expect(pair, level, count);
+    load(pages, pair.right, &two, work)?;
+    work.right.copy_from(&work.page);
+    Ok(())
+}
+
+/// Joins the two in memory.
+fn merge(work: &mut Work, pair: &Pair, level: u8, count: u64) -> Option<u64>
+    requires is { IsPair count pair.now }
+    requires left { IsWellFormed work.old.left (left_of count level pair.now) }
+    requires right { IsWellFormed work.old.right (right_of count level pair.now) }
+    ensures cut { IsCutIn pair.now result }
+    ensures leaves { level ≡ 0 → (IsEnoughLeaf work.old.left ⊎ IsEnoughLeaf work.old.right) → Merges rows_of (whole_of count 0 pair.now) work.new.left work.new.right (rows_of work.old.left ++ rows_of work.old.right) result }
+    ensures inner { 1 ≤ level → (IsEnoughInner work.old.left ⊎ IsEnoughInner work.old.right) → Merges children_of (whole_of count level pair.now) work.new.left work.new.right (children_of work.old.left ++ children_of work.old.right) result }
+    ensures page { work.new.page ≡ work.old.page }
+    ensures spare { work.new.spare ≡ work.old.spare }
+{
+    if level == 0 {
+        return merge_leaves(&mut work.left, &mut work.right, pair, count);
+    }
+    merge_inner(&mut work.left, &mut work.right, pair, level, count)
+}
+
+/// Writes the left one, with the entries of both, and gives the right one back.
+fn write_joined<P: Pages>(
+    pages: &mut P,
+    pair: &Pair,
+    count: u64,
+    work: &mut Work,
+) -> Result<(), Stop>
+    requires ready { P.is_ready pages.old }
+    requires count { count ≡ (P.standing pages.old).count }
+    requires is { IsPair count pair.now }
+    requires room { 128 ≤ (P.standing pages.old).room }
+    ensures writes { IsTrue (P.standing pages.old).told → work.old.spare ≡ bytes_of (P.standing pages.old).current pair.now.left → OnOk result (WritesJoined count (P.standing pages.old).current (P.standing pages.new).current pair.now work.old.left) }
+    ensures room { OnOk result ((P.standing pages.old).room ≤ (P.standing pages.new).room + 128) }
+    ensures cause { HasCause (IsTreeDamage (P.standing pages.old).told (P.standing pages.old).count work.new.page) (P.standing pages.old) (P.standing pages.new) result }
+    ensures continues { Continues (P.may_leave pages.old) (P.may_leave pages.new) (P.is_steady pages.old) (P.standing pages.old) (P.standing pages.new) }
+    ensures few { (P.standing pages.new).visits ≤ (P.standing pages.old).visits + 5 }
+    ensures ready { OnOk result (P.is_ready pages.new) }
+    ensures steady { P.is_steady pages.old → OnOk result (P.is_steady pages.new) }
+{
+    write_changes(pages, pair.left, &work.spare, &work.left)?;
+    give(pages, work, pair.right)
+}
+
+/// Writes both.
+fn write_divided<P: Pages>(
+    pages: &mut P,
+    pair: &Pair,
+    count: u64,
+    work: &mut Work,
+) -> Result<(), Stop>
+    requires ready { P.is_ready pages.old }
+    requires count { count ≡ (P.standing pages.old).count }
+    requires is { IsPair count pair.now }
+    requires room { 128 ≤ (P.standing pages.old).room }
+    ensures writes { IsTrue (P.standing pages.old).told → work.old.spare ≡ bytes_of (P.standing pages.old).current pair.now.left → work.old.page ≡ bytes_of (P.standing pages.old).current pair.now.right → pair.now.left ≢ pair.now.right → OnOk result (WritesDivided (P.standing pages.old).current (P.standing pages.new).current pair.now work.old.left work.old.right) }
+    ensures room { OnOk result ((P.standing pages.old).room ≤ (P.standing pages.new).room + 128) }
+    ensures cause { HasCause (IsTreeDamage (P.standing pages.old).told (P.standing pages.old).count work.new.page) (P.standing pages.old) (P.standing pages.new) result }
+    ensures continues { Continues (P.may_leave pages.old) (P.may_leave pages.new) (P.is_steady pages.old) (P.standing pages.old) (P.standing pages.new) }
+    ensures few { (P.standing pages.new).visits ≤ (P.standing pages.old).visits + 2 }
+    ensures ready { OnOk result (P.is_ready pages.new) }
+    ensures steady { P.is_steady pages.old → OnOk result (P.is_steady pages.new) }
+{
+    write_changes(pages, pair.left, &work.spare, &work.left)?;
+    write_changes(pages, pair.right, &work.page, &work.right)
+}
+
+/// Joins two neighbours, or divides their entries anew. The right one is given back where it was emptied.
+pub fn join<P: Pages>(
+    pages: &mut P,
+    pair: &Pair,
+    level: u8,
+    count: u64,
+    work: &mut Work,
+) -> Result<Option<u64>, Stop>
+    requires ready { P.is_ready pages.old }
+    requires count { count ≡ (P.standing pages.old).count }
+    requires is { IsPair count pair.now }
+    requires room { 128 ≤ (P.standing pages.old).room }
+    ensures cut { IfOk result (IsCutIn pair.now) }
+    ensures joins { IsTrue (P.standing pages.old).told → IfOk result (Joins count (P.standing pages.old).current (P.standing pages.new).current level pair.now) }
+    ensures room { OnOk result ((P.standing pages.old).room ≤ (P.standing pages.new).room + 128) }
+    ensures cause { HasCause (IsTreeDamage (P.standing pages.old).told (P.standing pages.old).count work.new.page) (P.standing pages.old) (P.standing pages.new) result }
+    ensures continues { Continues (P.may_leave pages.old) (P.may_leave pages.new) (P.is_steady pages.old) (P.standing pages.old) (P.standing pages.new) }
+    ensures few { (P.standing pages.new).visits ≤ (P.standing pages.old).visits + 7 }
+    ensures ready { OnOk result (P.is_ready pages.new) }
+    ensures steady { P.is_steady pages.old → OnOk result (P.is_steady pages.new) }
+{
+    fetch(pages, pair, level, count, work)?;
+    match merge(work, pair, level, count) {
+        None => {
+            write_joined(pages, pair, count, work)?;
+            Ok(None)
+        }
+        Some(key) => {
+            write_divided(pages, pair, count, work)?;
+            Ok(Some(key))
+        }
+    }
+}

@@ -1,0 +1,24 @@
+//! Ordered trees of rows over pages, and the pages that they take and give back.
+#![tactic(auto)]
+
+mod access;
+mod change;
+mod inner_edit;
+mod joining;
+mod leaf_edit;
+mod lookup;
+mod merge;
+mod outcome;
+mod pair;
+mod root;
+mod row;
+mod space;
+#[cfg(test)]
+mod tests;
+mod tree;
+mod write;
+
+pub use lookup::get;
+pub use root::Root;
+pub use space::{give_page, take_page};
+pub use tree::{delete, put};

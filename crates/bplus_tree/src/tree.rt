@@ -1,0 +1,228 @@
+//! A key put into the tree of a root, and taken out of it.
+ghost use Rattle.std.specs.Prelude.{◌≡◌, ◌≢◌, ◌+◌, ◌-◌, ◌<◌, ◌≤◌, ℕ, List, length, not, is_some, true, IsTrue, OnOk, IfOk};
+ghost use Rattle.std.specs.List.{list_all};
+ghost use Rattle.slotted_page.specs.Node.{is_printable};
+ghost use Rattle.line_pages.specs.Standing.{Continues, HasCause, KeepsLines};
+ghost use Rattle.slotted_page.specs.Rows.{Row, row_get, row_put, row_delete};
+ghost use Rattle.bplus_tree.specs.Tree.{IsRooted};
+ghost use Rattle.bplus_tree.specs.Moves.{ChangesRows};
+ghost use Rattle.bplus_tree.specs.Damage.{IsTreeDamage};
+
+use crate::access::{take, write_new};
+use crate::change::{delete_in, put_in};
+use crate::lookup::get;
+use crate::outcome::Outcome;
+use crate::pair::root_of;
+use crate::root::{Root, root_expect};
+use line_pages::{Pages, Stop};
+use slotted_page::{Value, Work};
+
+/// Puts a value at a key of a tree, whether or not the key is there.
+fn put_row<P: Pages>(
+    pages: &mut P,
+    root: &mut Root,
+    key: u64,
+    value: &[u8],
+    work: &mut Work,
+) -> Result<(), Stop>
+    requires ready { P.is_ready pages.old }
+    requires some { 1 ≤ root.old.page }
+    requires page { root.old.page < (P.standing pages.old).count }
+    requires some_levels { 1 ≤ root.old.levels }
+    requires few_levels { root.old.levels ≤ 4 }
+    requires size { length value.now ≤ 480 }
+    requires printable { list_all is_printable value.now ≡ true }
+    requires room { 600 ≤ (P.standing pages.old).room }
+    ensures rows { IsTrue (P.standing pages.old).told → OnOk result (ChangesRows (P.standing pages.old).count (P.standing pages.old).current (P.standing pages.new).current root.old root.new (row_put key value.now)) }
+    ensures room { OnOk result ((P.standing pages.old).room ≤ (P.standing pages.new).room + 600) }
+    ensures some { OnOk result (1 ≤ root.new.page) }
+    ensures page { OnOk result (root.new.page < (P.standing pages.old).count) }
+    ensures some_levels { 1 ≤ root.new.levels }
+    ensures few_levels { root.new.levels ≤ 4 }
+    ensures cause { HasCause (IsTreeDamage (P.standing pages.old).told (P.standing pages.old).count work.new.page) (P.standing pages.old) (P.standing pages.new) result }
+    // what stays
+    ensures continues { Continues (P.may_leave pages.old) (P.may_leave pages.new) (P.is_steady pages.old) (P.standing pages.old) (P.standing pages.new) }
+    ensures few { (P.standing pages.new).visits ≤ (P.standing pages.old).visits + 58 }
+    ensures ready { OnOk result (P.is_ready pages.new) }
+    ensures steady { P.is_steady pages.old → OnOk result (P.is_steady pages.new) }
+{
+    let count = pages.page_count();
+    let expect = root_expect(root, count);
+    match put_in(pages, root.page, &expect, key, value, work)? {
+        Outcome::Whole => Ok(()),
+        Outcome::Short => Ok(()),
+        Outcome::Cut(separator, right) => {
+            let top = take(pages, work)?;
+            root_of(
+                &mut work.page,
+                root.levels,
+                root.page,
+                separator,
+                right,
+                count,
+            );
+            write_new(pages, top, &work.page, &mut work.spare)?;
+            root.page = top;
+            root.levels += 1;
+            Ok(())
+        }
+        Outcome::Alone(child) => {
+            root.page = child;
+            root.levels -= 1;
+            Ok(())
+        }
+    }
+}
+
+/// Takes a key out of a tree, if it is there.
+fn delete_row<P: Pages>(
+    pages: &mut P,
+    root: &mut Root,
+    key: u64,
+    work: &mut Work,
+) -> Result<(), Stop>
+    requires ready { P.is_ready pages.old }
+    requires some { 1 ≤ root.old.page }
+    requires page { root.old.page < (P.standing pages.old).count }
+    requires some_levels { 1 ≤ root.old.levels }
+    requires few_levels { root.old.levels ≤ 4 }
+    requires room { 600 ≤ (P.standing pages.old).room }
+    ensures rows { IsTrue (P.standing pages.old).told → OnOk result (ChangesRows (P.standing pages.old).count (P.standing pages.old).current (P.standing pages.new).current root.old root.new (row_delete key)) }
+    ensures room { OnOk result ((P.standing pages.old).room ≤ (P.standing pages.new).room + 600) }
+    ensures some { OnOk result (1 ≤ root.new.page) }
+    ensures page { OnOk result (root.new.page < (P.standing pages.old).count) }
+    ensures some_levels { 1 ≤ root.new.levels }
+    ensures few_levels { root.new.levels ≤ 4 }
+    ensures cause { HasCause (IsTreeDamage (P.standing pages.old).told (P.standing pages.old).count work.new.page) (P.standing pages.old) (P.standing pages.new) result }
+    // what stays
+    ensures continues { Continues (P.may_leave pages.old) (P.may_leave pages.new) (P.is_steady pages.old) (P.standing pages.old) (P.standing pages.new) }
+    ensures few { (P.standing pages.new).visits ≤ (P.standing pages.old).visits + 52 }
+    ensures ready { OnOk result (P.is_ready pages.new) }
+    ensures steady { P.is_steady pages.old → OnOk result (P.is_steady pages.new) }
+{
+    let expect = root_expect(root, pages.page_count());
+    match delete_in(pages, root.page, &expect, key, work)? {
+        Outcome::Alone(child) => {
+            root.page = child;
+            root.levels -= 1;
+            Ok(())
+        }
+        Outcome::Whole => Ok(()),
+        Outcome::Short => Ok(()),
+        Outcome::Cut(_, _) => Ok(()),
+    }
+}
+
+/// Whether a tree has the key.
+fn has_key<P: Pages>(pages: &mut P, root: &Root, key: u64, work: &mut Work) -> Result<bool, Stop>
+    requires ready { P.is_ready pages.old }
+    requires some { 1 ≤ root.now.page }
+    requires page { root.now.page < (P.standing pages.old).count }
+    requires some_levels { 1 ≤ root.now.levels }
+    requires few_levels { root.now.levels ≤ 4 }
+    ensures found { IsTrue (P.standing pages.old).told → (rows : List Row) (used : List ℕ) → IsRooted (P.standing pages.old).count (P.standing pages.old).current root.now rows used → IfOk result (λ found. found ≡ is_some (row_get key rows)) }
+    ensures cause { HasCause (IsTreeDamage (P.standing pages.old).told (P.standing pages.old).count work.new.page) (P.standing pages.old) (P.standing pages.new) result }
+    ensures continues { Continues (P.may_leave pages.old) (P.may_leave pages.new) (P.is_steady pages.old) (P.standing pages.old) (P.standing pages.new) }
+    ensures keeps { OnOk result (KeepsLines (P.standing pages.old) (P.standing pages.new)) }
+    ensures few { (P.standing pages.new).visits ≤ (P.standing pages.old).visits + 4 }
+    ensures ready { OnOk result (P.is_ready pages.new) }
+    ensures steady { P.is_steady pages.old → OnOk result (P.is_steady pages.new) }
+{
+    match seek(pages, root, key, work)? {
+        Some(_) => Ok(true),
+        None => Ok(false),
+    }
+}
+
+/// The value of a key, with damage in the words of trees.
+fn seek<P: Pages>(
+    pages: &mut P,
+    root: &Root,
+    key: u64,
+    work: &mut Work,
+) -> Result<Option<Value>, Stop>
+    requires ready { P.is_ready pages.old }
+    requires some { 1 ≤ root.now.page }
+    requires page { root.now.page < (P.standing pages.old).count }
+    requires some_levels { 1 ≤ root.now.levels }
+    requires few_levels { root.now.levels ≤ 4 }
+    ensures value { IsTrue (P.standing pages.old).told → (rows : List Row) (used : List ℕ) → IsRooted (P.standing pages.old).count (P.standing pages.old).current root.now rows used → IfOk result (λ value. value ≡ row_get key rows) }
+    ensures cause { HasCause (IsTreeDamage (P.standing pages.old).told (P.standing pages.old).count work.new.page) (P.standing pages.old) (P.standing pages.new) result }
+    ensures continues { Continues (P.may_leave pages.old) (P.may_leave pages.new) (P.is_steady pages.old) (P.standing pages.old) (P.standing pages.new) }
+    ensures keeps { OnOk result (KeepsLines (P.standing pages.old) (P.standing pages.new)) }
+    ensures few { (P.standing pages.new).visits ≤ (P.standing pages.old).visits + 4 }
+    ensures ready { OnOk result (P.is_ready pages.new) }
+    ensures steady { P.is_steady pages.old → OnOk result (P.is_steady pages.new) }
+{
+    get(pages, root, key, work)
+}
+
+/// Puts a value at a key: true where the key is new. Check 37 comes only where no page is left, check 39 only where a root at
+/// level 3 has 240 children and would have to be cut.
+pub fn put<P: Pages>(
+    pages: &mut P,
+    root: &mut Root,
+    key: u64,
+    value: &Value,
+    work: &mut Work,
+) -> Result<bool, Stop>
+    requires ready { P.is_ready pages.old }
+    requires some { 1 ≤ root.old.page }
+    requires page { root.old.page < (P.standing pages.old).count }
+    requires some_levels { 1 ≤ root.old.levels }
+    requires few_levels { root.old.levels ≤ 4 }
+    requires room { 600 ≤ (P.standing pages.old).room }
+    // the rows, and whether the key is new
+    ensures rows { IsTrue (P.standing pages.old).told → OnOk result (ChangesRows (P.standing pages.old).count (P.standing pages.old).current (P.standing pages.new).current root.old root.new (row_put key value.now)) }
+    ensures room { OnOk result ((P.standing pages.old).room ≤ (P.standing pages.new).room + 600) }
+    ensures fresh { IsTrue (P.standing pages.old).told → (rows : List Row) (used : List ℕ) → IsRooted (P.standing pages.old).count (P.standing pages.old).current root.old rows used → IfOk result (λ fresh. fresh ≡ not (is_some (row_get key rows))) }
+    // why it stops
+    ensures cause { HasCause (IsTreeDamage (P.standing pages.old).told (P.standing pages.old).count work.new.page) (P.standing pages.old) (P.standing pages.new) result }
+    // the root, and what stays
+    ensures some { OnOk result (1 ≤ root.new.page) }
+    ensures page { OnOk result (root.new.page < (P.standing pages.old).count) }
+    ensures some_levels { 1 ≤ root.new.levels }
+    ensures few_levels { root.new.levels ≤ 4 }
+    ensures continues { Continues (P.may_leave pages.old) (P.may_leave pages.new) (P.is_steady pages.old) (P.standing pages.old) (P.standing pages.new) }
+    ensures few { (P.standing pages.new).visits ≤ (P.standing pages.old).visits + 62 }
+    ensures ready { OnOk result (P.is_ready pages.new) }
+    ensures steady { P.is_steady pages.old → OnOk result (P.is_steady pages.new) }
+{
+    let found = has_key(pages, root, key, work)?;
+    put_row(pages, root, key, value.bytes(), work)?;
+    Ok(!found)
+}
+
+/// Takes a key out: true where there was a row of it.
+pub fn delete<P: Pages>(
+    pages: &mut P,
+    root: &mut Root,
+    key: u64,
+    work: &mut Work,
+) -> Result<bool, Stop>
+    requires ready { P.is_ready pages.old }
+    requires some { 1 ≤ root.old.page }
+    requires page { root.old.page < (P.standing pages.old).count }
+    requires some_levels { 1 ≤ root.old.levels }
+    requires few_levels { root.old.levels ≤ 4 }
+    requires room { 600 ≤ (P.standing pages.old).room }
+    // the rows, and whether one was removed
+    ensures rows { IsTrue (P.standing pages.old).told → OnOk result (ChangesRows (P.standing pages.old).count (P.standing pages.old).current (P.standing pages.new).current root.old root.new (row_delete key)) }
+    ensures room { OnOk result ((P.standing pages.old).room ≤ (P.standing pages.new).room + 600) }
+    ensures found { IsTrue (P.standing pages.old).told → (rows : List Row) (used : List ℕ) → IsRooted (P.standing pages.old).count (P.standing pages.old).current root.old rows used → IfOk result (λ found. found ≡ is_some (row_get key rows)) }
+    // why it stops
+    ensures cause { HasCause (IsTreeDamage (P.standing pages.old).told (P.standing pages.old).count work.new.page) (P.standing pages.old) (P.standing pages.new) result }
+    // the root, and what stays
+    ensures some { OnOk result (1 ≤ root.new.page) }
+    ensures page { OnOk result (root.new.page < (P.standing pages.old).count) }
+    ensures some_levels { 1 ≤ root.new.levels }
+    ensures few_levels { root.new.levels ≤ 4 }
+    ensures continues { Continues (P.may_leave pages.old) (P.may_leave pages.new) (P.is_steady pages.old) (P.standing pages.old) (P.standing pages.new) }
+    ensures few { (P.standing pages.new).visits ≤ (P.standing pages.old).visits + 56 }
+    ensures ready { OnOk result (P.is_ready pages.new) }
+    ensures steady { P.is_steady pages.old → OnOk result (P.is_steady pages.new) }
+{
+    let found = has_key(pages, root, key, work)?;
+    delete_row(pages, root, key, work)?;
+    Ok(found)
+}
