@@ -1,0 +1,10 @@
+//! Tables by name over pages: the catalog in page 0, and under each of its entries a tree of rows.
+#![tactic(auto)]
+
+mod answer;
+mod limits;
+mod name;
+
+pub use answer::{Created, Got};
+pub use limits::Limits;
+pub use name::Name;
