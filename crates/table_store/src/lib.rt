@@ -2,9 +2,12 @@
 #![tactic(auto)]
 
 mod answer;
+mod catalog;
+mod entry;
 mod limits;
 mod name;
 
+pub use catalog::has_table;
 pub use answer::{Created, Got};
 pub use limits::Limits;
 pub use name::Name;
