@@ -1,16 +1,20 @@
 -- A store of pages in order, and its tables by name.
-use Rattle.std.specs.Prelude.{◌≡◌, ℕ, ◌+◌, ◌-◌, Bool, true, false, List, [], ◌∷◌, ◌++◌, length, None, Option, Some, if◌then◌else◌, flat_map, bytes_eq}
+use Rattle.std.specs.Prelude.{◌≡◌, ℕ, ◌+◌, ◌-◌, Bool, true, false, List, [], ◌∷◌, ◌++◌, length, None, Option, Some, if◌then◌else◌, flat_map, map, bytes_eq, ◌⊎◌}
+use Rattle.line_pages.specs.declared.stop.Evidence.{Evidence}
 use Rattle.line_pages.specs.Lines.{Lines}
+use Rattle.line_pages.specs.Touch.{Access}
 use Rattle.slotted_page.specs.Checks.{first_failure}
 use Rattle.slotted_page.specs.Rows.{Row, Each, last_key, row_get}
+use Rattle.slotted_page.specs.Search.{IsNodeDamage}
 use Rattle.bplus_tree.specs.Space.{high_of, IsFreeList}
 use Rattle.bplus_tree.specs.Moves.{AreExactly}
-use Rattle.bplus_tree.specs.Tree.{IsTree}
+use Rattle.bplus_tree.specs.Tree.{IsTree, path}
 use Rattle.table_store.specs.declared.limits.Limits.{Limits}
 use Rattle.table_store.specs.declared.entry.Entry.{Entry}
+use Rattle.table_store.specs.declared.entry.Place.{Place}
 use Rattle.table_store.specs.declared.answer.Got.{Got}
 use Rattle.table_store.specs.declared.answer.Got.TheVariants.{Found, Absent, NoTable}
-use Rattle.table_store.specs.Catalog.{entries, catalog_checks, entry_rows, entry_pages, Table}
+use Rattle.table_store.specs.Catalog.{entries, catalog_checks, entry_rows, entry_pages, Table, place_of, IsCatalogDamage}
 
 -- the entry's tree is well formed, and its number of rows is right
 abbrev pub HasTree : ℕ → Lines → Entry → Type 0
@@ -38,6 +42,31 @@ is_known name (table ∷ rest) = if bytes_eq table.0 name then true else is_know
 abbrev pub rows_of : List ℕ → List Table → Option (List Row)
 rows_of name [] = None
 rows_of name (table ∷ rest) = if bytes_eq table.0 name then Some table.1 else rows_of name rest
+
+-- the rows, the levels and the pages on the way to a key, of the tree of an entry, if there is one
+abbrev pub place_rows : Lines → Option Place → Option (List Row)
+place_rows lines None = None
+place_rows lines (Some place) = Some (entry_rows lines place.entry)
+
+abbrev pub place_levels : Option Place → ℕ
+place_levels None = 0
+place_levels (Some place) = place.entry.levels
+
+abbrev pub place_path : Lines → ℕ → Option Place → List ℕ
+place_path lines key None = []
+place_path lines key (Some place) = path lines (place.entry.levels - 1) place.entry.root key
+
+-- The accesses of a look-up of a key in a table: page 0, then one to each level of the table's tree, in a store in order to
+-- each page of the key's path.
+pub record IsLookup (limits : Limits) (count : ℕ) (lines : Lines) (name : List ℕ) (key : ℕ) (begun : List Access) : Type 0 where
+  pub rest : List Access
+  pub begins : begun ≡ (0, false) ∷ rest
+  pub levels : length rest ≡ place_levels (place_of name 0 (entries lines))
+  pub pages : IsStore limits count lines → rest ≡ map (λ p. (p, false)) (place_path lines key (place_of name 0 (entries lines)))
+
+-- The evidence shows damage of the catalog or of a page of a tree.
+abbrev pub IsLookupDamage : Limits → ℕ → Lines → List ℕ → Evidence → Type 0
+IsLookupDamage limits count lines buffer evidence = IsCatalogDamage limits count lines buffer evidence ⊎ IsNodeDamage count lines buffer evidence
 
 -- what a look-up of a key answers, the table having these rows
 abbrev pub found_value : Option (List ℕ) → Got

@@ -1,11 +1,12 @@
 //! The catalog in page 0, read line by line.
-ghost use Rattle.std.specs.Prelude.{◌≡◌, ◌+◌, ◌<◌, ◌≤◌, ℕ, false, None, Some, IsTrue, OnOk, IfOk, IfSome};
+ghost use Rattle.std.specs.Prelude.{◌≡◌, ◌+◌, ◌<◌, ◌≤◌, ℕ, false, None, Some, IsTrue, OnOk, IfOk, IfErr, IfSome};
 ghost use Rattle.line_pages.specs.Touch.{begins};
 ghost use Rattle.line_pages.specs.Standing.{Continues, HasCause, IsCause, ReadsPage};
 ghost use Rattle.slotted_page.specs.Checks.{first_failure};
 ghost use Rattle.bplus_tree.specs.Space.{word};
+ghost use Rattle.bplus_tree.specs.Damage.{IsFault};
 ghost use Rattle.table_store.specs.Catalog.{entry_in as entry_of_line, header_checks, catalog_checks, entries, tables, place_of, FitsCatalog, FitsEntry, FitsPlace, FitsRoot, IsCatalogDamage};
-ghost use Rattle.table_store.specs.Stored.{is_known};
+ghost use Rattle.table_store.specs.Stored.{is_known, IsStore};
 
 use crate::entry::{Entry, Place, entry_in, has_name, is_listed};
 use crate::limits::Limits;
@@ -147,6 +148,7 @@ pub(crate) fn find_entry<P: Pages>(
     requires ready { P.is_ready pages.old }
     ensures place { IsTrue (P.standing pages.old).told → IfOk result (λ place. place ≡ place_of name.now 0 (entries (P.standing pages.old).current)) }
     ensures fits { IfOk result (λ place. IfSome place (FitsRoot limits.now (P.standing pages.old).count)) }
+    ensures sound { IsTrue (P.standing pages.old).told → IsStore limits.now (P.standing pages.old).count (P.standing pages.old).current → IfErr result IsFault }
     ensures cause { HasCause (λ e. IsTrue (P.standing pages.old).told → IsCatalogDamage limits.now (P.standing pages.old).count (P.standing pages.old).current work.new.page e) (P.standing pages.old) (P.standing pages.new) result }
     ensures continues { Continues (P.may_leave pages.old) (P.may_leave pages.new) (P.is_steady pages.old) (P.standing pages.old) (P.standing pages.new) }
     ensures reads { OnOk result (ReadsPage 0 (P.standing pages.old) (P.standing pages.new)) }
@@ -159,12 +161,13 @@ pub(crate) fn find_entry<P: Pages>(
 }
 
 /// Whether a table has the name. `Damaged` comes only with the first of the checks 31 to 35 that the catalog fails.
-#[tactic(auto, using(crate::proofs::CatalogLaws::known_by))]
+#[tactic(auto, using(crate::proofs::CatalogLaws::known_by, crate::proofs::TableLaws::sound_catalog))]
 pub fn has_table<P: Pages>(pages: &mut P, limits: &Limits, name: &Name, work: &mut Work) -> Result<bool, Stop>
     requires ready { P.is_ready pages.old }
     // the answer
     ensures known { IsTrue (P.standing pages.old).told → IfOk result (λ known. known ≡ is_known name.now (tables (P.standing pages.old).current)) }
     // why it stops
+    ensures sound { IsTrue (P.standing pages.old).told → IsStore limits.now (P.standing pages.old).count (P.standing pages.old).current → IfErr result IsFault }
     ensures cause { HasCause (λ e. IsTrue (P.standing pages.old).told → IsCatalogDamage limits.now (P.standing pages.old).count (P.standing pages.old).current work.new.page e) (P.standing pages.old) (P.standing pages.new) result }
     // what is read, and what stays
     ensures reads { OnOk result (ReadsPage 0 (P.standing pages.old) (P.standing pages.new)) }

@@ -5,6 +5,7 @@ ghost use Rattle.table_store.specs.Catalog.{entry_in as entry_of_line, field_in 
 
 use crate::limits::Limits;
 use crate::name::{Name, all_name_bytes};
+use bplus_tree::Root;
 use line_pages::put_word;
 use nvm_model::Line;
 
@@ -92,4 +93,15 @@ pub(crate) fn has_name(entry: &Entry, name: &Name) -> bool
 {
     let end = entry.field[0] as usize;
     &entry.field[1..1 + end] == name.bytes()
+}
+
+/// The root of the entry's tree.
+pub(crate) fn root_of(entry: &Entry) -> Root
+    requires { entry.now.levels ≤ 4 }
+    ensures { result ≡ record { page = entry.now.root; levels = entry.now.levels } }
+{
+    Root {
+        page: entry.root,
+        levels: entry.levels as u8,
+    }
 }

@@ -5,9 +5,11 @@ mod answer;
 mod catalog;
 mod entry;
 mod limits;
+mod lookup;
 mod name;
 
 pub use catalog::has_table;
 pub use answer::{Created, Got};
 pub use limits::Limits;
+pub use lookup::get;
 pub use name::Name;
