@@ -109,7 +109,7 @@ fn read_entry<P: Pages>(
 }
 
 /// Looks a name up among the entries of the catalog, whose access is open: the first entry with the name.
-fn search<P: Pages>(
+pub(crate) fn search<P: Pages>(
     pages: &mut P,
     limits: &Limits,
     header: &Line,

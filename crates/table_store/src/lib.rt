@@ -3,6 +3,7 @@
 
 mod answer;
 mod catalog;
+mod create;
 mod entry;
 mod limits;
 mod lookup;
