@@ -1,9 +1,9 @@
 -- A table that is made leaves the others, and the store is in order again.
-use Rattle.std.proofs.Common.{◌≡◌, ◌≢◌, ℕ, zero, suc, ◌+◌, ◌-◌, ◌<◌, ◌≤◌, inl, inr, Bool, true, false, not, cond, IsTrue, List, [], ◌∷◌, ◌++◌, map, length, None, Result, Ok, Err, OnOk, refl, sym, ap, subst, ◌∙◌, arith, nat_lt, nat_le, nat_eq, ◌&&◌}
+use Rattle.std.proofs.Common.{◌≡◌, ◌≢◌, ℕ, zero, suc, ◌+◌, ◌-◌, ◌<◌, ◌≤◌, inl, inr, Bool, true, false, not, cond, IsTrue, List, [], ◌∷◌, ◌++◌, map, length, None, Some, Result, Ok, Err, OnOk, refl, sym, ap, subst, ◌∙◌, arith, nat_lt, nat_le, nat_eq, ◌&&◌}
 use Rattle.std.specs.Prelude.{bytes_eq, is_some}
 use Rattle.std.specs.List.{list_all, list_any}
 use Rattle.std.proofs.lemmas.Bool.{cases_Bool, ltb-true, leb-true, lt-ltb, le-ltb, le-leb, eq-eqb, and_parts, and_from}
-use Rattle.std.proofs.lemmas.List.{map-append, length-map, get_or-set_same, get_or-set_other}
+use Rattle.std.proofs.lemmas.List.{map-append, get_or-set_same, get_or-set_other}
 use Rattle.nvm_model.specs.declared.line.Line.{Line}
 use Rattle.line_pages.specs.declared.stop.Stop.{Stop}
 use Rattle.line_pages.specs.Lines.{Lines, with_line}
@@ -19,7 +19,9 @@ use Rattle.table_store.specs.declared.entry.Entry.{Entry}
 use Rattle.table_store.specs.Names.{is_name}
 use Rattle.table_store.specs.Catalog.{entry_in, entries, entries_from, table_count, name_of, name_in, is_name_field, table_of, tables, place_of, is_entry, names_differ, catalog_checks, entry_rows, entry_pages}
 use Rattle.table_store.specs.Stored.{HasTree, all_pages, IsStore, is_known}
-use Rattle.table_store.specs.Created.{field_of, new_entry, leaf_line, Written, Makes}
+use Rattle.table_store.specs.Created.{field_of, new_entry, leaf_line, Written, Makes, IsCreated}
+use Rattle.table_store.specs.declared.entry.Place.{Place}
+use Rattle.table_store.specs.declared.answer.Created.TheVariants.{Made, Present, NoSlot}
 use Rattle.table_store.proofs.CatalogLaws.{AllHold, all_hold, none_fails, known_by}
 use Rattle.table_store.proofs.RoomLaws.{length-entries}
 use Rattle.table_store.proofs.EntryLaws.{name_back, field_named}
@@ -231,4 +233,20 @@ pub unknown_by : (name : List ℕ) (lines : Lines) → place_of name 0 (entries 
 unknown_by name lines none = sym (known_by name lines 0 (entries lines)) ∙ ap is_some none
 
 pub tables-length : (lines : Lines) → length (tables lines) ≡ table_count lines
-tables-length lines = length-map (table_of lines) (entries lines) ∙ length-entries lines
+tables-length lines = as_many lines (entries lines) ∙ length-entries lines
+  where
+    as_many : (lines : Lines) (es : List Entry) → length (map (table_of lines) es) ≡ length es
+    as_many lines [] = refl
+    as_many lines (e ∷ es) = ap suc (as_many lines es)
+
+pub made_is : (limits : Limits) (count : ℕ) (old new : Lines) (name : List ℕ) (at : ℕ) → at ≡ table_count old → place_of name 0 (entries old) ≡ None → at < limits.tables → Makes limits count old new name
+    → IsCreated limits count old new name Made
+made_is limits count old new name at at_is unknown few makes = (unknown_by name old unknown, omega (arith, tables-length old, at_is, few), makes)
+
+pub no_slot_is : (limits : Limits) (count : ℕ) (old new : Lines) (name : List ℕ) (at : ℕ) → at ≡ table_count old → place_of name 0 (entries old) ≡ None → at ≤ limits.tables → limits.tables ≤ at
+    → IsCreated limits count old new name NoSlot
+no_slot_is limits count old new name at at_is unknown most full = (unknown_by name old unknown, omega (arith, tables-length old, at_is, most, full))
+
+-- a name that was found
+pub present_is : (name : List ℕ) (lines : Lines) (place : Place) → place_of name 0 (entries lines) ≡ Some place → is_known name (tables lines) ≡ true
+present_is name lines place is = sym (known_by name lines 0 (entries lines)) ∙ ap is_some is

@@ -1,15 +1,16 @@
 -- A table that is made.
-use Rattle.std.specs.Prelude.{◌≡◌, ◌≢◌, ℕ, ◌+◌, ◌-◌, ◌<◌, ◌≤◌, Bool, true, false, List, [], ◌∷◌, ◌++◌, length, replicate, IsTrue}
+use Rattle.std.specs.Prelude.{◌≡◌, ◌≢◌, ℕ, ◌+◌, ◌-◌, ◌<◌, ◌≤◌, Bool, true, false, List, [], ◌∷◌, ◌++◌, length, replicate, IsTrue, Option, Some, None, ◌⊎◌}
 use Rattle.nvm_model.specs.declared.line.Line.{Line}
+use Rattle.line_pages.specs.declared.stop.Evidence.{Evidence}
 use Rattle.line_pages.specs.Lines.{Lines, with_line, IsLine}
 use Rattle.line_pages.specs.Standing.{Standing, KeepsLines}
-use Rattle.bplus_tree.specs.Space.{high_of, with_word}
+use Rattle.bplus_tree.specs.Space.{high_of, with_word, take_checks, IsSpaceDamage}
 use Rattle.table_store.specs.declared.limits.Limits.{Limits}
 use Rattle.table_store.specs.declared.entry.Entry.{Entry}
 use Rattle.table_store.specs.declared.answer.Created.{Created}
 use Rattle.table_store.specs.declared.answer.Created.TheVariants.{Made, Present, NoSlot}
 use Rattle.table_store.specs.Names.{is_name}
-use Rattle.table_store.specs.Catalog.{entry_in, table_count, tables}
+use Rattle.table_store.specs.Catalog.{entry_in, table_count, tables, entries, place_of, IsCatalogDamage}
 use Rattle.table_store.specs.Stored.{IsStore, is_known}
 
 -- the field of a name: its length, its bytes, then zeros
@@ -50,3 +51,12 @@ abbrev pub KeepsUnlessMade : {A : Type 0} → Standing A → Standing A → Crea
 KeepsUnlessMade old new Made = Unit {0}
 KeepsUnlessMade old new Present = KeepsLines old new
 KeepsUnlessMade old new NoSlot = KeepsLines old new
+
+-- the number that a table of this name would have, where there is none
+abbrev pub IsSlot : Lines → List ℕ → Option ℕ → Type 0
+IsSlot lines name None = is_known name (tables lines) ≡ true
+IsSlot lines name (Some at) = (at ≡ table_count lines) × (place_of name 0 (entries lines) ≡ None)
+
+-- the evidence shows damage of the catalog, or that no page can be taken
+abbrev pub IsCreateDamage : Limits → ℕ → Lines → List ℕ → Evidence → Type 0
+IsCreateDamage limits count lines buffer evidence = IsCatalogDamage limits count lines buffer evidence ⊎ IsSpaceDamage (take_checks count lines) lines buffer evidence

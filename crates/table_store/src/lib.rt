@@ -3,7 +3,7 @@
 
 mod answer;
 mod catalog;
-mod create;
+mod creation;
 mod entry;
 mod limits;
 mod lookup;
@@ -11,6 +11,7 @@ mod name;
 
 pub use catalog::has_table;
 pub use answer::{Created, Got};
+pub use creation::create;
 pub use limits::Limits;
 pub use lookup::get;
 pub use name::Name;

@@ -1,14 +1,14 @@
 //! A table that is made.
-ghost use Rattle.std.specs.Prelude.{◌≡◌, ◌+◌, ◌*◌, ◌/◌, ◌<◌, ◌≤◌, ℕ, None, IsTrue, OnOk, IfOk, IfErr};
+ghost use Rattle.std.specs.Prelude.{◌≡◌, ◌+◌, ◌*◌, ◌/◌, ◌<◌, ◌≤◌, ℕ, None, IsTrue, OnOk, IfOk, IfErr, IfSome};
 ghost use Rattle.line_pages.specs.Lines.{IsLine, with_line};
-ghost use Rattle.line_pages.specs.Standing.{Continues, HasCause, Never};
+ghost use Rattle.line_pages.specs.Standing.{Continues, HasCause, Never, ReadsPage};
 ghost use Rattle.bplus_tree.specs.Space.{with_word, take_checks, IsSpaceDamage};
 ghost use Rattle.bplus_tree.specs.Moves.{Takes};
 ghost use Rattle.bplus_tree.specs.Damage.{IsFault};
 ghost use Rattle.table_store.specs.Names.{is_name};
 ghost use Rattle.table_store.specs.Catalog.{entry_in as entry_of_line, entries, table_count, place_of, IsCatalogDamage};
 ghost use Rattle.table_store.specs.Stored.{IsStore};
-ghost use Rattle.table_store.specs.Created.{field_of as field_of_name, new_entry, leaf_line, Written, Makes, IsCreated, KeepsUnlessMade};
+ghost use Rattle.table_store.specs.Created.{field_of as field_of_name, new_entry, leaf_line, Written, Makes, IsCreated, KeepsUnlessMade, IsSlot, IsCreateDamage};
 
 use crate::answer::Created;
 use crate::catalog::{read_catalog, search};
@@ -130,6 +130,32 @@ fn add_table<P: Pages>(
     write_table(pages, name, page, at)
 }
 
+/// The number that a table of this name would have; `None` where there is one.
+#[tactic(auto, using(crate::proofs::CreateLaws::present_is))]
+fn find_slot<P: Pages>(
+    pages: &mut P,
+    limits: &Limits,
+    name: &Name,
+    work: &mut Work,
+) -> Result<Option<u64>, Stop>
+    requires ready { P.is_ready pages.old }
+    ensures slot { IsTrue (P.standing pages.old).told → IfOk result (IsSlot (P.standing pages.old).current name.now) }
+    ensures at { IfOk result (λ slot. IfSome slot (λ at. at ≤ limits.now.tables)) }
+    ensures sound { IsTrue (P.standing pages.old).told → IsStore limits.now (P.standing pages.old).count (P.standing pages.old).current → IfErr result IsFault }
+    ensures cause { HasCause (λ e. IsTrue (P.standing pages.old).told → IsCatalogDamage limits.now (P.standing pages.old).count (P.standing pages.old).current work.new.page e) (P.standing pages.old) (P.standing pages.new) result }
+    ensures continues { Continues (P.may_leave pages.old) (P.may_leave pages.new) (P.is_steady pages.old) (P.standing pages.old) (P.standing pages.new) }
+    ensures reads { OnOk result (ReadsPage 0 (P.standing pages.old) (P.standing pages.new)) }
+    ensures few { (P.standing pages.new).visits ≤ (P.standing pages.old).visits + 1 }
+    ensures ready { OnOk result (P.is_ready pages.new) }
+    ensures steady { P.is_steady pages.old → OnOk result (P.is_steady pages.new) }
+{
+    let header = read_catalog(pages, limits, work)?;
+    match search(pages, limits, &header, name, work)? {
+        Some(_) => Ok(None),
+        None => Ok(Some(header.words[1])),
+    }
+}
+
 /// Makes a table of this number, if there may be so many.
 fn create_at<P: Pages>(
     pages: &mut P,
@@ -155,4 +181,32 @@ fn create_at<P: Pages>(
     }
     add_table(pages, limits, name, at, work)?;
     Ok(Created::Made)
+}
+
+/// Makes a table with no row. `Damaged` comes only where the catalog fails one of the checks 31 to 35, or with the check that
+/// no page can be taken, and in a store in order with pages for all its tables not at all.
+pub fn create<P: Pages>(
+    pages: &mut P,
+    limits: &Limits,
+    name: &Name,
+    work: &mut Work,
+) -> Result<Created, Stop>
+    requires ready { P.is_ready pages.old }
+    requires room { 640 ≤ (P.standing pages.old).room }
+    // the answer, and what changes
+    ensures created { IsTrue (P.standing pages.old).told → IsStore limits.now (P.standing pages.old).count (P.standing pages.old).current → IfOk result (IsCreated limits.now (P.standing pages.old).count (P.standing pages.old).current (P.standing pages.new).current name.now) }
+    ensures keeps { IfOk result (KeepsUnlessMade (P.standing pages.old) (P.standing pages.new)) }
+    // why it stops
+    ensures sound { IsTrue (P.standing pages.old).told → IsStore limits.now (P.standing pages.old).count (P.standing pages.old).current → 1 + limits.now.tables * (limits.now.rows / 2 + 8) ≤ (P.standing pages.old).count → IfErr result IsFault }
+    ensures cause { HasCause (λ e. IsTrue (P.standing pages.old).told → IsCreateDamage limits.now (P.standing pages.old).count (P.standing pages.old).current work.new.page e) (P.standing pages.old) (P.standing pages.new) result }
+    // what stays
+    ensures continues { Continues (P.may_leave pages.old) (P.may_leave pages.new) (P.is_steady pages.old) (P.standing pages.old) (P.standing pages.new) }
+    ensures few { (P.standing pages.new).visits ≤ (P.standing pages.old).visits + 9 }
+    ensures ready { OnOk result (P.is_ready pages.new) }
+    ensures steady { P.is_steady pages.old → OnOk result (P.is_steady pages.new) }
+{
+    match find_slot(pages, limits, name, work)? {
+        None => Ok(Created::Present),
+        Some(at) => create_at(pages, limits, name, at, work),
+    }
 }

@@ -1,5 +1,5 @@
 use Rattle.line_pages.proofs.StandingLaws.{Continues-trans}
-use Rattle.table_store.proofs.create.write_table.Goals as goal
+use Rattle.table_store.proofs.creation.write_table.Goals as goal
 
 pub returns-clause-continues : goal.returns-clause-continues
 returns-clause-continues g c =

@@ -1,7 +1,7 @@
 use Rattle.std.proofs.Common.{IsTrue, sym, subst}
 use Rattle.line_pages.proofs.StandingLaws.{Continues-trans}
 use Rattle.table_store.proofs.CreateLaws.{makes_by}
-use Rattle.table_store.proofs.create.add_table.Goals as goal
+use Rattle.table_store.proofs.creation.add_table.Goals as goal
 
 pub returns-clause-makes : goal.returns-clause-makes
 returns-clause-makes g c = λ told.
