@@ -6,3 +6,4 @@ pub mod FrameLaws
 pub mod LeafLaws
 pub mod CreateLaws
 pub mod RoomLaws
+pub mod TouchesLaws

@@ -4,6 +4,7 @@ use Rattle.std.specs.List.{list_all, list_any}
 use Rattle.nvm_model.specs.declared.line.Line.{Line}
 use Rattle.line_pages.specs.Lines.{Lines}
 use Rattle.line_pages.specs.Bytes.{word_bytes, pieces, bytes_of}
+use Rattle.line_pages.specs.Touch.{Touch, Access, touch_of}
 use Rattle.line_pages.specs.declared.stop.Evidence.{Evidence}
 use Rattle.slotted_page.specs.Checks.{first_failure}
 use Rattle.slotted_page.specs.Rows.{Row}
@@ -131,3 +132,17 @@ table_of lines entry = (name_of entry, entry_rows lines entry)
 -- the tables of a store, in the order of creation
 abbrev pub tables : Lines → List Table
 tables lines = map (table_of lines) (entries lines)
+
+-- the reads of n entries in a row, from line l on, in an open access
+abbrev pub entry_touches : ℕ → ℕ → List Touch
+entry_touches l zero = []
+entry_touches l (suc n) = touch_of (Some (0, false)) 0 l false ∷ entry_touches (suc l) n
+
+-- how many entries a look-up reads: those up to the name, or else all
+abbrev pub entries_read : ℕ → Option Place → ℕ
+entries_read n None = n
+entries_read n (Some place) = place.at + 1
+
+-- the touches of a look-up of a name: line 0, then the entries in order up to the name
+abbrev pub lookup_touches : Option Access → Lines → List ℕ → List Touch
+lookup_touches access lines name = touch_of access 0 0 false ∷ entry_touches 2 (entries_read (table_count lines) (place_of name 0 (entries lines)))

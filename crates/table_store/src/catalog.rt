@@ -1,11 +1,11 @@
 //! The catalog in page 0, read line by line.
-ghost use Rattle.std.specs.Prelude.{◌≡◌, ◌+◌, ◌<◌, ◌≤◌, ℕ, false, None, Some, IsTrue, OnOk, IfOk, IfErr, IfSome};
-ghost use Rattle.line_pages.specs.Touch.{begins};
+ghost use Rattle.std.specs.Prelude.{◌≡◌, ◌+◌, [], ◌∷◌, ◌++◌, ◌<◌, ◌≤◌, ℕ, false, None, Some, IsTrue, OnOk, IfOk, IfErr, IfSome};
+ghost use Rattle.line_pages.specs.Touch.{begins, touch_of};
 ghost use Rattle.line_pages.specs.Standing.{Continues, HasCause, IsCause, ReadsPage};
 ghost use Rattle.slotted_page.specs.Checks.{first_failure};
 ghost use Rattle.bplus_tree.specs.Space.{word};
 ghost use Rattle.bplus_tree.specs.Damage.{IsFault};
-ghost use Rattle.table_store.specs.Catalog.{entry_in as entry_of_line, header_checks, catalog_checks, entries, tables, place_of, FitsCatalog, FitsEntry, FitsPlace, FitsRoot, IsCatalogDamage};
+ghost use Rattle.table_store.specs.Catalog.{entry_in as entry_of_line, header_checks, catalog_checks, entries, tables, place_of, entry_touches, entries_read, lookup_touches, FitsCatalog, FitsEntry, FitsPlace, FitsRoot, IsCatalogDamage};
 ghost use Rattle.table_store.specs.Stored.{is_known, IsStore};
 
 use crate::entry::{Entry, Place, entry_in, has_name, is_listed};
@@ -65,6 +65,7 @@ pub(crate) fn read_catalog<P: Pages>(pages: &mut P, limits: &Limits, work: &mut 
     ensures cause { HasCause (λ e. IsTrue (P.standing pages.old).told → IsCatalogDamage limits.now (P.standing pages.old).count (P.standing pages.old).current work.new.page e) (P.standing pages.old) (P.standing pages.new) result }
     ensures continues { Continues (P.may_leave pages.old) (P.may_leave pages.new) (P.is_steady pages.old) (P.standing pages.old) (P.standing pages.new) }
     ensures reads { OnOk result (ReadsPage 0 (P.standing pages.old) (P.standing pages.new)) }
+    ensures line { OnOk result ((P.standing pages.new).touches ≡ (P.standing pages.old).touches ++ touch_of (P.standing pages.old).access 0 0 false ∷ []) }
     ensures few { (P.standing pages.new).visits ≤ (P.standing pages.old).visits + 1 }
     ensures ready { OnOk result (P.is_ready pages.new) }
     ensures steady { P.is_steady pages.old → OnOk result (P.is_steady pages.new) }
@@ -96,6 +97,7 @@ fn read_entry<P: Pages>(
     ensures cause { HasCause (λ e. IsTrue (P.standing pages.old).told → IsCatalogDamage limits.now (P.standing pages.old).count (P.standing pages.old).current work.new.page e) (P.standing pages.old) (P.standing pages.new) result }
     ensures continues { Continues (P.may_leave pages.old) (P.may_leave pages.new) (P.is_steady pages.old) (P.standing pages.old) (P.standing pages.new) }
     ensures reads { OnOk result (ReadsPage 0 (P.standing pages.old) (P.standing pages.new)) }
+    ensures line { OnOk result ((P.standing pages.new).touches ≡ (P.standing pages.old).touches ++ touch_of (Some (0, false)) 0 (2 + at) false ∷ []) }
     ensures again { (P.standing pages.new).visits ≤ (P.standing pages.old).visits }
     ensures ready { OnOk result (P.is_ready pages.new) }
     ensures steady { P.is_steady pages.old → OnOk result (P.is_steady pages.new) }
@@ -125,6 +127,7 @@ pub(crate) fn search<P: Pages>(
     ensures cause { HasCause (λ e. IsTrue (P.standing pages.old).told → IsCatalogDamage limits.now (P.standing pages.old).count (P.standing pages.old).current work.new.page e) (P.standing pages.old) (P.standing pages.new) result }
     ensures continues { Continues (P.may_leave pages.old) (P.may_leave pages.new) (P.is_steady pages.old) (P.standing pages.old) (P.standing pages.new) }
     ensures reads { OnOk result (ReadsPage 0 (P.standing pages.old) (P.standing pages.new)) }
+    ensures lines { IfOk result (λ place. (P.standing pages.new).touches ≡ (P.standing pages.old).touches ++ entry_touches 2 (entries_read (word header.now 1) place)) }
     ensures again { (P.standing pages.new).visits ≤ (P.standing pages.old).visits }
     ensures ready { OnOk result (P.is_ready pages.new) }
     ensures steady { P.is_steady pages.old → OnOk result (P.is_steady pages.new) }
@@ -152,6 +155,7 @@ pub(crate) fn find_entry<P: Pages>(
     ensures cause { HasCause (λ e. IsTrue (P.standing pages.old).told → IsCatalogDamage limits.now (P.standing pages.old).count (P.standing pages.old).current work.new.page e) (P.standing pages.old) (P.standing pages.new) result }
     ensures continues { Continues (P.may_leave pages.old) (P.may_leave pages.new) (P.is_steady pages.old) (P.standing pages.old) (P.standing pages.new) }
     ensures reads { OnOk result (ReadsPage 0 (P.standing pages.old) (P.standing pages.new)) }
+    ensures lines { IsTrue (P.standing pages.old).told → OnOk result ((P.standing pages.new).touches ≡ (P.standing pages.old).touches ++ lookup_touches (P.standing pages.old).access (P.standing pages.old).current name.now) }
     ensures few { (P.standing pages.new).visits ≤ (P.standing pages.old).visits + 1 }
     ensures ready { OnOk result (P.is_ready pages.new) }
     ensures steady { P.is_steady pages.old → OnOk result (P.is_steady pages.new) }
@@ -171,6 +175,7 @@ pub fn has_table<P: Pages>(pages: &mut P, limits: &Limits, name: &Name, work: &m
     ensures cause { HasCause (λ e. IsTrue (P.standing pages.old).told → IsCatalogDamage limits.now (P.standing pages.old).count (P.standing pages.old).current work.new.page e) (P.standing pages.old) (P.standing pages.new) result }
     // what is read, and what stays
     ensures reads { OnOk result (ReadsPage 0 (P.standing pages.old) (P.standing pages.new)) }
+    ensures lines { IsTrue (P.standing pages.old).told → OnOk result ((P.standing pages.new).touches ≡ (P.standing pages.old).touches ++ lookup_touches (P.standing pages.old).access (P.standing pages.old).current name.now) }
     ensures few { (P.standing pages.new).visits ≤ (P.standing pages.old).visits + 1 }
     ensures continues { Continues (P.may_leave pages.old) (P.may_leave pages.new) (P.is_steady pages.old) (P.standing pages.old) (P.standing pages.new) }
     ensures ready { OnOk result (P.is_ready pages.new) }

@@ -57,6 +57,7 @@ fn write_entry<P: Pages>(pages: &mut P, header: Line, line: &Line, at: u64) -> R
     ensures after { IsTrue (P.standing pages.old).told → OnOk result ((P.standing pages.new).current ≡ with_line 0 0 (with_word 1 (at + 1) header) (with_line 0 (2 + at) line.now (P.standing pages.old).current)) }
     ensures cause { HasCause Never (P.standing pages.old) (P.standing pages.new) result }
     ensures continues { Continues (P.may_leave pages.old) (P.may_leave pages.new) (P.is_steady pages.old) (P.standing pages.old) (P.standing pages.new) }
+    ensures room { OnOk result ((P.standing pages.old).room ≤ (P.standing pages.new).room + 2) }
     ensures few { (P.standing pages.new).visits ≤ (P.standing pages.old).visits + 2 }
     ensures ready { OnOk result (P.is_ready pages.new) }
     ensures steady { P.is_steady pages.old → OnOk result (P.is_steady pages.new) }
@@ -76,6 +77,7 @@ fn write_table<P: Pages>(pages: &mut P, name: &Name, page: u64, at: u64) -> Resu
     ensures after { IsTrue (P.standing pages.old).told → OnOk result (Written (P.standing pages.old).current (P.standing pages.new).current name.now page at) }
     ensures cause { HasCause Never (P.standing pages.old) (P.standing pages.new) result }
     ensures continues { Continues (P.may_leave pages.old) (P.may_leave pages.new) (P.is_steady pages.old) (P.standing pages.old) (P.standing pages.new) }
+    ensures room { OnOk result ((P.standing pages.old).room ≤ (P.standing pages.new).room + 3) }
     ensures few { (P.standing pages.new).visits ≤ (P.standing pages.old).visits + 4 }
     ensures ready { OnOk result (P.is_ready pages.new) }
     ensures steady { P.is_steady pages.old → OnOk result (P.is_steady pages.new) }
@@ -122,6 +124,7 @@ fn add_table<P: Pages>(
     ensures sound { IsTrue (P.standing pages.old).told → at ≡ table_count (P.standing pages.old).current → IsStore limits.now (P.standing pages.old).count (P.standing pages.old).current → 1 + limits.now.tables * (limits.now.rows / 2 + 8) ≤ (P.standing pages.old).count → IfErr result IsFault }
     ensures cause { HasCause (λ e. IsTrue (P.standing pages.old).told → IsSpaceDamage (take_checks (P.standing pages.old).count (P.standing pages.old).current) (P.standing pages.old).current work.new.page e) (P.standing pages.old) (P.standing pages.new) result }
     ensures continues { Continues (P.may_leave pages.old) (P.may_leave pages.new) (P.is_steady pages.old) (P.standing pages.old) (P.standing pages.new) }
+    ensures room { OnOk result ((P.standing pages.old).room ≤ (P.standing pages.new).room + 4) }
     ensures few { (P.standing pages.new).visits ≤ (P.standing pages.old).visits + 8 }
     ensures ready { OnOk result (P.is_ready pages.new) }
     ensures steady { P.is_steady pages.old → OnOk result (P.is_steady pages.new) }
@@ -172,6 +175,7 @@ fn create_at<P: Pages>(
     ensures cause { HasCause (λ e. IsTrue (P.standing pages.old).told → IsSpaceDamage (take_checks (P.standing pages.old).count (P.standing pages.old).current) (P.standing pages.old).current work.new.page e) (P.standing pages.old) (P.standing pages.new) result }
     ensures keeps { IfOk result (KeepsUnlessMade (P.standing pages.old) (P.standing pages.new)) }
     ensures continues { Continues (P.may_leave pages.old) (P.may_leave pages.new) (P.is_steady pages.old) (P.standing pages.old) (P.standing pages.new) }
+    ensures room { OnOk result ((P.standing pages.old).room ≤ (P.standing pages.new).room + 4) }
     ensures few { (P.standing pages.new).visits ≤ (P.standing pages.old).visits + 8 }
     ensures ready { OnOk result (P.is_ready pages.new) }
     ensures steady { P.is_steady pages.old → OnOk result (P.is_steady pages.new) }
@@ -201,6 +205,7 @@ pub fn create<P: Pages>(
     ensures cause { HasCause (λ e. IsTrue (P.standing pages.old).told → IsCreateDamage limits.now (P.standing pages.old).count (P.standing pages.old).current work.new.page e) (P.standing pages.old) (P.standing pages.new) result }
     // what stays
     ensures continues { Continues (P.may_leave pages.old) (P.may_leave pages.new) (P.is_steady pages.old) (P.standing pages.old) (P.standing pages.new) }
+    ensures room { OnOk result ((P.standing pages.old).room ≤ (P.standing pages.new).room + 4) }
     ensures few { (P.standing pages.new).visits ≤ (P.standing pages.old).visits + 9 }
     ensures ready { OnOk result (P.is_ready pages.new) }
     ensures steady { P.is_steady pages.old → OnOk result (P.is_steady pages.new) }

@@ -8,6 +8,8 @@ mod entry;
 mod limits;
 mod lookup;
 mod name;
+#[cfg(test)]
+mod tests;
 
 pub use catalog::has_table;
 pub use answer::{Created, Got};

@@ -1,6 +1,6 @@
 //! The value of a key in a table.
-ghost use Rattle.std.specs.Prelude.{◌≡◌, ◌+◌, ◌<◌, ◌≤◌, ℕ, List, Some, None, true, false, IsTrue, OnOk, IfOk, IfErr};
-ghost use Rattle.line_pages.specs.Touch.{begins};
+ghost use Rattle.std.specs.Prelude.{◌≡◌, ◌+◌, ◌∷◌, ◌++◌, ◌<◌, ◌≤◌, ℕ, List, Some, None, true, false, IsTrue, OnOk, IfOk, IfErr};
+ghost use Rattle.line_pages.specs.Touch.{Touch, begins, touch_of};
 ghost use Rattle.line_pages.specs.Standing.{Continues, HasCause, KeepsLines, AddsReads};
 ghost use Rattle.slotted_page.specs.Rows.{Row, row_get};
 ghost use Rattle.slotted_page.specs.Search.{IsNodeDamage};
@@ -61,6 +61,7 @@ pub fn get<P: Pages>(
     // what is read
     ensures way { IsTrue (P.standing pages.old).told → (P.standing pages.old).access ≡ None → OnOk result (AddsReads (IsLookup limits.now (P.standing pages.old).count (P.standing pages.old).current name.now key) (P.standing pages.old) (P.standing pages.new)) }
     ensures visits { IsTrue (P.standing pages.old).told → (P.standing pages.old).access ≡ None → OnOk result ((P.standing pages.new).visits ≡ (P.standing pages.old).visits + 1 + place_levels (place_of name.now 0 (entries (P.standing pages.old).current))) }
+    ensures first { IsTrue (P.standing pages.old).told → OnOk result ((rest : List Touch) × ((P.standing pages.new).touches ≡ (P.standing pages.old).touches ++ touch_of (P.standing pages.old).access 0 0 false ∷ rest)) }
     // what stays
     ensures keeps { OnOk result (KeepsLines (P.standing pages.old) (P.standing pages.new)) }
     ensures continues { Continues (P.may_leave pages.old) (P.may_leave pages.new) (P.is_steady pages.old) (P.standing pages.old) (P.standing pages.new) }

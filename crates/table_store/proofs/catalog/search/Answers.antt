@@ -1,4 +1,4 @@
-use Rattle.std.proofs.Common.{◌≡◌, ◌+◌, ◌-◌, ◌<◌, ◌≤◌, ℕ, false, IsTrue, arith, refl, ap, sym, subst, ◌∙◌}
+use Rattle.std.proofs.Common.{◌≡◌, ◌+◌, ◌-◌, ◌<◌, ◌≤◌, ℕ, false, append-nil, IsTrue, arith, refl, ap, sym, subst, ◌∙◌}
 use Rattle.nvm_model.specs.declared.line.Line.{Line}
 use Rattle.line_pages.specs.Lines.{Lines}
 use Rattle.line_pages.specs.Standing.{ReadsPage}
@@ -6,7 +6,8 @@ use Rattle.line_pages.proofs.StandingLaws.{Continues-refl, Continues-trans, Read
 use Rattle.bplus_tree.specs.Space.{word}
 use Rattle.table_store.specs.declared.entry.Entry.{Entry}
 use Rattle.table_store.specs.Catalog.{entry_in as entry_of_line, FitsCatalog}
-use Rattle.table_store.proofs.CatalogLaws.{place_start, place_step, place_found, place_none}
+use Rattle.table_store.proofs.CatalogLaws.{place_start, place_step, place_found}
+use Rattle.table_store.proofs.TouchesLaws.{touches_step}
 use Rattle.table_store.proofs.catalog.search.Goals as goal
 
 entry_there : (old now : Lines) (i : ℕ) (entry : Entry) → now ≡ old → entry ≡ entry_of_line (now 0 (2 + i)) → entry ≡ entry_of_line (old 0 (2 + i))
@@ -23,6 +24,7 @@ loop-at-init g c =
       again = omega arith;
       nvm_kept = refl;
       ssd_kept = refl;
+      lines = sym (append-nil old.touches);
       so_far = λ told. place_start c.args.name.now old.current (word c.args.header.now 1) (ap (λ (h : Line). word h 1) (c.requires.header told));
     }
 
@@ -55,6 +57,7 @@ loop-at-preserved g c =
       again = omega (arith, read.again, before.again);
       nvm_kept = read.cause.kept.0 ∙ before.nvm_kept;
       ssd_kept = read.cause.kept.1 ∙ before.ssd_kept;
+      lines = touches_step old.touches _ _ c.loop-at.at before.lines read.line;
       so_far = λ told. place_step c.args.name.now old.current _ c.loop-at.at (word c.args.header.now 1) c.in_ok-entry.entry c.loop-at-test.true (before.so_far told)
           (entry_there old.current (g.P.Pages.standing c.loop-at.pages).current c.loop-at.at c.in_ok-entry.entry (before.reads.current told) (read.entry (subst IsTrue (sym before.continues.told) told)))
           (sym c.has_name.ensures ∙ c.if-has_name.false);
@@ -73,3 +76,6 @@ returns-then-has_name-clause-continues g c = Continues-trans c.loop-at.invariant
 
 pub returns-then-has_name-clause-reads : goal.returns-then-has_name-clause-reads
 returns-then-has_name-clause-reads g c = ReadsPage-trans c.loop-at.invariant.reads c.in_ok-entry.ensures.reads
+
+pub returns-then-has_name-clause-lines : goal.returns-then-has_name-clause-lines
+returns-then-has_name-clause-lines g c = touches_step (g.P.Pages.standing c.args.pages.now).touches _ _ c.loop-at.at c.loop-at.invariant.lines c.in_ok-entry.ensures.line

@@ -1,6 +1,7 @@
 use Rattle.std.proofs.Common.{◌≡◌, IsTrue, Some, sym, subst, ◌∙◌}
 use Rattle.table_store.specs.Catalog.{entries, place_of}
 use Rattle.table_store.proofs.LookupLaws.{no_table, value_in, sound_in, way_none, way_some}
+use Rattle.table_store.proofs.TouchesLaws.{first_on}
 use Rattle.table_store.proofs.lookup.get.Goals as goal
 
 pub returns-in-None-clause-value : goal.returns-in-None-clause-value
@@ -39,3 +40,9 @@ returns-in-Some-clause-way g c = λ told closed.
     way_some c.args.limits.now c.args.name.now c.args.key c.in-Some.place old now (g.P.Pages.standing c.get_in.new.pages) c.get_in.result
     (sym (found.place told) ∙ c.in-Some.is) (rw c.in-Some.is at found.fits).entry closed found.continues.count (found.reads.current told) found.reads
     (rw c.root_of-root.ensures at (c.get_in.ensures.way told_on)) (rw c.root_of-root.ensures at (c.get_in.ensures.visits told_on))
+
+pub returns-in-Some-clause-first : goal.returns-in-Some-clause-first
+returns-in-Some-clause-first g c = λ told.
+    let old = g.P.Pages.standing c.args.pages.now in
+    let mid = g.P.Pages.standing c.find_entry.new.pages in
+    first_on old.touches mid.touches (g.P.Pages.standing c.get_in.new.pages).touches _ _ c.get_in.result (c.in_ok-find_entry.ensures.lines told) c.get_in.ensures.continues.touches
