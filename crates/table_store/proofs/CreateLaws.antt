@@ -1,27 +1,27 @@
 -- A table that is made leaves the others, and the store is in order again.
-use Rattle.std.proofs.Common.{◌≡◌, ◌≢◌, ℕ, zero, suc, ◌+◌, ◌-◌, ◌<◌, ◌≤◌, inl, inr, Bool, true, false, not, cond, IsTrue, List, [], ◌∷◌, ◌++◌, map, length, None, Some, Result, Ok, Err, OnOk, refl, sym, ap, subst, ◌∙◌, arith, nat_lt, nat_le, nat_eq, ◌&&◌}
+use Rattle.std.proofs.Common.{◌≡◌, ◌≢◌, ℕ, zero, suc, ◌+◌, ◌<◌, ◌≤◌, inl, inr, Bool, true, false, not, cond, List, [], ◌∷◌, ◌++◌, map, length, None, Some, Result, Ok, Err, OnOk, refl, sym, ap, subst, ◌∙◌, arith, nat_lt, nat_le, nat_eq}
 use Rattle.std.specs.Prelude.{bytes_eq, is_some}
 use Rattle.std.specs.List.{list_all, list_any}
-use Rattle.std.proofs.lemmas.Bool.{cases_Bool, ltb-true, leb-true, lt-ltb, le-ltb, le-leb, eq-eqb, and_parts, and_from}
+use Rattle.std.proofs.lemmas.Bool.{cases_Bool, leb-true, lt-ltb, le-ltb, le-leb, eq-eqb, and_parts, and_from}
 use Rattle.std.proofs.lemmas.List.{map-append, get_or-set_same, get_or-set_other}
 use Rattle.nvm_model.specs.declared.line.Line.{Line}
 use Rattle.line_pages.specs.declared.stop.Stop.{Stop}
 use Rattle.line_pages.specs.Lines.{Lines, with_line}
 use Rattle.line_pages.proofs.LineLaws.{with_line-here, with_line-other_page, with_line-other_line}
-use Rattle.slotted_page.specs.Rows.{Each, last_key}
+use Rattle.slotted_page.specs.Rows.{Each}
 use Rattle.bplus_tree.specs.Space.{word, with_word, kind_of, high_of, free_head, IsFreeFrom, IsFreeList}
-use Rattle.bplus_tree.specs.Tree.{times, SameOn, IsTree}
+use Rattle.bplus_tree.specs.Tree.{times, SameOn}
 use Rattle.bplus_tree.specs.Moves.{below, Moves, AreExactly, SameEntries, Takes}
 use Rattle.bplus_tree.proofs.TreeLaws.{times-append}
-use Rattle.bplus_tree.proofs.SpaceLaws.{free_from-same, free_from-not_zero}
+use Rattle.bplus_tree.proofs.SpaceLaws.{free_from-same}
 use Rattle.table_store.specs.declared.limits.Limits.{Limits}
 use Rattle.table_store.specs.declared.entry.Entry.{Entry}
 use Rattle.table_store.specs.Names.{is_name}
-use Rattle.table_store.specs.Catalog.{entry_in, entries, entries_from, table_count, name_of, name_in, is_name_field, table_of, tables, place_of, is_entry, names_differ, catalog_checks, entry_rows, entry_pages}
+use Rattle.table_store.specs.Catalog.{entry_in, entries, entries_from, table_count, name_of, table_of, tables, place_of, is_entry, names_differ, catalog_checks}
 use Rattle.table_store.specs.Stored.{HasTree, all_pages, IsStore, is_known}
-use Rattle.table_store.specs.Created.{field_of, new_entry, leaf_line, Written, Makes, IsCreated}
+use Rattle.table_store.specs.Created.{new_entry, leaf_line, Written, Makes, IsCreated}
 use Rattle.table_store.specs.declared.entry.Place.{Place}
-use Rattle.table_store.specs.declared.answer.Created.TheVariants.{Made, Present, NoSlot}
+use Rattle.table_store.specs.declared.answer.Created.TheVariants.{Made, NoSlot}
 use Rattle.table_store.proofs.CatalogLaws.{AllHold, all_hold, none_fails, known_by}
 use Rattle.table_store.proofs.RoomLaws.{length-entries}
 use Rattle.table_store.proofs.EntryLaws.{name_back, field_named}

@@ -1,12 +1,12 @@
 -- The entry in a line of the catalog.
-use Rattle.std.proofs.Common.{◌≡◌, ℕ, zero, suc, ◌+◌, ◌-◌, ◌*◌, ◌<◌, ◌≤◌, List, [], ◌∷◌, ◌++◌, append-nil, take-add, drop-drop, take_all, length, take, drop, refl, sym, ap, ◌∙◌, arith}
+use Rattle.std.proofs.Common.{◌≡◌, ℕ, zero, suc, ◌+◌, ◌-◌, ◌≤◌, List, [], ◌∷◌, ◌++◌, append-nil, take-add, drop-drop, take_all, length, take, drop, refl, sym, ap, ◌∙◌, arith}
 use Rattle.std.proofs.lemmas.List.{drop-replicate, take-replicate, take_at}
 use Rattle.std.specs.Prelude.{true, replicate, nat_le, ◌&&◌}
 use Rattle.std.specs.List.{list_all}
 use Rattle.std.proofs.lemmas.Bool.{and_parts, and_from}
 use borrow.Rule.Slice.PartMut.{post_of}
 use Rattle.nvm_model.specs.declared.line.Line.{Line}
-use Rattle.line_pages.specs.Bytes.{bytes_of_word, overwritten, word_bytes, pieces}
+use Rattle.line_pages.specs.Bytes.{bytes_of_word, overwritten}
 use Rattle.std.specs.Prelude.{slice_index, slice_range}
 use Rattle.table_store.specs.Names.{is_name, is_name_byte}
 use Rattle.table_store.specs.Catalog.{field_in, name_in, is_name_field, is_zero}
@@ -31,11 +31,11 @@ pub four_parts : (field : List ℕ) (a b c d e f g h : ℕ) → length field ≡
 unfolding field_in
 four_parts field a b c d e f g h size is_a is_b is_c is_d =
     rw (is_a, is_b, is_c, is_d) (
-      ap (λ l. slice_range field 0 8 ++ (slice_range field 8 16 ++ (slice_range field 16 24 ++ l))) (append-nil (slice_range field 24 32))
-      ∙ ap (λ l. slice_range field 0 8 ++ (slice_range field 8 16 ++ l)) (join_parts field 16 24 32 (omega arith) (omega arith))
-      ∙ ap (λ l. slice_range field 0 8 ++ l) (join_parts field 8 16 32 (omega arith) (omega arith))
-      ∙ join_parts field 0 8 32 (omega arith) (omega arith)
-      ∙ take_all 32 field (omega (arith, size)))
+    ap (λ l. slice_range field 0 8 ++ (slice_range field 8 16 ++ (slice_range field 16 24 ++ l))) (append-nil (slice_range field 24 32))
+    ∙ ap (λ l. slice_range field 0 8 ++ (slice_range field 8 16 ++ l)) (join_parts field 16 24 32 (omega arith) (omega arith))
+    ∙ ap (λ l. slice_range field 0 8 ++ l) (join_parts field 8 16 32 (omega arith) (omega arith))
+    ∙ join_parts field 0 8 32 (omega arith) (omega arith)
+    ∙ take_all 32 field (omega (arith, size)))
 
 -- a name put behind its length
 pub field_put : (name : List ℕ) (k : ℕ) → k ≡ length name → post_of 1 k (length name ∷ 0 ∷ 0 ∷ 0 ∷ 0 ∷ 0 ∷ 0 ∷ 0 ∷ 0 ∷ 0 ∷ 0 ∷ 0 ∷ 0 ∷ 0 ∷ 0 ∷ 0 ∷ 0 ∷ 0 ∷ 0 ∷ 0 ∷ 0 ∷ 0 ∷ 0 ∷ 0 ∷ 0 ∷ 0 ∷ 0 ∷ 0 ∷ 0 ∷ 0 ∷ 0 ∷ 0 ∷ []) ≡ replicate (31 - length name) 0

@@ -1,11 +1,10 @@
 -- A change of one table's tree leaves the other tables.
-use Rattle.std.proofs.Common.{◌≡◌, ◌≢◌, ℕ, zero, suc, ◌+◌, ◌-◌, ◌<◌, ◌≤◌, inl, inr, Bool, true, cond, List, [], ◌∷◌, ◌++◌, map, length, None, refl, sym, ap, subst, ◌∙◌, arith, nat_lt, nat_le, nat_eq, ◌&&◌, append_assoc}
+use Rattle.std.proofs.Common.{◌≡◌, ◌≢◌, ℕ, zero, suc, ◌+◌, ◌-◌, ◌<◌, ◌≤◌, inl, inr, Bool, true, cond, List, [], ◌∷◌, ◌++◌, map, length, refl, sym, ap, subst, ◌∙◌, arith, nat_lt, nat_le, nat_eq, ◌&&◌, append_assoc}
 use Rattle.std.specs.List.{list_all}
 use Rattle.std.proofs.lemmas.Bool.{ltb-true, leb-true, lt-ltb, le-ltb, le-leb, eq-eqb, and_parts, and_from, cases_lt}
 use Rattle.std.proofs.lemmas.List.{map-append}
 use Rattle.table_store.specs.declared.limits.Limits.{Limits}
 use Rattle.line_pages.specs.Lines.{Lines}
-use Rattle.slotted_page.specs.Checks.{first_failure}
 use Rattle.bplus_tree.specs.Space.{high_of, free_head, IsFreeList}
 use Rattle.slotted_page.specs.Rows.{Each, last_key}
 use Rattle.bplus_tree.specs.Tree.{times, tree_pages, SameOn}

@@ -1,10 +1,9 @@
 -- A leaf with no row.
-use Rattle.std.proofs.Common.{◌≡◌, ℕ, true, List, [], length, None, refl, sym, ap, ◌∙◌, arith}
-use Rattle.nvm_model.specs.declared.line.Line.{Line}
+use Rattle.std.proofs.Common.{◌≡◌, ℕ, true, List, [], None, refl, sym, arith}
 use Rattle.line_pages.specs.Lines.{Lines}
 use Rattle.line_pages.specs.Bytes.{bytes_of, u64_at}
 use Rattle.line_pages.proofs.ByteLaws.{header_word}
-use Rattle.slotted_page.specs.Rows.{Row, last_key}
+use Rattle.slotted_page.specs.Rows.{last_key}
 use Rattle.slotted_page.specs.Node.{slots, leaf_rows, first_failing}
 use Rattle.bplus_tree.specs.Tree.{IsTree, tree_rows}
 use Rattle.table_store.specs.Created.{leaf_line}

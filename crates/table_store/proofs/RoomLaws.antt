@@ -1,10 +1,10 @@
 -- How many pages a store has in use, and that a table always finds room.
-use Rattle.std.proofs.Common.{◌≡◌, ◌≢◌, ◌<◌, not, None, Result, Ok, Err, IfErr, inl, inr, nat_eq, ◌||◌, ℕ, zero, suc, ◌+◌, ◌-◌, ◌*◌, ◌/◌, ◌≤◌, Bool, true, List, [], ◌∷◌, ◌++◌, map, length, refl, sym, ap, subst, ◌∙◌, arith, nat_le, nat_lt, ◌&&◌, length-append, suc-mul, add-mul, zero-mul, one-mul, mul-le-mul_right}
+use Rattle.std.proofs.Common.{◌≡◌, ◌≢◌, ◌<◌, not, None, Result, Ok, Err, IfErr, nat_eq, ◌||◌, ℕ, zero, suc, ◌+◌, ◌-◌, ◌*◌, ◌/◌, ◌≤◌, Bool, true, List, [], ◌∷◌, ◌++◌, map, length, refl, sym, ap, subst, ◌∙◌, arith, nat_le, nat_lt, ◌&&◌, length-append, suc-mul, add-mul, zero-mul, one-mul, mul-le-mul_right}
 use Rattle.std.specs.List.{list_all}
 use Rattle.std.proofs.lemmas.Bool.{leb-true, and_parts, eq-eqb, ne_eqb}
 use Rattle.table_store.specs.declared.limits.Limits.{Limits}
 use Rattle.line_pages.specs.Lines.{Lines}
-use Rattle.bplus_tree.specs.Space.{high_of, free_head, is_free_page, take_checks, IsFreeList, IsSpaceDamage, is_catalog, high_in_range, head_in_range}
+use Rattle.bplus_tree.specs.Space.{high_of, free_head, is_free_page, take_checks, IsFreeList, IsSpaceDamage}
 use Rattle.slotted_page.specs.Rows.{Each, last_key}
 use Rattle.slotted_page.specs.Checks.{first_failure}
 use Rattle.table_store.specs.declared.entry.Entry.{Entry}

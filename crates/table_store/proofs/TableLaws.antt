@@ -1,22 +1,22 @@
 -- The tables of a store in order.
-use Rattle.std.proofs.Common.{◌≡◌, ℕ, zero, suc, ◌+◌, ◌-◌, ◌<◌, ◌≤◌, inl, inr, Bool, true, false, cond, List, [], ◌∷◌, ◌++◌, map, length, refl, sym, ap, subst, ◌∙◌, arith, None, Some, Option, IsTrue, Result, Ok, Err, IfErr, nat_lt, nat_eq}
+use Rattle.std.proofs.Common.{◌≡◌, ℕ, suc, ◌+◌, ◌≤◌, inl, inr, cond, List, [], ◌∷◌, ◌++◌, map, refl, sym, ap, subst, ◌∙◌, arith, None, Some, Option, Result, Ok, Err, IfErr, nat_lt, nat_eq}
 use Rattle.std.specs.Prelude.{bytes_eq}
 use Rattle.std.proofs.lemmas.Bool.{cases_Bool}
 use Rattle.line_pages.specs.declared.stop.Stop.{Stop}
 use Rattle.line_pages.specs.declared.stop.Stop.TheVariants.{Nvm, Ssd, Damaged}
 use Rattle.line_pages.specs.Lines.{Lines}
 use Rattle.line_pages.specs.Standing.{Standing, HasCause}
-use Rattle.slotted_page.specs.Rows.{Row, Each, last_key}
+use Rattle.slotted_page.specs.Rows.{Each}
 use Rattle.bplus_tree.specs.declared.root.Root.{Root}
 use Rattle.bplus_tree.specs.Space.{high_of}
-use Rattle.bplus_tree.specs.Tree.{times, IsTree, IsRooted}
+use Rattle.bplus_tree.specs.Tree.{times, IsRooted}
 use Rattle.bplus_tree.specs.Moves.{below}
 use Rattle.bplus_tree.specs.Damage.{IsFault}
 use Rattle.bplus_tree.proofs.TreeLaws.{times-append}
 use Rattle.table_store.specs.declared.limits.Limits.{Limits}
 use Rattle.table_store.specs.declared.entry.Entry.{Entry}
 use Rattle.table_store.specs.declared.entry.Place.{Place}
-use Rattle.table_store.specs.Catalog.{entries, name_of, table_of, tables, place_of, entry_rows, entry_pages, FitsEntry, IsCatalogDamage}
+use Rattle.table_store.specs.Catalog.{entries, name_of, table_of, place_of, entry_rows, entry_pages, FitsEntry, IsCatalogDamage}
 use Rattle.table_store.specs.Stored.{HasTree, all_pages, IsStore, rows_of, place_rows}
 
 -- a catalog in order is never damaged

@@ -1,10 +1,8 @@
 -- The touches of a look-up of a name.
-use Rattle.std.proofs.Common.{◌≡◌, ℕ, zero, suc, ◌+◌, false, List, [], ◌∷◌, ◌++◌, refl, sym, ap, ◌∙◌, arith, append_assoc, Some, Option, Result, Ok, Err, OnOk, IfOk}
+use Rattle.std.proofs.Common.{◌≡◌, ℕ, zero, suc, ◌+◌, false, List, [], ◌∷◌, ◌++◌, sym, ap, ◌∙◌, arith, append_assoc, Some, Option, Result, Ok, Err, OnOk, IfOk}
 use Rattle.line_pages.specs.declared.stop.Stop.{Stop}
 use Rattle.line_pages.specs.Lines.{Lines}
 use Rattle.line_pages.specs.Touch.{Touch, Access, touch_of}
-use Rattle.line_pages.specs.Standing.{Standing}
-use Rattle.bplus_tree.specs.Space.{word}
 use Rattle.table_store.specs.declared.entry.Place.{Place}
 use Rattle.table_store.specs.Catalog.{entries, place_of, table_count, entry_touches, entries_read, lookup_touches}
 

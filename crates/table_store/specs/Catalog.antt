@@ -1,5 +1,5 @@
 -- The catalog in page 0, and the tables of a store of pages.
-use Rattle.std.specs.Prelude.{◌≡◌, ℕ, zero, suc, ◌+◌, ◌-◌, ◌≤◌, ◌<◌, Bool, true, false, List, [], ◌∷◌, ◌++◌, length, map, None, Option, Some, not, nat_lt, nat_le, ◌==◌, ◌&&◌, if◌then◌else◌, flat_map, slice_index, slice_range, bytes_eq}
+use Rattle.std.specs.Prelude.{◌≡◌, ℕ, zero, suc, ◌+◌, ◌-◌, ◌≤◌, ◌<◌, Bool, true, false, List, [], ◌∷◌, ◌++◌, map, None, Option, Some, not, nat_lt, nat_le, ◌==◌, ◌&&◌, if◌then◌else◌, slice_index, slice_range, bytes_eq}
 use Rattle.std.specs.List.{list_all, list_any}
 use Rattle.nvm_model.specs.declared.line.Line.{Line}
 use Rattle.line_pages.specs.Lines.{Lines}

@@ -58,7 +58,11 @@ fn failing(header: &Line, limits: &Limits, count: u64) -> Option<u8>
 
 /// Reads the header of the catalog and makes its checks.
 #[tactic(auto, using(crate::proofs::CatalogLaws::fits_catalog, crate::proofs::CatalogLaws::odd_header))]
-pub(crate) fn read_catalog<P: Pages>(pages: &mut P, limits: &Limits, work: &mut Work) -> Result<Line, Stop>
+pub(crate) fn read_catalog<P: Pages>(
+    pages: &mut P,
+    limits: &Limits,
+    work: &mut Work,
+) -> Result<Line, Stop>
     requires ready { P.is_ready pages.old }
     ensures header { IsTrue (P.standing pages.old).told → IfOk result (λ line. line ≡ (P.standing pages.old).current 0 0) }
     ensures fits { IfOk result (FitsCatalog limits.now (P.standing pages.old).count) }
@@ -166,7 +170,12 @@ pub(crate) fn find_entry<P: Pages>(
 
 /// Whether a table has the name. `Damaged` comes only with the first of the checks 31 to 35 that the catalog fails.
 #[tactic(auto, using(crate::proofs::CatalogLaws::known_by, crate::proofs::TableLaws::sound_catalog))]
-pub fn has_table<P: Pages>(pages: &mut P, limits: &Limits, name: &Name, work: &mut Work) -> Result<bool, Stop>
+pub fn has_table<P: Pages>(
+    pages: &mut P,
+    limits: &Limits,
+    name: &Name,
+    work: &mut Work,
+) -> Result<bool, Stop>
     requires ready { P.is_ready pages.old }
     // the answer
     ensures known { IsTrue (P.standing pages.old).told → IfOk result (λ known. known ≡ is_known name.now (tables (P.standing pages.old).current)) }

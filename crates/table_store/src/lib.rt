@@ -11,8 +11,8 @@ mod name;
 #[cfg(test)]
 mod tests;
 
-pub use catalog::has_table;
 pub use answer::{Created, Got};
+pub use catalog::has_table;
 pub use creation::create;
 pub use limits::Limits;
 pub use lookup::get;

@@ -1,6 +1,4 @@
 //! Each public call once with ample memory, worked examples, and each check of the catalog in turn.
-ghost use Rattle.std.specs.Prelude.{◌≡◌, ◌+◌, ◌≤◌};
-
 use crate::answer::{Created, Got};
 use crate::catalog::has_table;
 use crate::creation::create;
@@ -10,6 +8,7 @@ use crate::name::Name;
 use line_pages::{Evidence, Pages, Stop, VecPages};
 use nvm_model::{Line, NoMemory};
 use slotted_page::Work;
+use std::alloc::Global;
 
 /// Why a test ended early.
 #[derive(Debug, Drop)]
@@ -52,15 +51,15 @@ fn line(words: [u64; 8]) -> Line {
     Line { words }
 }
 
-const TWO_TABLES: Limits = Limits {
-    tables: 2,
-    rows: 9,
-};
+const TWO_TABLES: Limits = Limits { tables: 2, rows: 9 };
 
 #[test]
 fn tells_names_from_other_bytes(rt: HostRuntime) -> Result<(), Early> {
     assert_eq!(rt; named(b"table_7")?.bytes().len(), 7);
-    assert_eq!(rt; named(b"abcdefghijklmnopqrstuvwxyz01234")?.bytes().len(), 31);
+    assert_eq!(rt;
+        named(b"abcdefghijklmnopqrstuvwxyz01234")?.bytes().len(),
+        31
+    );
     assert!(rt; Name::from_bytes(b"").is_none());
     assert!(rt; Name::from_bytes(b"abcdefghijklmnopqrstuvwxyz012345").is_none());
     assert!(rt; Name::from_bytes(b"A").is_none());
@@ -77,14 +76,29 @@ fn makes_tables_by_name(rt: HostRuntime) -> Result<(), Early> {
     let second = named(b"cow")?;
     let third = named(b"dog")?;
     assert!(rt; !has_table(&mut pages, &TWO_TABLES, &first, &mut work)?);
-    assert_eq!(rt; create(&mut pages, &TWO_TABLES, &first, &mut work)?, Created::Made);
-    assert_eq!(rt; create(&mut pages, &TWO_TABLES, &second, &mut work)?, Created::Made);
-    assert_eq!(rt; create(&mut pages, &TWO_TABLES, &first, &mut work)?, Created::Present);
-    assert_eq!(rt; create(&mut pages, &TWO_TABLES, &third, &mut work)?, Created::NoSlot);
+    assert_eq!(rt;
+        create(&mut pages, &TWO_TABLES, &first, &mut work)?,
+        Created::Made
+    );
+    assert_eq!(rt;
+        create(&mut pages, &TWO_TABLES, &second, &mut work)?,
+        Created::Made
+    );
+    assert_eq!(rt;
+        create(&mut pages, &TWO_TABLES, &first, &mut work)?,
+        Created::Present
+    );
+    assert_eq!(rt;
+        create(&mut pages, &TWO_TABLES, &third, &mut work)?,
+        Created::NoSlot
+    );
     assert!(rt; has_table(&mut pages, &TWO_TABLES, &second, &mut work)?);
     assert!(rt; !has_table(&mut pages, &TWO_TABLES, &third, &mut work)?);
     assert_eq!(rt; pages.read_line(0, 0)?, line([4, 2, 3, 0, 0, 0, 0, 0]));
-    assert_eq!(rt; pages.read_line(0, 3)?, line([0x776f_6303, 0, 0, 0, 2, 1, 0, 0]));
+    assert_eq!(rt;
+        pages.read_line(0, 3)?,
+        line([0x776f_6303, 0, 0, 0, 2, 1, 0, 0])
+    );
     assert_eq!(rt; pages.read_line(2, 0)?, line([1, 0, 0, 4096, 0, 0, 0, 0]));
     Ok(())
 }
@@ -96,7 +110,10 @@ fn takes_a_free_page_first(rt: HostRuntime) -> Result<(), Early> {
     pages.write_line(0, 0, &line([4, 0, 3, 1, 0, 0, 0, 0]))?;
     pages.write_line(1, 0, &line([3, 2, 0, 0, 0, 0, 0, 0]))?;
     pages.write_line(2, 0, &line([3, 0, 0, 0, 0, 0, 0, 0]))?;
-    assert_eq!(rt; create(&mut pages, &TWO_TABLES, &named(b"a")?, &mut work)?, Created::Made);
+    assert_eq!(rt;
+        create(&mut pages, &TWO_TABLES, &named(b"a")?, &mut work)?,
+        Created::Made
+    );
     assert_eq!(rt; pages.read_line(0, 0)?, line([4, 1, 3, 2, 0, 0, 0, 0]));
     Ok(())
 }
@@ -115,23 +132,29 @@ fn looks_keys_up(rt: HostRuntime) -> Result<(), Early> {
         Got::Found(value) => assert!(rt; value.bytes() == b"v".as_slice()),
         _ => assert!(rt; false),
     }
-    assert!(rt; matches!(get(&mut pages, &TWO_TABLES, &name, 6, &mut work)?, Got::Absent));
-    assert!(rt; matches!(get(&mut pages, &TWO_TABLES, &named(b"b")?, 5, &mut work)?, Got::NoTable));
+    assert!(rt;
+        matches!(
+            get(&mut pages, &TWO_TABLES, &name, 6, &mut work)?,
+            Got::Absent
+        )
+    );
+    assert!(rt;
+        matches!(
+            get(&mut pages, &TWO_TABLES, &named(b"b")?, 5, &mut work)?,
+            Got::NoTable
+        )
+    );
     Ok(())
 }
 
 /// The check that a look-up of `a` names, the first line of page 0 and that of its first entry being these.
-fn check_of(pages: &mut VecPages, header: [u64; 8], entry: [u64; 8]) -> Result<u8, Early>
-    requires room { 2 ≤ (⟦<VecPages as Pages>⟧.standing pages.old).room }
-    requires some { 1 ≤ (⟦<VecPages as Pages>⟧.standing pages.old).count }
-    ensures room { (⟦<VecPages as Pages>⟧.standing pages.old).room ≤ (⟦<VecPages as Pages>⟧.standing pages.new).room + 2 }
-    ensures count { (⟦<VecPages as Pages>⟧.standing pages.new).count ≡ (⟦<VecPages as Pages>⟧.standing pages.old).count }
-{
+fn check_of(alloc: Global, header: [u64; 8], entry: [u64; 8]) -> Result<u8, Early> {
+    let mut pages = VecPages::new(alloc, 8, 2)?;
     let mut work = Work::new();
     pages.write_line(0, 0, &line(header))?;
     pages.write_line(0, 2, &line(entry))?;
     let name = named(b"a")?;
-    match has_table(pages, &TWO_TABLES, &name, &mut work) {
+    match has_table(&mut pages, &TWO_TABLES, &name, &mut work) {
         Ok(_) => Ok(0),
         Err(Stop::Damaged(Evidence::Page { page: 0, check, .. })) => Ok(check),
         Err(stop) => Err(Early::Stopped(stop)),
@@ -140,18 +163,32 @@ fn check_of(pages: &mut VecPages, header: [u64; 8], entry: [u64; 8]) -> Result<u
 
 #[test]
 fn names_the_check_that_fails(rt: HostRuntime) -> Result<(), Early> {
-    let mut pages = VecPages::new(rt.alloc(), 8, 2000)?;
     let good = [0x6101, 0, 0, 0, 1, 1, 1, 0];
-    assert_eq!(rt; check_of(&mut pages, [4, 1, 2, 0, 0, 0, 0, 0], good)?, 0);
-    assert_eq!(rt; check_of(&mut pages, [5, 1, 2, 0, 0, 0, 0, 0], good)?, 31);
-    assert_eq!(rt; check_of(&mut pages, [4, 3, 2, 0, 0, 0, 0, 0], good)?, 32);
-    assert_eq!(rt; check_of(&mut pages, [4, 1, 9, 0, 0, 0, 0, 0], good)?, 33);
-    assert_eq!(rt; check_of(&mut pages, [4, 1, 2, 2, 0, 0, 0, 0], good)?, 34);
+    assert_eq!(rt; check_of(rt.alloc(), [4, 1, 2, 0, 0, 0, 0, 0], good)?, 0);
+    assert_eq!(rt; check_of(rt.alloc(), [5, 1, 2, 0, 0, 0, 0, 0], good)?, 31);
+    assert_eq!(rt; check_of(rt.alloc(), [4, 3, 2, 0, 0, 0, 0, 0], good)?, 32);
+    assert_eq!(rt; check_of(rt.alloc(), [4, 1, 9, 0, 0, 0, 0, 0], good)?, 33);
+    assert_eq!(rt; check_of(rt.alloc(), [4, 1, 2, 2, 0, 0, 0, 0], good)?, 34);
     let header = [4, 1, 2, 0, 0, 0, 0, 0];
-    assert_eq!(rt; check_of(&mut pages, header, [0x4101, 0, 0, 0, 1, 1, 1, 0])?, 35);
-    assert_eq!(rt; check_of(&mut pages, header, [0x6101, 1, 0, 0, 1, 1, 1, 0])?, 35);
-    assert_eq!(rt; check_of(&mut pages, header, [0x6101, 0, 0, 0, 2, 1, 1, 0])?, 35);
-    assert_eq!(rt; check_of(&mut pages, header, [0x6101, 0, 0, 0, 1, 5, 1, 0])?, 35);
-    assert_eq!(rt; check_of(&mut pages, header, [0x6101, 0, 0, 0, 1, 1, 10, 0])?, 35);
+    assert_eq!(rt;
+        check_of(rt.alloc(), header, [0x4101, 0, 0, 0, 1, 1, 1, 0])?,
+        35
+    );
+    assert_eq!(rt;
+        check_of(rt.alloc(), header, [0x6101, 1, 0, 0, 1, 1, 1, 0])?,
+        35
+    );
+    assert_eq!(rt;
+        check_of(rt.alloc(), header, [0x6101, 0, 0, 0, 2, 1, 1, 0])?,
+        35
+    );
+    assert_eq!(rt;
+        check_of(rt.alloc(), header, [0x6101, 0, 0, 0, 1, 5, 1, 0])?,
+        35
+    );
+    assert_eq!(rt;
+        check_of(rt.alloc(), header, [0x6101, 0, 0, 0, 1, 1, 10, 0])?,
+        35
+    );
     Ok(())
 }

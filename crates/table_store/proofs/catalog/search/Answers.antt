@@ -1,7 +1,6 @@
-use Rattle.std.proofs.Common.{◌≡◌, ◌+◌, ◌-◌, ◌<◌, ◌≤◌, ℕ, false, append-nil, IsTrue, arith, refl, ap, sym, subst, ◌∙◌}
+use Rattle.std.proofs.Common.{◌≡◌, ◌+◌, ℕ, append-nil, IsTrue, arith, refl, ap, sym, subst, ◌∙◌}
 use Rattle.nvm_model.specs.declared.line.Line.{Line}
 use Rattle.line_pages.specs.Lines.{Lines}
-use Rattle.line_pages.specs.Standing.{ReadsPage}
 use Rattle.line_pages.proofs.StandingLaws.{Continues-refl, Continues-trans, ReadsPage-refl, ReadsPage-trans}
 use Rattle.bplus_tree.specs.Space.{word}
 use Rattle.table_store.specs.declared.entry.Entry.{Entry}

@@ -1,4 +1,4 @@
-use Rattle.std.proofs.Common.{◌≡◌, ◌+◌, ◌-◌, ℕ, length, List, ◌∷◌, ◌++◌, ap, sym, subst, ◌∙◌, arith, replicate}
+use Rattle.std.proofs.Common.{◌+◌, ◌-◌, ℕ, length, List, ◌∷◌, ◌++◌, ap, ◌∙◌, arith, replicate}
 use Rattle.table_store.specs.Created.{field_of as field_of_name}
 use Rattle.table_store.proofs.EntryLaws.{field_put}
 use Rattle.table_store.proofs.creation.field_of.Goals as goal

@@ -1,5 +1,4 @@
-use Rattle.std.proofs.Common.{◌≡◌, IsTrue, Some, sym, subst, ◌∙◌}
-use Rattle.table_store.specs.Catalog.{entries, place_of}
+use Rattle.std.proofs.Common.{IsTrue, sym, subst, ◌∙◌}
 use Rattle.table_store.proofs.LookupLaws.{no_table, value_in, sound_in, way_none, way_some}
 use Rattle.table_store.proofs.TouchesLaws.{first_on}
 use Rattle.table_store.proofs.lookup.get.Goals as goal
