@@ -1,3 +1,4 @@
+use Rattle.line_pages.proofs.StandingLaws.{Continues-trans}
 use Rattle.slotted_page.proofs.OpenLaws.{then_reads}
 use Rattle.std.proofs.Common.{◌≡◌, ap, IsTrue, IfOk, subst, sym}
 use Rattle.line_pages.specs.Lines.{Lines}
@@ -20,3 +21,6 @@ returns-clause-lines g c = λ told.
     (subst (λ (all : Lines). IfOk c.search.result (λ place. place ≡ place_of c.args.name.now 0 (entries all))) (c.in_ok-header.ensures.reads.current told)
     (c.search.ensures.place (subst IsTrue (sym c.in_ok-header.ensures.continues.told) told)))
     c.search.ensures.lines
+
+pub returns-clause-continues : goal.returns-clause-continues
+returns-clause-continues g c = Continues-trans c.in_ok-header.ensures.continues c.in_ok-header.ensures.steady c.search.ensures.continues

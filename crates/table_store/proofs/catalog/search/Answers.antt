@@ -78,3 +78,6 @@ returns-then-has_name-clause-reads g c = ReadsPage-trans c.loop-at.invariant.rea
 
 pub returns-then-has_name-clause-lines : goal.returns-then-has_name-clause-lines
 returns-then-has_name-clause-lines g c = touches_step (g.P.Pages.standing c.args.pages.now).touches _ _ c.loop-at.at c.loop-at.invariant.lines c.in_ok-entry.ensures.line
+
+pub returns-in_err-entry-clause-continues : goal.returns-in_err-entry-clause-continues
+returns-in_err-entry-clause-continues g c = Continues-trans c.loop-at.invariant.continues c.loop-at.invariant.steady c.in_err-entry.ensures.continues
