@@ -7,3 +7,4 @@ pub mod LeafLaws
 pub mod CreateLaws
 pub mod RoomLaws
 pub mod TouchesLaws
+pub mod ChangeLaws

@@ -40,7 +40,7 @@ tree_of_place count lines name i (e ∷ es) place is trees =
     entry_or e None = e
     entry_or e (Some p) = p.entry
 
-pages_of_place : (lines : Lines) (name : List ℕ) (n i : ℕ) (es : List Entry) (place : Place) → place_of name i es ≡ Some place → times n (entry_pages lines place.entry) ≤ times n (all_pages lines es)
+pub pages_of_place : (lines : Lines) (name : List ℕ) (n i : ℕ) (es : List Entry) (place : Place) → place_of name i es ≡ Some place → times n (entry_pages lines place.entry) ≤ times n (all_pages lines es)
 pages_of_place lines name n i [] place is = absurd (cc)
 pages_of_place lines name n i (e ∷ es) place is =
     elim (cases_Bool (bytes_eq (name_of e) name)) [

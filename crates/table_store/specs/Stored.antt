@@ -43,6 +43,11 @@ abbrev pub rows_of : List ℕ → List Table → Option (List Row)
 rows_of name [] = None
 rows_of name (table ∷ rest) = if bytes_eq table.0 name then Some table.1 else rows_of name rest
 
+-- the tables with other rows in the first one with the name
+abbrev pub with_rows : List ℕ → List Row → List Table → List Table
+with_rows name rows [] = []
+with_rows name rows (table ∷ rest) = if bytes_eq table.0 name then (table.0, rows) ∷ rest else table ∷ with_rows name rows rest
+
 -- the rows, the levels and the pages on the way to a key, of the tree of an entry, if there is one
 abbrev pub place_rows : Lines → Option Place → Option (List Row)
 place_rows lines None = None
