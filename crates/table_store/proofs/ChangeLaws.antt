@@ -1,16 +1,15 @@
 -- A table whose rows change: its tree by the calls on trees, and then its entry.
-use Rattle.std.proofs.Common.{◌≡◌, ◌≢◌, ℕ, zero, suc, ◌+◌, ◌-◌, ◌<◌, ◌≤◌, nat_le, nat_lt, inl, inr, Bool, true, false, List, [], ◌∷◌, ◌++◌, map, length, Some, Option, refl, sym, ap, subst, ◌∙◌, arith}
+use Rattle.std.proofs.Common.{◌≡◌, ◌≢◌, ℕ, zero, suc, ◌+◌, ◌-◌, ◌<◌, ◌≤◌, nat_le, inl, inr, true, List, [], ◌∷◌, ◌++◌, map, length, Some, refl, sym, ap, subst, ◌∙◌, arith}
 use Rattle.std.specs.Prelude.{bytes_eq, ◌⊎◌}
-use Rattle.std.proofs.lemmas.Bool.{cases_Bool, and_parts, leb-true, lt-ltb, eq-eqb}
-use Rattle.std.proofs.lemmas.List.{map-append}
+use Rattle.std.proofs.lemmas.Bool.{cases_Bool, and_parts, leb-true, lt-ltb}
 use Rattle.nvm_model.specs.declared.line.Line.{Line}
 use Rattle.line_pages.specs.Lines.{Lines, with_line}
 use Rattle.line_pages.proofs.LineLaws.{with_line-here, with_line-other_page, with_line-other_line}
 use Rattle.slotted_page.specs.Rows.{Row}
 use Rattle.slotted_page.specs.Rows.{last_key}
 use Rattle.bplus_tree.specs.declared.root.Root.{Root}
-use Rattle.bplus_tree.specs.Space.{word, kind_of, high_of, free_head, IsFreeFrom, IsFreeList}
-use Rattle.bplus_tree.specs.Tree.{times, IsTree, tree_pages, tree_rows, SameOn}
+use Rattle.bplus_tree.specs.Space.{word, high_of, free_head, IsFreeFrom, IsFreeList}
+use Rattle.bplus_tree.specs.Tree.{times, tree_pages, SameOn}
 use Rattle.bplus_tree.specs.Moves.{below, Moves, Changes}
 use Rattle.bplus_tree.proofs.TreeLaws.{times-append, tree_rows-same, tree_pages-same, IsTree-same}
 use Rattle.bplus_tree.proofs.SpaceLaws.{free_from-same}

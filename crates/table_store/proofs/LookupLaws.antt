@@ -1,5 +1,5 @@
 -- A look-up of a key in a table.
-use Rattle.std.proofs.Common.{◌≡◌, ◌≢◌, ℕ, ◌+◌, inl, inr, true, false, not, List, [], ◌∷◌, ◌++◌, map, length, refl, sym, ap, subst, ◌∙◌, arith, None, Some, Result, IfOk, IfErr, OnOk, nat_eq}
+use Rattle.std.proofs.Common.{Bool, Ok, Err, ◌≡◌, ◌≢◌, ℕ, ◌+◌, inl, inr, true, false, not, List, [], ◌∷◌, ◌++◌, map, length, refl, sym, ap, subst, ◌∙◌, arith, None, Some, Result, IfOk, IfErr, OnOk, nat_eq}
 use Rattle.std.proofs.lemmas.Bool.{cases_Bool, ne_eqb, and_left}
 use Rattle.line_pages.specs.declared.stop.Stop.{Stop}
 use Rattle.line_pages.specs.Lines.{Lines}
@@ -18,7 +18,7 @@ use Rattle.table_store.specs.declared.entry.Place.{Place}
 use Rattle.table_store.specs.declared.answer.Got.{Got}
 use Rattle.table_store.specs.declared.answer.Got.TheVariants.{NoTable}
 use Rattle.table_store.specs.Catalog.{entries, tables, place_of, entry_rows, entry_pages, FitsEntry}
-use Rattle.table_store.specs.Stored.{IsStore, IsLookup, rows_of, place_levels, place_path, found_value, got_of}
+use Rattle.table_store.specs.Stored.{is_no_table, IsStore, IsLookup, rows_of, place_levels, place_path, found_value, got_of}
 use Rattle.table_store.proofs.TableLaws.{rooted, rows_by}
 
 pub no_table : (key : ℕ) (name : List ℕ) (lines : Lines) → place_of name 0 (entries lines) ≡ None → NoTable ≡ got_of key (rows_of name (tables lines))
@@ -113,3 +113,8 @@ way_some limits name key place s0 s1 s2 result is fits closed count same first w
           ∙ ap (λ (all : Lines). map (λ p. (p, false)) (place_path all key (Some place))) same
           ∙ sym (ap (λ o. map (λ p. (p, false)) (place_path old key o)) is);
     }
+
+-- an answer of a known table
+pub known_answer : {E : Type 0} (known : Bool) (result : Result Got E) → known ≡ true → IfOk result (λ got. is_no_table got ≡ false) → IfOk result (λ got. is_no_table got ≡ not known)
+known_answer known (Ok got) is named = named ∙ sym (ap not is)
+known_answer known (Err e) is named = tt

@@ -81,3 +81,9 @@ found_value (Some value) = Found value
 abbrev pub got_of : ℕ → Option (List Row) → Got
 got_of key None = NoTable
 got_of key (Some rows) = found_value (row_get key rows)
+
+-- whether the answer is that no table has the name
+abbrev pub is_no_table : Got → Bool
+is_no_table (Found value) = false
+is_no_table Absent = false
+is_no_table NoTable = true

@@ -1,5 +1,5 @@
 //! The value of a key in a table.
-ghost use Rattle.std.specs.Prelude.{◌≡◌, ◌+◌, ◌∷◌, ◌++◌, ◌<◌, ◌≤◌, ℕ, List, Some, None, true, false, IsTrue, OnOk, IfOk, IfErr};
+ghost use Rattle.std.specs.Prelude.{◌≡◌, ◌+◌, ◌∷◌, ◌++◌, ◌<◌, ◌≤◌, ℕ, List, Some, None, true, false, not, IsTrue, OnOk, IfOk, IfErr};
 ghost use Rattle.line_pages.specs.Touch.{Touch, begins, touch_of};
 ghost use Rattle.line_pages.specs.Standing.{Continues, HasCause, KeepsLines, AddsReads};
 ghost use Rattle.slotted_page.specs.Rows.{Row, row_get};
@@ -8,7 +8,7 @@ ghost use Rattle.bplus_tree.specs.Tree.{IsRooted};
 ghost use Rattle.bplus_tree.specs.Damage.{IsFault};
 ghost use Rattle.bplus_tree.specs.Way.{IsPath};
 ghost use Rattle.table_store.specs.Catalog.{entries, tables, place_of};
-ghost use Rattle.table_store.specs.Stored.{rows_of, found_value, got_of, place_levels, IsStore, IsLookup, IsLookupDamage};
+ghost use Rattle.table_store.specs.Stored.{rows_of, is_known, is_no_table, found_value, got_of, place_levels, IsStore, IsLookup, IsLookupDamage};
 
 use crate::answer::Got;
 use crate::catalog::find_entry;
@@ -27,6 +27,7 @@ fn get_in<P: Pages>(pages: &mut P, root: &Root, key: u64, work: &mut Work) -> Re
     requires some_levels { 1 ≤ root.now.levels }
     requires few_levels { root.now.levels ≤ 4 }
     ensures value { IsTrue (P.standing pages.old).told → (rows : List Row) (used : List ℕ) → IsRooted (P.standing pages.old).count (P.standing pages.old).current root.now rows used → IfOk result (λ got. got ≡ found_value (row_get key rows)) }
+    ensures named { IfOk result (λ got. is_no_table got ≡ false) }
     ensures sound { IsTrue (P.standing pages.old).told → (rows : List Row) (used : List ℕ) → IsRooted (P.standing pages.old).count (P.standing pages.old).current root.now rows used → IfErr result IsFault }
     ensures cause { HasCause (λ e. IsTrue (P.standing pages.old).told → IsNodeDamage (P.standing pages.old).count (P.standing pages.old).current work.new.page e) (P.standing pages.old) (P.standing pages.new) result }
     ensures way { IsTrue (P.standing pages.old).told → begins (P.standing pages.old).access root.now.page false ≡ true → OnOk result (AddsReads (IsPath (P.standing pages.old).count (P.standing pages.old).current root.now key) (P.standing pages.old) (P.standing pages.new)) }
@@ -55,6 +56,7 @@ pub fn get<P: Pages>(
     requires ready { P.is_ready pages.old }
     // the answer
     ensures value { IsTrue (P.standing pages.old).told → IsStore limits.now (P.standing pages.old).count (P.standing pages.old).current → IfOk result (λ got. got ≡ got_of key (rows_of name.now (tables (P.standing pages.old).current))) }
+    ensures known { IsTrue (P.standing pages.old).told → IfOk result (λ got. is_no_table got ≡ not (is_known name.now (tables (P.standing pages.old).current))) }
     // why it stops
     ensures sound { IsTrue (P.standing pages.old).told → IsStore limits.now (P.standing pages.old).count (P.standing pages.old).current → IfErr result IsFault }
     ensures cause { HasCause (λ e. IsTrue (P.standing pages.old).told → IsLookupDamage limits.now (P.standing pages.old).count (P.standing pages.old).current work.new.page e) (P.standing pages.old) (P.standing pages.new) result }

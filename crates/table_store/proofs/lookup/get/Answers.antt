@@ -1,5 +1,8 @@
-use Rattle.std.proofs.Common.{IsTrue, sym, subst, ◌∙◌}
-use Rattle.table_store.proofs.LookupLaws.{no_table, value_in, sound_in, way_none, way_some}
+use Rattle.std.proofs.Common.{not, ap, IsTrue, sym, subst, ◌∙◌}
+use Rattle.table_store.proofs.CreateLaws.{unknown_by, present_is}
+use Rattle.table_store.specs.Catalog.{tables}
+use Rattle.table_store.specs.Stored.{is_known}
+use Rattle.table_store.proofs.LookupLaws.{known_answer, no_table, value_in, sound_in, way_none, way_some}
 use Rattle.table_store.proofs.TouchesLaws.{first_on}
 use Rattle.table_store.proofs.lookup.get.Goals as goal
 
@@ -45,3 +48,13 @@ returns-in-Some-clause-first g c = λ told.
     let old = g.P.Pages.standing c.args.pages.now in
     let mid = g.P.Pages.standing c.find_entry.new.pages in
     first_on old.touches mid.touches (g.P.Pages.standing c.get_in.new.pages).touches _ _ c.get_in.result (c.in_ok-find_entry.ensures.lines told) c.get_in.ensures.continues.touches
+
+pub returns-in-None-clause-known : goal.returns-in-None-clause-known
+returns-in-None-clause-known g c = λ told.
+    sym (ap not (unknown_by c.args.name.now (g.P.Pages.standing c.args.pages.now).current (sym (c.in_ok-find_entry.ensures.place told) ∙ c.in-None.is)))
+
+pub returns-in-Some-clause-known : goal.returns-in-Some-clause-known
+returns-in-Some-clause-known g c = λ told.
+    let old = g.P.Pages.standing c.args.pages.now in
+    known_answer (is_known c.args.name.now (tables old.current)) c.get_in.result
+    (present_is c.args.name.now old.current c.in-Some.place (sym (c.in_ok-find_entry.ensures.place told) ∙ c.in-Some.is)) c.get_in.ensures.named
