@@ -1,0 +1,120 @@
+-- A look-up of a key in a table.
+use Rattle.std.proofs.Common.{Bool, Ok, Err, ◌≡◌, ◌≢◌, ℕ, ◌+◌, inl, inr, true, false, not, List, [], ◌∷◌, ◌++◌, map, length, refl, sym, ap, subst, ◌∙◌, arith, None, Some, Result, IfOk, IfErr, OnOk, nat_eq}
+use Rattle.std.proofs.lemmas.Bool.{cases_Bool, ne_eqb, and_left}
+use Rattle.line_pages.specs.declared.stop.Stop.{Stop}
+use Rattle.line_pages.specs.Lines.{Lines}
+use Rattle.line_pages.specs.Touch.{Access, begins, accesses_from, begun_from, last_from}
+use Rattle.line_pages.specs.Standing.{Standing, ReadsPage, AddsReads}
+use Rattle.line_pages.proofs.TouchLaws.{accesses_from-begun}
+use Rattle.line_pages.proofs.StandingLaws.{page_adds, AddsReads-trans}
+use Rattle.slotted_page.specs.Rows.{Row, row_get}
+use Rattle.bplus_tree.specs.declared.root.Root.{Root}
+use Rattle.bplus_tree.specs.Tree.{IsRooted}
+use Rattle.bplus_tree.specs.Way.{IsPath}
+use Rattle.bplus_tree.specs.Damage.{IsFault}
+use Rattle.bplus_tree.proofs.SearchLaws.{on_ok, from_ok}
+use Rattle.table_store.specs.declared.limits.Limits.{Limits}
+use Rattle.table_store.specs.declared.entry.Place.{Place}
+use Rattle.table_store.specs.declared.answer.Got.{Got}
+use Rattle.table_store.specs.declared.answer.Got.TheVariants.{NoTable}
+use Rattle.table_store.specs.Catalog.{entries, tables, place_of, entry_rows, entry_pages, FitsEntry}
+use Rattle.table_store.specs.Stored.{is_no_table, IsStore, IsLookup, rows_of, place_levels, place_path, found_value, got_of}
+use Rattle.table_store.proofs.TableLaws.{rooted, rows_by}
+
+pub no_table : (key : ℕ) (name : List ℕ) (lines : Lines) → place_of name 0 (entries lines) ≡ None → NoTable ≡ got_of key (rows_of name (tables lines))
+no_table key name lines none = ap (got_of key) (sym (rows_by name lines 0 (entries lines) None none))
+
+-- the root of an entry's tree
+abbrev pub root_at : Place → Root
+root_at place = record { page = place.entry.root; levels = place.entry.levels }
+
+-- a tree that was found in pages that are the same
+rooted_now : (limits : Limits) (n0 n1 : ℕ) (old now : Lines) (name : List ℕ) (place : Place) → n1 ≡ n0 → now ≡ old → IsStore limits n0 old → place_of name 0 (entries old) ≡ Some place → FitsEntry limits n0 place.entry
+    → IsRooted n1 now (root_at place) (entry_rows old place.entry) (entry_pages old place.entry)
+rooted_now limits n0 n1 old now name place count same store is fits =
+    subst (λ (n : ℕ). IsRooted n now (root_at place) (entry_rows old place.entry) (entry_pages old place.entry)) (sym count)
+    (subst (λ (all : Lines). IsRooted n0 all (root_at place) (entry_rows old place.entry) (entry_pages old place.entry)) (sym same) (rooted limits n0 n0 old name place (root_at place) store is fits refl))
+
+pub value_in : {E : Type 0} (limits : Limits) (n0 n1 : ℕ) (old now : Lines) (name : List ℕ) (key : ℕ) (place : Place) (result : Result Got E) → n1 ≡ n0 → now ≡ old
+    → place_of name 0 (entries old) ≡ Some place → FitsEntry limits n0 place.entry
+    → ((rows : List Row) (used : List ℕ) → IsRooted n1 now (root_at place) rows used → IfOk result (λ got. got ≡ found_value (row_get key rows)))
+    → IsStore limits n0 old → IfOk result (λ got. got ≡ got_of key (rows_of name (tables old)))
+value_in limits n0 n1 old now name key place result count same is fits answers store =
+    subst (λ (x : Got). IfOk result (λ got. got ≡ x)) (ap (got_of key) (sym (rows_by name old 0 (entries old) (Some place) is)))
+    (answers (entry_rows old place.entry) (entry_pages old place.entry) (rooted_now limits n0 n1 old now name place count same store is fits))
+
+pub sound_in : {T : Type 0} (limits : Limits) (n0 n1 : ℕ) (old now : Lines) (name : List ℕ) (place : Place) (result : Result T Stop) → n1 ≡ n0 → now ≡ old
+    → place_of name 0 (entries old) ≡ Some place → FitsEntry limits n0 place.entry
+    → ((rows : List Row) (used : List ℕ) → IsRooted n1 now (root_at place) rows used → IfErr result IsFault)
+    → IsStore limits n0 old → IfErr result IsFault
+sound_in limits n0 n1 old now name place result count same is fits answers store =
+    answers (entry_rows old place.entry) (entry_pages old place.entry) (rooted_now limits n0 n1 old now name place count same store is fits)
+
+-- another fact about the same reads
+with_fact : {A : Type 0} {First Then : List Access → Type 0} {a b : Standing A} → (reads : AddsReads First a b) → Then (accesses_from None reads.added) → AddsReads Then a b
+with_fact reads then_is = record {
+  added = reads.added;
+  touches = reads.touches;
+  visits = reads.visits;
+  begun = reads.begun;
+  access = reads.access;
+  reads = reads.reads;
+  fact = then_is;
+}
+
+-- a name that no table has: page 0 alone
+pub way_none : {A : Type 0} (limits : Limits) (name : List ℕ) (key : ℕ) (old new : Standing A) → place_of name 0 (entries old.current) ≡ None → old.access ≡ None → ReadsPage 0 old new
+    → AddsReads (IsLookup limits old.count old.current name key) old new
+way_none limits name key old new none closed reads =
+    let a = page_adds reads (ap (λ o. begins o 0 false) closed) in
+    with_fact a (record {
+      rest = [];
+      begins = a.fact;
+      levels = sym (ap place_levels none);
+      pages = λ store. sym (ap (λ o. map (λ p. (p, false)) (place_path old.current key o)) none);
+    })
+
+-- accesses none of which goes on in an open one
+begun_all : (access : Access) (y : List Access) → length (begun_from (Some access) y) ≡ length y → begun_from (Some access) y ≡ y
+begun_all access [] same = refl
+begun_all access (a ∷ rest) same =
+    elim (cases_Bool (begins (Some access) a.0 a.1)) [
+      | inl e ↦ rw e refl
+      | inr e ↦ let less = rw e at same in absurd (omega (arith, less))
+    ]
+
+-- page 0, and then the way through the table's tree
+pub way_some : {A T : Type 0} (limits : Limits) (name : List ℕ) (key : ℕ) (place : Place) (s0 s1 s2 : Standing A) (result : Result T Stop)
+    → place_of name 0 (entries s0.current) ≡ Some place → FitsEntry limits s0.count place.entry → s0.access ≡ None → s1.count ≡ s0.count → s1.current ≡ s0.current → ReadsPage 0 s0 s1
+    → (begins s1.access place.entry.root false ≡ true → OnOk result (AddsReads (IsPath s1.count s1.current (root_at place) key) s1 s2))
+    → (begins s1.access place.entry.root false ≡ true → OnOk result (s2.visits ≡ s1.visits + place.entry.levels))
+    → OnOk result (AddsReads (IsLookup limits s0.count s0.current name key) s0 s2)
+way_some limits name key place s0 s1 s2 result is fits closed count same first way visits =
+    on_ok result (λ v is_ok.
+    let other : 0 ≢ place.entry.root = λ e. omega (arith, e, fits.some_page) in
+    let apart : begins (Some (0, false)) place.entry.root false ≡ true = ap not (and_left (nat_eq 0 place.entry.root) true (ne_eqb 0 place.entry.root other)) in
+    let fresh : begins s1.access place.entry.root false ≡ true = ap (λ o. begins o place.entry.root false) first.access ∙ apart in
+    let second : AddsReads (IsPath s1.count s1.current (root_at place) key) s1 s2 = from_ok is_ok (way fresh) in
+    let risen : s2.visits ≡ s1.visits + place.entry.levels = from_ok is_ok (visits fresh) in
+    let begun_is = second.begun ∙ ap (λ o. accesses_from o second.added) first.access ∙ accesses_from-begun (Some (0, false)) second.added in
+    let kept = begun_all (0, false) (accesses_from None second.added) (omega (arith, second.visits, risen, ap length begun_is, second.fact.levels)) in
+    let strong : AddsReads (λ y. IsPath s1.count s1.current (root_at place) key y × (begun_from (Some (0, false)) y ≡ y)) s1 s2 = with_fact second (second.fact, kept) in
+    AddsReads-trans (λ x y one both. joined limits name key place s0.count s1.count s0.current s1.current x y is fits count same one both.0 both.1)
+    (page_adds first (ap (λ o. begins o 0 false) closed)) strong)
+  where
+    joined : (limits : Limits) (name : List ℕ) (key : ℕ) (place : Place) (n0 n1 : ℕ) (old now : Lines) (x y : List Access) → place_of name 0 (entries old) ≡ Some place → FitsEntry limits n0 place.entry → n1 ≡ n0 → now ≡ old
+        → x ≡ (0, false) ∷ [] → IsPath n1 now (root_at place) key y → begun_from (Some (0, false)) y ≡ y → IsLookup limits n0 old name key (x ++ begun_from (last_from None x) y)
+    joined limits name key place n0 n1 old now x y is fits count same one way goes = record {
+      rest = y;
+      begins = ap (λ l. l ++ begun_from (last_from None l) y) one ∙ ap (λ l. (0, false) ∷ l) goes;
+      levels = way.levels ∙ sym (ap place_levels is);
+      pages = λ store.
+          way.pages (entry_rows old place.entry) (entry_pages old place.entry) (rooted_now limits n0 n1 old now name place count same store is fits)
+          ∙ ap (λ (all : Lines). map (λ p. (p, false)) (place_path all key (Some place))) same
+          ∙ sym (ap (λ o. map (λ p. (p, false)) (place_path old key o)) is);
+    }
+
+-- an answer of a known table
+pub known_answer : {E : Type 0} (known : Bool) (result : Result Got E) → known ≡ true → IfOk result (λ got. is_no_table got ≡ false) → IfOk result (λ got. is_no_table got ≡ not known)
+known_answer known (Ok got) is named = named ∙ sym (ap not is)
+known_answer known (Err e) is named = tt

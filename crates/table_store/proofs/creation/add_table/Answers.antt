@@ -1,0 +1,15 @@
+use Rattle.std.proofs.Common.{IsTrue, sym, subst}
+use Rattle.line_pages.proofs.StandingLaws.{Continues-trans}
+use Rattle.table_store.proofs.CreateLaws.{makes_by}
+use Rattle.table_store.proofs.creation.add_table.Goals as goal
+
+pub returns-clause-makes : goal.returns-clause-makes
+returns-clause-makes g c = λ told.
+    let old = g.P.Pages.standing c.args.pages.now in
+    let mid = g.P.Pages.standing c.take_one.new.pages in
+    let taken = c.in_ok-page.ensures in
+    makes_by c.args.limits.now old.count old.current mid.current (g.P.Pages.standing c.write_table.new.pages).current c.args.name.now c.in_ok-page.page c.args.at c.write_table.result
+    (taken.taken told) taken.in_range.0 c.requires.at (c.write_table.ensures.after (subst IsTrue (sym taken.continues.told) told))
+
+pub returns-clause-continues : goal.returns-clause-continues
+returns-clause-continues g c = Continues-trans c.in_ok-page.ensures.continues c.in_ok-page.ensures.steady c.write_table.ensures.continues

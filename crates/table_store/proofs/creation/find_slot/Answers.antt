@@ -1,0 +1,28 @@
+use Rattle.line_pages.proofs.StandingLaws.{Continues-trans, ReadsPage-trans}
+use Rattle.std.proofs.Common.{ap, sym, subst, IsTrue, ◌∙◌}
+use Rattle.line_pages.specs.Lines.{Lines}
+use Rattle.table_store.specs.Catalog.{entries, place_of}
+use Rattle.table_store.proofs.CreateLaws.{present_is}
+use Rattle.table_store.proofs.creation.find_slot.Goals as goal
+
+pub returns-in-Some-clause-reads : goal.returns-in-Some-clause-reads
+returns-in-Some-clause-reads g c = ReadsPage-trans c.in_ok-header.ensures.reads c.in_ok-search.ensures.reads
+
+pub returns-in-None-clause-reads : goal.returns-in-None-clause-reads
+returns-in-None-clause-reads g c = ReadsPage-trans c.in_ok-header.ensures.reads c.in_ok-search.ensures.reads
+
+pub returns-in-None-clause-continues : goal.returns-in-None-clause-continues
+returns-in-None-clause-continues g c = Continues-trans c.in_ok-header.ensures.continues c.in_ok-header.ensures.steady c.in_ok-search.ensures.continues
+
+pub returns-in-Some-clause-continues : goal.returns-in-Some-clause-continues
+returns-in-Some-clause-continues g c = Continues-trans c.in_ok-header.ensures.continues c.in_ok-header.ensures.steady c.in_ok-search.ensures.continues
+
+pub returns-in_err-search-clause-continues : goal.returns-in_err-search-clause-continues
+returns-in_err-search-clause-continues g c = Continues-trans c.in_ok-header.ensures.continues c.in_ok-header.ensures.steady c.in_err-search.ensures.continues
+
+pub returns-in-Some-clause-slot : goal.returns-in-Some-clause-slot
+returns-in-Some-clause-slot g c = λ told.
+    let old = g.P.Pages.standing c.args.pages.now in
+    let header = c.in_ok-header.ensures in
+    present_is c.args.name.now old.current c.in-Some.field-0
+    (sym (c.in_ok-search.ensures.place (subst IsTrue (sym header.continues.told) told) ∙ ap (λ (all : Lines). place_of c.args.name.now 0 (entries all)) (header.reads.current told)) ∙ c.in-Some.is)

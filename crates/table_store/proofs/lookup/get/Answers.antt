@@ -1,0 +1,60 @@
+use Rattle.std.proofs.Common.{not, ap, IsTrue, sym, subst, ◌∙◌}
+use Rattle.table_store.proofs.CreateLaws.{unknown_by, present_is}
+use Rattle.table_store.specs.Catalog.{tables}
+use Rattle.table_store.specs.Stored.{is_known}
+use Rattle.table_store.proofs.LookupLaws.{known_answer, no_table, value_in, sound_in, way_none, way_some}
+use Rattle.table_store.proofs.TouchesLaws.{first_on}
+use Rattle.table_store.proofs.lookup.get.Goals as goal
+
+pub returns-in-None-clause-value : goal.returns-in-None-clause-value
+returns-in-None-clause-value g c = λ told store.
+    no_table c.args.key c.args.name.now (g.P.Pages.standing c.args.pages.now).current (sym (c.in_ok-find_entry.ensures.place told) ∙ c.in-None.is)
+
+pub returns-in-None-clause-way : goal.returns-in-None-clause-way
+returns-in-None-clause-way g c = λ told closed.
+    way_none c.args.limits.now c.args.name.now c.args.key (g.P.Pages.standing c.args.pages.now) (g.P.Pages.standing c.find_entry.new.pages) (sym (c.in_ok-find_entry.ensures.place told) ∙ c.in-None.is) closed
+    c.in_ok-find_entry.ensures.reads
+
+pub returns-in-Some-clause-value : goal.returns-in-Some-clause-value
+returns-in-Some-clause-value g c = λ told.
+    let old = g.P.Pages.standing c.args.pages.now in
+    let now = g.P.Pages.standing c.find_entry.new.pages in
+    let found = c.in_ok-find_entry.ensures in
+    value_in c.args.limits.now old.count now.count old.current now.current c.args.name.now c.args.key c.in-Some.place c.get_in.result found.continues.count (found.reads.current told)
+    (sym (found.place told) ∙ c.in-Some.is) (rw c.in-Some.is at found.fits).entry
+    (rw c.root_of-root.ensures at (c.get_in.ensures.value (subst IsTrue (sym found.continues.told) told)))
+
+pub returns-in-Some-clause-sound : goal.returns-in-Some-clause-sound
+returns-in-Some-clause-sound g c = λ told.
+    let old = g.P.Pages.standing c.args.pages.now in
+    let now = g.P.Pages.standing c.find_entry.new.pages in
+    let found = c.in_ok-find_entry.ensures in
+    sound_in c.args.limits.now old.count now.count old.current now.current c.args.name.now c.in-Some.place c.get_in.result found.continues.count (found.reads.current told)
+    (sym (found.place told) ∙ c.in-Some.is) (rw c.in-Some.is at found.fits).entry
+    (rw c.root_of-root.ensures at (c.get_in.ensures.sound (subst IsTrue (sym found.continues.told) told)))
+
+pub returns-in-Some-clause-way : goal.returns-in-Some-clause-way
+returns-in-Some-clause-way g c = λ told closed.
+    let old = g.P.Pages.standing c.args.pages.now in
+    let now = g.P.Pages.standing c.find_entry.new.pages in
+    let found = c.in_ok-find_entry.ensures in
+    let told_on = subst IsTrue (sym found.continues.told) told in
+    way_some c.args.limits.now c.args.name.now c.args.key c.in-Some.place old now (g.P.Pages.standing c.get_in.new.pages) c.get_in.result
+    (sym (found.place told) ∙ c.in-Some.is) (rw c.in-Some.is at found.fits).entry closed found.continues.count (found.reads.current told) found.reads
+    (rw c.root_of-root.ensures at (c.get_in.ensures.way told_on)) (rw c.root_of-root.ensures at (c.get_in.ensures.visits told_on))
+
+pub returns-in-Some-clause-first : goal.returns-in-Some-clause-first
+returns-in-Some-clause-first g c = λ told.
+    let old = g.P.Pages.standing c.args.pages.now in
+    let mid = g.P.Pages.standing c.find_entry.new.pages in
+    first_on old.touches mid.touches (g.P.Pages.standing c.get_in.new.pages).touches _ _ c.get_in.result (c.in_ok-find_entry.ensures.lines told) c.get_in.ensures.continues.touches
+
+pub returns-in-None-clause-known : goal.returns-in-None-clause-known
+returns-in-None-clause-known g c = λ told.
+    sym (ap not (unknown_by c.args.name.now (g.P.Pages.standing c.args.pages.now).current (sym (c.in_ok-find_entry.ensures.place told) ∙ c.in-None.is)))
+
+pub returns-in-Some-clause-known : goal.returns-in-Some-clause-known
+returns-in-Some-clause-known g c = λ told.
+    let old = g.P.Pages.standing c.args.pages.now in
+    known_answer (is_known c.args.name.now (tables old.current)) c.get_in.result
+    (present_is c.args.name.now old.current c.in-Some.place (sym (c.in_ok-find_entry.ensures.place told) ∙ c.in-Some.is)) c.get_in.ensures.named

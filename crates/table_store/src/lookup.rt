@@ -1,0 +1,81 @@
+//! The value of a key in a table.
+ghost use Rattle.std.specs.Prelude.{◌≡◌, ◌+◌, ◌∷◌, ◌++◌, ◌<◌, ◌≤◌, ℕ, List, Some, None, true, false, not, IsTrue, OnOk, IfOk, IfErr};
+ghost use Rattle.line_pages.specs.Touch.{Touch, begins, touch_of};
+ghost use Rattle.line_pages.specs.Standing.{Continues, HasCause, KeepsLines, AddsReads};
+ghost use Rattle.slotted_page.specs.Rows.{Row, row_get};
+ghost use Rattle.slotted_page.specs.Search.{IsNodeDamage};
+ghost use Rattle.bplus_tree.specs.Tree.{IsRooted};
+ghost use Rattle.bplus_tree.specs.Damage.{IsFault};
+ghost use Rattle.bplus_tree.specs.Way.{IsPath};
+ghost use Rattle.table_store.specs.Catalog.{entries, tables, place_of};
+ghost use Rattle.table_store.specs.Stored.{rows_of, is_known, is_no_table, found_value, got_of, place_levels, IsStore, IsLookup, IsLookupDamage};
+
+use crate::answer::Got;
+use crate::catalog::find_entry;
+use crate::entry::root_of;
+use crate::limits::Limits;
+use crate::name::Name;
+use bplus_tree::Root;
+use line_pages::{Pages, Stop};
+use slotted_page::Work;
+
+/// The value of a key in the tree of a table.
+fn get_in<P: Pages>(pages: &mut P, root: &Root, key: u64, work: &mut Work) -> Result<Got, Stop>
+    requires ready { P.is_ready pages.old }
+    requires some { 1 ≤ root.now.page }
+    requires page { root.now.page < (P.standing pages.old).count }
+    requires some_levels { 1 ≤ root.now.levels }
+    requires few_levels { root.now.levels ≤ 4 }
+    ensures value { IsTrue (P.standing pages.old).told → (rows : List Row) (used : List ℕ) → IsRooted (P.standing pages.old).count (P.standing pages.old).current root.now rows used → IfOk result (λ got. got ≡ found_value (row_get key rows)) }
+    ensures named { IfOk result (λ got. is_no_table got ≡ false) }
+    ensures sound { IsTrue (P.standing pages.old).told → (rows : List Row) (used : List ℕ) → IsRooted (P.standing pages.old).count (P.standing pages.old).current root.now rows used → IfErr result IsFault }
+    ensures cause { HasCause (λ e. IsTrue (P.standing pages.old).told → IsNodeDamage (P.standing pages.old).count (P.standing pages.old).current work.new.page e) (P.standing pages.old) (P.standing pages.new) result }
+    ensures way { IsTrue (P.standing pages.old).told → begins (P.standing pages.old).access root.now.page false ≡ true → OnOk result (AddsReads (IsPath (P.standing pages.old).count (P.standing pages.old).current root.now key) (P.standing pages.old) (P.standing pages.new)) }
+    ensures visits { IsTrue (P.standing pages.old).told → begins (P.standing pages.old).access root.now.page false ≡ true → OnOk result ((P.standing pages.new).visits ≡ (P.standing pages.old).visits + root.now.levels) }
+    ensures continues { Continues (P.may_leave pages.old) (P.may_leave pages.new) (P.is_steady pages.old) (P.standing pages.old) (P.standing pages.new) }
+    ensures keeps { OnOk result (KeepsLines (P.standing pages.old) (P.standing pages.new)) }
+    ensures few { (P.standing pages.new).visits ≤ (P.standing pages.old).visits + 4 }
+    ensures ready { OnOk result (P.is_ready pages.new) }
+    ensures steady { P.is_steady pages.old → OnOk result (P.is_steady pages.new) }
+{
+    match bplus_tree::get(pages, root, key, work)? {
+        Some(value) => Ok(Got::Found(value)),
+        None => Ok(Got::Absent),
+    }
+}
+
+/// The value of a key in a table. `Damaged` comes only where the catalog fails one of the checks 31 to 35, or a page of the
+/// table's tree fails a check.
+pub fn get<P: Pages>(
+    pages: &mut P,
+    limits: &Limits,
+    name: &Name,
+    key: u64,
+    work: &mut Work,
+) -> Result<Got, Stop>
+    requires ready { P.is_ready pages.old }
+    // the answer
+    ensures value { IsTrue (P.standing pages.old).told → IsStore limits.now (P.standing pages.old).count (P.standing pages.old).current → IfOk result (λ got. got ≡ got_of key (rows_of name.now (tables (P.standing pages.old).current))) }
+    ensures known { IsTrue (P.standing pages.old).told → IfOk result (λ got. is_no_table got ≡ not (is_known name.now (tables (P.standing pages.old).current))) }
+    // why it stops
+    ensures sound { IsTrue (P.standing pages.old).told → IsStore limits.now (P.standing pages.old).count (P.standing pages.old).current → IfErr result IsFault }
+    ensures cause { HasCause (λ e. IsTrue (P.standing pages.old).told → IsLookupDamage limits.now (P.standing pages.old).count (P.standing pages.old).current work.new.page e) (P.standing pages.old) (P.standing pages.new) result }
+    // what is read
+    ensures way { IsTrue (P.standing pages.old).told → (P.standing pages.old).access ≡ None → OnOk result (AddsReads (IsLookup limits.now (P.standing pages.old).count (P.standing pages.old).current name.now key) (P.standing pages.old) (P.standing pages.new)) }
+    ensures visits { IsTrue (P.standing pages.old).told → (P.standing pages.old).access ≡ None → OnOk result ((P.standing pages.new).visits ≡ (P.standing pages.old).visits + 1 + place_levels (place_of name.now 0 (entries (P.standing pages.old).current))) }
+    ensures first { IsTrue (P.standing pages.old).told → OnOk result ((rest : List Touch) × ((P.standing pages.new).touches ≡ (P.standing pages.old).touches ++ touch_of (P.standing pages.old).access 0 0 false ∷ rest)) }
+    // what stays
+    ensures keeps { OnOk result (KeepsLines (P.standing pages.old) (P.standing pages.new)) }
+    ensures continues { Continues (P.may_leave pages.old) (P.may_leave pages.new) (P.is_steady pages.old) (P.standing pages.old) (P.standing pages.new) }
+    ensures few { (P.standing pages.new).visits ≤ (P.standing pages.old).visits + 5 }
+    ensures ready { OnOk result (P.is_ready pages.new) }
+    ensures steady { P.is_steady pages.old → OnOk result (P.is_steady pages.new) }
+{
+    match find_entry(pages, limits, name, work)? {
+        None => Ok(Got::NoTable),
+        Some(place) => {
+            let root = root_of(&place.entry);
+            get_in(pages, &root, key, work)
+        }
+    }
+}
