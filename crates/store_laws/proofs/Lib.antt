@@ -1,0 +1,5 @@
+pub mod OpenLaws
+pub mod AsReadLaws
+pub mod WriteLaws
+pub mod EndLaws
+pub mod EmptyLaws

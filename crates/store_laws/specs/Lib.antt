@@ -1,0 +1,3 @@
+pub mod OpenFacts
+pub mod ShownPages
+pub mod WriteCalls
