@@ -1,0 +1,26 @@
+-- The open group of a log, as lines: what an abort reads back.
+use Rattle.std.specs.Prelude.{◌≡◌, ℕ, ◌+◌, ◌<◌, List, [], ◌++◌, length, flat_map}
+use Rattle.nvm_model.specs.declared.line.Line.{Line}
+use Rattle.devices.specs.State.{Image}
+use Rattle.store_meaning.specs.Layout.{Sizes, pages}
+use Rattle.store_meaning.specs.Log.{Change, grouped, no_log}
+use Rattle.store_meaning.specs.Format.{IsWhole, entries}
+use Rattle.store_meaning.specs.Format.Format.{whole_lines}
+use Rattle.store_meaning.specs.Recovered.{log_lines}
+use Rattle.store_meaning.specs.Append.{record_of}
+
+abbrev pub change_lines : Change → List Line
+change_lines c = record_of c.page c.line c.before c.after
+
+-- the record is one of a line of the store
+abbrev pub IsOfStore : Sizes → Change → Type 0
+IsOfStore g c = (c.page < pages g) × (c.line < 64)
+
+-- The log's lines are those of ended groups, and from this offset on the records of the open group, three lines each.
+pub record OpenGroup (g : Sizes) (start first : ℕ) (i : Image) : Type 0 where
+  pub front : List Line
+  pub group : List Change
+  pub lines : log_lines i ≡ front ++ flat_map change_lines group
+  pub whole : IsWhole whole_lines 0 front
+  pub ended : (grouped no_log (entries whole_lines 0 front)).open_items ≡ []
+  pub begins : first ≡ start + length front
