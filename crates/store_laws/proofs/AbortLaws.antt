@@ -1,30 +1,28 @@
 -- What an abort takes back: the before values of the open group, from last to first, are the committed words.
-use Rattle.std.proofs.Common.{◌≡◌, ◌≢◌, ℕ, ◌+◌, ◌-◌, ◌<◌, ◌≤◌, Bool, true, false, ◌||◌, List, refl, sym, ap, ◌∙◌, subst, inl, inr, arith}
+use Rattle.std.proofs.Common.{◌≡◌, ◌≢◌, ℕ, ◌<◌, Bool, true, false, ◌||◌, List, refl, sym, ap, ◌∙◌, subst, inl, inr}
 use Rattle.std.proofs.lemmas.Bool.{cases_Bool, cases_eq, or_parts}
 use Rattle.nvm_model.specs.declared.line.Line.{Line}
 use Rattle.nvm_model.specs.Word.{Word}
 use Rattle.devices.specs.State.{State, Image, Call, Amid, Leaves, current, after_all, line_stored}
 use Rattle.devices.specs.Growth.{Grows, no_write}
-use Rattle.store_meaning.specs.Layout.{Sizes, pages, frame_line, ring_lines}
+use Rattle.store_meaning.specs.Layout.{Sizes, pages, frame_line}
 use Rattle.store_meaning.specs.Log.{Words, Change, Log, named_in, named_in_groups, names, changes, undone, written, is_logged, applied, applied_all}
 use Rattle.store_meaning.specs.Format.Format.{whole_lines}
 use Rattle.store_meaning.specs.Recovered.{Super, super_of, log_of, home, recovered_pages, lines_of}
 use Rattle.store_meaning.specs.Put.{CanPut}
 use Rattle.store_meaning.specs.InPlace.{store_calls, CanStore}
 use Rattle.store_meaning.specs.StoreFacts.{Bookkeeping, IsWord, is_written, StoreFacts}
-use Rattle.store_meaning.specs.Checked.{SuperPasses}
 use Rattle.store_meaning.proofs.LogLaws.{undone_named, undone_other, written_named, written_other}
 use Rattle.devices.proofs.GrowthLaws.{Amid_end, Amid-grows, Grows-leaves}
 use Rattle.devices.proofs.DurableLaws.{line_stores}
 use Rattle.store_meaning.proofs.LayoutLaws.{frame_apart}
 use Rattle.devices.proofs.StateLaws.{line_stored_same, line_stored_other, flushed_other, flushed_same}
-use Rattle.store_meaning.proofs.CheckLaws.{store_passes}
-use Rattle.store_meaning.proofs.FactsLaws.{facts_can_put, current_leaves}
+use Rattle.store_meaning.proofs.FactsLaws.{current_leaves}
 use Rattle.store_meaning.proofs.PutLaws.{durable_super}
 use Rattle.store_meaning.proofs.StoreLaws.{Stored, store_same, store_facts}
 use Rattle.store_laws.specs.OpenFacts.{OpenFacts, keeping}
 use Rattle.store_laws.specs.Undoing.{Undoing}
-use Rattle.store_laws.proofs.OpenLaws.{same_words, pages_by}
+use Rattle.store_laws.proofs.OpenLaws.{same_words, pages_by, facts_can_store}
 use Rattle.store_laws.proofs.WriteLaws.{record_at, names_here, names_place}
 
 or_right : (x y : Bool) → y ≡ true → (x || y) ≡ true
@@ -52,19 +50,8 @@ module _ (g : Sizes) (start tail : ℕ) (words kept : Words) (s : State) (it : U
   abbrev r : Change
   r = record_at page line value value
 
-  -- the log of a store is within its ring
-  in_ring : (super_of (current s)).tail + 0 ≤ (super_of (current s)).start + ring_lines g
-  in_ring =
-      let passes : SuperPasses (super_of (current s)) = store_passes whole_lines (current s) ((it.facts).stores (current s) (current_leaves s)) in
-      subst (λ (x : Sizes). (super_of (current s)).tail + 0 ≤ (super_of (current s)).start + ring_lines x) ((it.facts).sizes (current s) (current_leaves s)) (by_checks passes)
-    where
-      by_checks : SuperPasses (super_of (current s)) → (super_of (current s)).tail + 0 ≤ (super_of (current s)).start + ring_lines (super_of (current s)).sizes
-      by_checks passes =
-          let started : (super_of (current s)).start ≤ (super_of (current s)).tail = passes.started in
-          let short : (super_of (current s)).tail - (super_of (current s)).start ≤ ring_lines (super_of (current s)).sizes = passes.in_ring in omega arith
-
   can : CanPut s 0
-  can = facts_can_put b s 0 it.facts refl in_ring
+  can = facts_can_store b s it.facts refl
 
   clash : (y : Bool) → y ≡ true → y ≡ false → ⊥
   clash y e f = absurd (cc)

@@ -6,3 +6,4 @@ pub mod EmptyLaws
 pub mod AbortLaws
 pub mod AbortEndLaws
 pub mod GroupLaws
+pub mod CheckpointLaws

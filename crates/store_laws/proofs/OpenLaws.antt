@@ -1,13 +1,16 @@
 -- What the facts of an open store say of its images.
-use Rattle.std.proofs.Common.{◌≡◌, ℕ, false, refl, sym, ap, ◌∙◌, inl, inr}
+use Rattle.std.proofs.Common.{◌≡◌, ℕ, ◌+◌, ◌-◌, ◌≤◌, false, refl, sym, ap, ◌∙◌, subst, inl, inr, arith, None}
 use Rattle.std.proofs.lemmas.Bool.{cases_Bool}
-use Rattle.devices.specs.State.{State, Image, Leaves}
-use Rattle.store_meaning.specs.Layout.{Sizes, pages}
+use Rattle.devices.specs.State.{State, Image, Leaves, current}
+use Rattle.store_meaning.specs.Layout.{Sizes, pages, ring_lines}
 use Rattle.store_meaning.specs.Log.{Words, is_logged, named_in, changes}
 use Rattle.store_meaning.specs.Format.Format.{whole_lines}
-use Rattle.store_meaning.specs.Recovered.{super_of, log_of, recovered, recovered_pages, lines_of, home}
+use Rattle.store_meaning.specs.Recovered.{Super, super_of, log_of, recovered, recovered_pages, lines_of, home}
 use Rattle.store_meaning.specs.StoreFacts.{Bookkeeping, IsWord, is_written, StoreFacts}
-use Rattle.store_meaning.proofs.FactsLaws.{facts_recover}
+use Rattle.store_meaning.specs.Put.{CanPut}
+use Rattle.store_meaning.specs.Checked.{SuperPasses}
+use Rattle.store_meaning.proofs.CheckLaws.{store_passes}
+use Rattle.store_meaning.proofs.FactsLaws.{facts_recover, facts_can_put, current_leaves}
 use Rattle.store_meaning.proofs.RecoveredLaws.{lines_of-same}
 use Rattle.store_laws.specs.OpenFacts.{OpenFacts, keeping}
 use Rattle.store_meaning.proofs.EndsLaws.{commit_untouched, commit_logged}
@@ -19,6 +22,16 @@ pages_by b s facts kept same i left =
     ap (λ (g : Sizes). lines_of (pages g) (recovered b.format i)) (facts.sizes i left)
     ∙ lines_of-same (pages b.sizes) (recovered b.format i) kept
     (λ p l w hp hl hw. facts_recover b s facts i left p l w (record { page = hp; line = hl; word = hw }) ∙ same (super_of i).tail p l w)
+
+-- the log of a store is within its ring, so that a line may be stored in place, or the log emptied
+pub facts_can_store : (b : Bookkeeping) (s : State) → StoreFacts b s → b.changing ≡ None → CanPut s 0
+facts_can_store b s facts still =
+    facts_can_put b s 0 facts still
+    (subst (λ (x : Sizes). (super_of (current s)).tail + 0 ≤ (super_of (current s)).start + ring_lines x) (facts.sizes (current s) (current_leaves s))
+    (by_checks (super_of (current s)) (store_passes b.format (current s) (facts.stores (current s) (current_leaves s)))))
+  where
+    by_checks : (sup : Super) → SuperPasses sup → sup.tail + 0 ≤ sup.start + ring_lines sup.sizes
+    by_checks sup passes = let started : sup.start ≤ sup.tail = passes.started in let short : sup.tail - sup.start ≤ ring_lines sup.sizes = passes.in_ring in omega arith
 
 module _ (g : Sizes) (start tail : ℕ) (s : State) (it : OpenFacts g start tail s) where
   -- a word that the open group doesn't name is the committed one

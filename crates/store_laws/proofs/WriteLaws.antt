@@ -33,7 +33,7 @@ use Rattle.store_meaning.proofs.StoreLaws.{Stored, store_same, store_facts}
 use Rattle.store_meaning.proofs.RecoveredLaws.{line_of-same, entries-append}
 use Rattle.store_meaning.proofs.EndsLaws.{record_logged, record_ends}
 use Rattle.store_laws.specs.OpenFacts.{OpenFacts, keeping, super_with}
-use Rattle.store_laws.specs.WriteCalls.{write_calls}
+use Rattle.store_laws.specs.Calls.{write_calls}
 use Rattle.store_laws.specs.ShownPages.{pages_in, words_in}
 use Rattle.line_pages.specs.Lines.{with_line}
 use Rattle.store_laws.proofs.OpenLaws.{same_words, open_pages, pages_by}

@@ -1,5 +1,5 @@
 pub mod OpenFacts
 pub mod ShownPages
-pub mod WriteCalls
+pub mod Calls
 pub mod Undoing
 pub mod OpenGroup
