@@ -19,9 +19,10 @@ use Rattle.store_meaning.proofs.LogLaws.{grouped-append}
 use Rattle.store_meaning.proofs.PutLaws.{put_done, put_gate, put_newest, put_word, durable_super, free_high}
 use Rattle.store_meaning.proofs.CheckLaws.{store_whole}
 use Rattle.store_meaning.proofs.FactsLaws.{abort_facts, facts_done, facts_can_put, current_leaves}
-use Rattle.store_meaning.proofs.RecoveredLaws.{entries-append}
+use Rattle.store_meaning.proofs.RecoveredLaws.{entries-append, lines_of-same}
 use Rattle.store_meaning.proofs.EndsLaws.{abort_ends}
 use Rattle.store_laws.specs.Undoing.{Undoing}
+use Rattle.store_laws.specs.ShownPages.{pages_in, words_in, committed_in}
 use Rattle.store_laws.specs.OpenFacts.{OpenFacts, keeping, super_with}
 use Rattle.store_laws.proofs.OpenLaws.{pages_by}
 
@@ -107,3 +108,16 @@ module _ (g : Sizes) (start tail : ℕ) (words kept : Words) (s : State) (it : U
   -- When the abort is done the facts hold, with nothing open in the log.
   pub abort_open : OpenFacts g start (tail + 1) (after_all (append_calls g tail xs) s)
   abort_open = subst (λ (cs : List Call). OpenFacts g start (tail + 1) (after_all cs s)) calls_are done
+
+  -- The current lines and the committed ones are those that were committed before.
+  pub abort_newest : pages_in g (after_all (append_calls g tail xs) s) ≡ lines_of (pages g) kept
+  abort_newest =
+      ap (λ (cs : List Call). pages_in g (after_all cs s)) (sym calls_are)
+      ∙ lines_of-same (pages g) (words_in g s₁) kept
+      (λ p l w hp hl hw. put_newest s xs can (frame_line g p l) w (λ e. omega arith) (not_free p l)
+      ∙ it.newest p l w (record { page = hp; line = hl; word = hw }) ∙ back p l w (record { page = hp; line = hl; word = hw }))
+
+  pub abort_committed : committed_in (after_all (append_calls g tail xs) s) ≡ lines_of (pages g) kept
+  abort_committed =
+      ap (λ (cs : List Call). committed_in (after_all cs s)) (sym calls_are)
+      ∙ pages_by (keeping g words kept) s₁ facts₁ kept (λ n p l w. refl) (current s₁) (current_leaves s₁)

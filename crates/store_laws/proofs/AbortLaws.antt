@@ -8,7 +8,7 @@ use Rattle.devices.specs.Growth.{Grows, no_write}
 use Rattle.store_meaning.specs.Layout.{Sizes, pages, frame_line}
 use Rattle.store_meaning.specs.Log.{Words, Change, Log, named_in, named_in_groups, names, changes, undone, written, is_logged, applied, applied_all}
 use Rattle.store_meaning.specs.Format.Format.{whole_lines}
-use Rattle.store_meaning.specs.Recovered.{Super, super_of, log_of, home, recovered_pages, lines_of}
+use Rattle.store_meaning.specs.Recovered.{Super, super_of, log_lines, log_of, home, recovered_pages, lines_of}
 use Rattle.store_meaning.specs.Put.{CanPut}
 use Rattle.store_meaning.specs.InPlace.{store_calls, CanStore}
 use Rattle.store_meaning.specs.StoreFacts.{Bookkeeping, IsWord, is_written, StoreFacts}
@@ -19,6 +19,7 @@ use Rattle.store_meaning.proofs.LayoutLaws.{frame_apart}
 use Rattle.devices.proofs.StateLaws.{line_stored_same, line_stored_other, flushed_other, flushed_same}
 use Rattle.store_meaning.proofs.FactsLaws.{current_leaves}
 use Rattle.store_meaning.proofs.PutLaws.{durable_super}
+use Rattle.store_meaning.proofs.AtEndLaws.{log_durable}
 use Rattle.store_meaning.proofs.StoreLaws.{Stored, store_same, store_facts}
 use Rattle.store_laws.specs.OpenFacts.{OpenFacts, keeping}
 use Rattle.store_laws.specs.Undoing.{Undoing}
@@ -128,6 +129,12 @@ module _ (g : Sizes) (start tail : ℕ) (words kept : Words) (s : State) (it : U
         ∙ ap (λ (x : Word). x.kept) (line_stored_other (frame_line g page line) value s (frame_line g p l) w other)
         ∙ it.flushed p l w word
   ]
+
+  -- the log stays
+  pub undo_lines : log_lines (current s₂) ≡ log_lines (current s)
+  undo_lines =
+      let end : (j : Image) × Leaves s j × Stored whole_lines s page line value store (current s₂) j = stored (current s₂) (current_leaves s₂) in
+      (end.2).lines ∙ log_durable s 0 can end.0 end.1
 
   pub undo_done : Undoing g start tail words₂ kept s₂
   undo_done =

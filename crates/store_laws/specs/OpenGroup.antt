@@ -1,5 +1,5 @@
 -- The open group of a log, as lines: what an abort reads back.
-use Rattle.std.specs.Prelude.{◌≡◌, ℕ, ◌+◌, ◌<◌, List, [], ◌++◌, length, flat_map}
+use Rattle.std.specs.Prelude.{◌≡◌, ℕ, ◌+◌, ◌<◌, List, [], ◌∷◌, ◌++◌, length, flat_map}
 use Rattle.nvm_model.specs.declared.line.Line.{Line}
 use Rattle.devices.specs.State.{Image}
 use Rattle.store_meaning.specs.Layout.{Sizes, pages}
@@ -12,9 +12,15 @@ use Rattle.store_meaning.specs.Append.{record_of}
 abbrev pub change_lines : Change → List Line
 change_lines c = record_of c.page c.line c.before c.after
 
--- the record is one of a line of the store
-abbrev pub IsOfStore : Sizes → Change → Type 0
-IsOfStore g c = (c.page < pages g) × (c.line < 64)
+-- the record is one of a whole line of the store
+pub record IsOfStore (g : Sizes) (c : Change) : Type 0 where
+  pub page : c.page < pages g
+  pub line : c.line < 64
+  pub mask : c.mask ≡ 255
+
+abbrev pub AreOfStore : Sizes → List Change → Type 0
+AreOfStore g [] = Unit {0}
+AreOfStore g (c ∷ cs) = IsOfStore g c × AreOfStore g cs
 
 -- The log's lines are those of ended groups, and from this offset on the records of the open group, three lines each.
 pub record OpenGroup (g : Sizes) (start first : ℕ) (i : Image) : Type 0 where
@@ -24,3 +30,4 @@ pub record OpenGroup (g : Sizes) (start first : ℕ) (i : Image) : Type 0 where
   pub whole : IsWhole whole_lines 0 front
   pub ended : (grouped no_log (entries whole_lines 0 front)).open_items ≡ []
   pub begins : first ≡ start + length front
+  pub of_store : AreOfStore g group
