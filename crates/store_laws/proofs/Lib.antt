@@ -7,3 +7,5 @@ pub mod AbortLaws
 pub mod AbortEndLaws
 pub mod GroupLaws
 pub mod CheckpointLaws
+pub mod TakingBackLaws
+pub mod ReadBackLaws

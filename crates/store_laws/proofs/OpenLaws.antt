@@ -12,7 +12,7 @@ use Rattle.store_meaning.specs.Checked.{SuperPasses}
 use Rattle.store_meaning.proofs.CheckLaws.{store_passes}
 use Rattle.store_meaning.proofs.FactsLaws.{facts_recover, facts_can_put, current_leaves}
 use Rattle.store_meaning.proofs.RecoveredLaws.{lines_of-same}
-use Rattle.store_laws.specs.OpenFacts.{OpenFacts, keeping}
+use Rattle.store_laws.specs.OpenFacts.{OpenFacts, keeping, super_with}
 use Rattle.store_meaning.proofs.EndsLaws.{commit_untouched, commit_logged}
 
 -- where the committed words are the same for each tail, every image recovers to their lines
@@ -32,6 +32,14 @@ facts_can_store b s facts still =
   where
     by_checks : (sup : Super) → SuperPasses sup → sup.tail + 0 ≤ sup.start + ring_lines sup.sizes
     by_checks sup passes = let started : sup.start ≤ sup.tail = passes.started in let short : sup.tail - sup.start ≤ ring_lines sup.sizes = passes.in_ring in omega arith
+
+-- the log stands between its offsets, and they are no further apart than the ring is long
+pub facts_range : (g : Sizes) (start tail : ℕ) (words kept : Words) (s : State) → StoreFacts (keeping g words kept) s → super_of (current s) ≡ super_with g start tail
+    → (start ≤ tail) × (tail ≤ start + ring_lines g)
+facts_range g start tail words kept s facts is =
+    let passes : SuperPasses (super_with g start tail) = subst (λ (x : Super). SuperPasses x) is (store_passes whole_lines (current s) (facts.stores (current s) (current_leaves s))) in
+    let started : start ≤ tail = passes.started in
+    let short : tail - start ≤ ring_lines g = passes.in_ring in (started, omega arith)
 
 module _ (g : Sizes) (start tail : ℕ) (s : State) (it : OpenFacts g start tail s) where
   -- a word that the open group doesn't name is the committed one

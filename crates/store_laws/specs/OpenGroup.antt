@@ -1,5 +1,5 @@
 -- The open group of a log, as lines: what an abort reads back.
-use Rattle.std.specs.Prelude.{◌≡◌, ℕ, ◌+◌, ◌<◌, List, [], ◌∷◌, ◌++◌, length, flat_map}
+use Rattle.std.specs.Prelude.{◌≡◌, ℕ, ◌+◌, ◌<◌, List, [], ◌∷◌, ◌++◌, length, drop, flat_map}
 use Rattle.nvm_model.specs.declared.line.Line.{Line}
 use Rattle.devices.specs.State.{Image}
 use Rattle.store_meaning.specs.Layout.{Sizes, pages}
@@ -7,7 +7,7 @@ use Rattle.store_meaning.specs.Log.{Change, grouped, no_log}
 use Rattle.store_meaning.specs.Format.{IsWhole, entries}
 use Rattle.store_meaning.specs.Format.Format.{whole_lines}
 use Rattle.store_meaning.specs.Recovered.{log_lines}
-use Rattle.store_meaning.specs.Append.{record_of}
+use Rattle.store_meaning.specs.Append.{head_line, record_of}
 
 abbrev pub change_lines : Change → List Line
 change_lines c = record_of c.page c.line c.before c.after
@@ -31,3 +31,11 @@ pub record OpenGroup (g : Sizes) (start first : ℕ) (i : Image) : Type 0 where
   pub ended : (grouped no_log (entries whole_lines 0 front)).open_items ≡ []
   pub begins : first ≡ start + length front
   pub of_store : AreOfStore g group
+
+-- Record k of these stands at this offset: its head, and behind it the line before. Those from it on begin with it.
+pub record RecordAt (line_at : ℕ → Line) (offset k : ℕ) (cs : List Change) : Type 0 where
+  pub change : Change
+  pub rest : List Change
+  pub next : drop k cs ≡ change ∷ rest
+  pub head : line_at offset ≡ head_line 1 change.page change.line 0
+  pub before : line_at (offset + 1) ≡ change.before
