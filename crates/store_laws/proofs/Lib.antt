@@ -9,3 +9,4 @@ pub mod GroupLaws
 pub mod CheckpointLaws
 pub mod TakingBackLaws
 pub mod ReadBackLaws
+pub mod StepLaws

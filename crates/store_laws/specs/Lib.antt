@@ -3,3 +3,4 @@ pub mod ShownPages
 pub mod Calls
 pub mod Undoing
 pub mod OpenGroup
+pub mod Steps
