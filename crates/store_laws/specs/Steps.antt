@@ -13,12 +13,15 @@ use Rattle.store_laws.specs.ShownPages.{pages_in, committed_in}
 abbrev pub MayLeave : Standing → ℕ → Lines → Type 0
 MayLeave d m lines = (i : Image) × Leaves (d.at m) i × (recovered_pages whole_lines i ≡ lines)
 
--- The calls keep the facts, with this start and this tail, and change the current lines; at each moment every image recovers
--- to the lines that were committed before.
-pub record KeepsOpen (g : Sizes) (start tail : ℕ) (change : Lines → Lines) (calls : List Call) (s : State) : Type 0 where
-  pub facts : OpenFacts g start tail (after_all calls s)
-  pub current : pages_in g (after_all calls s) ≡ change (pages_in g s)
+-- The calls lead to these facts; at each moment every image recovers to the lines that were committed before.
+pub record LeadsTo (Facts : State → Type 0) (calls : List Call) (s : State) : Type 0 where
+  pub facts : Facts (after_all calls s)
   pub moments : (mid : State) → Amid s calls mid → (i : Image) → Leaves mid i → recovered_pages whole_lines i ≡ committed_in s
+
+-- The calls keep the facts of an open store, with this start and this tail, and change the current lines.
+pub record KeepsOpen (g : Sizes) (start tail : ℕ) (change : Lines → Lines) (calls : List Call) (s : State) : Type 0 where
+  pub leads : LeadsTo (OpenFacts g start tail) calls s
+  pub current : pages_in g (after_all calls s) ≡ change (pages_in g s)
 
 -- The calls keep the facts and the current lines, which become the committed ones; at each moment each image recovers to the
 -- lines that were committed before or to the current ones.
