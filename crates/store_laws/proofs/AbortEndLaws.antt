@@ -17,6 +17,7 @@ use Rattle.store_meaning.specs.AtEnd.{LogEnds}
 use Rattle.devices.proofs.GrowthLaws.{Amid_end}
 use Rattle.store_meaning.proofs.LogLaws.{grouped-append}
 use Rattle.store_meaning.proofs.PutLaws.{put_done, put_gate, put_newest, put_word, durable_super, free_high}
+use Rattle.store_meaning.proofs.AtEndLaws.{log_durable}
 use Rattle.store_meaning.proofs.CheckLaws.{store_whole}
 use Rattle.store_meaning.proofs.FactsLaws.{abort_facts, facts_done, facts_can_put, current_leaves}
 use Rattle.store_meaning.proofs.RecoveredLaws.{entries-append, lines_of-same}
@@ -121,3 +122,9 @@ module _ (g : Sizes) (start tail : ℕ) (words kept : Words) (s : State) (it : U
   abort_committed =
       ap (λ (cs : List Call). committed_in (after_all cs s)) (sym calls_are)
       ∙ pages_by (keeping g words kept) s₁ facts₁ kept (λ n p l w. refl) (current s₁) (current_leaves s₁)
+
+  -- the log has the end last
+  pub abort_log : log_lines (current (after_all (append_calls g tail xs) s)) ≡ log_lines (current s) ++ xs
+  abort_log =
+      let x : Behind (current s₁) = behind (current s₁) (current_leaves s₁) in
+      ap (λ (cs : List Call). log_lines (current (after_all cs s))) (sym calls_are) ∙ x.lines ∙ ap (λ (lines : List Line). lines ++ xs) (log_durable s 1 can x.j x.left)

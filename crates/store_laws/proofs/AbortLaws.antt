@@ -26,7 +26,7 @@ use Rattle.store_laws.specs.Undoing.{Undoing}
 use Rattle.store_laws.proofs.OpenLaws.{same_words, pages_by, facts_can_store}
 use Rattle.store_laws.proofs.WriteLaws.{record_at, names_here, names_place}
 
-or_right : (x y : Bool) → y ≡ true → (x || y) ≡ true
+pub or_right : (x y : Bool) → y ≡ true → (x || y) ≡ true
 or_right true y e = refl
 or_right false y e = e
 

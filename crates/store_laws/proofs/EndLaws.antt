@@ -20,7 +20,7 @@ use Rattle.store_meaning.proofs.LogLaws.{grouped-append}
 use Rattle.store_meaning.proofs.PutLaws.{put_done, put_gate, put_newest, put_word, durable_super, free_high}
 use Rattle.store_meaning.proofs.CheckLaws.{store_whole}
 use Rattle.store_meaning.proofs.FactsLaws.{commit_facts, facts_done, facts_can_put, facts_recover, current_leaves}
-use Rattle.store_meaning.proofs.AtEndLaws.{facts_committed}
+use Rattle.store_meaning.proofs.AtEndLaws.{facts_committed, log_durable}
 use Rattle.store_meaning.proofs.RecoveredLaws.{lines_of-same, entries-append}
 use Rattle.store_meaning.proofs.EndsLaws.{commit_ends}
 use Rattle.store_laws.specs.OpenFacts.{OpenFacts, keeping, super_with}
@@ -137,3 +137,9 @@ module _ (g : Sizes) (start tail : ℕ) (s : State) (it : OpenFacts g start tail
   commit_committed =
       ap (λ (cs : List Call). recovered_pages whole_lines (current (after_all cs s))) (sym calls_are)
       ∙ pages_by (keeping g it.words it.words) s₁ facts₁ it.words (λ n p l w. refl) (current s₁) (current_leaves s₁) ∙ lines_now
+
+  -- the log has the end last
+  pub commit_log : log_lines (current (after_all (append_calls g tail xs) s)) ≡ log_lines (current s) ++ xs
+  commit_log =
+      let x : Behind (current s₁) = behind (current s₁) (current_leaves s₁) in
+      ap (λ (cs : List Call). log_lines (current (after_all cs s))) (sym calls_are) ∙ x.lines ∙ ap (λ (lines : List Line). lines ++ xs) (log_durable s 1 can x.j x.left)

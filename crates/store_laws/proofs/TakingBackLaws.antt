@@ -1,12 +1,12 @@
 -- An abort, record by record: how it begins, what each line taken back makes of it, and how it ends.
-use Rattle.std.proofs.Common.{◌≡◌, ℕ, zero, suc, ◌+◌, ◌<◌, ◌≤◌, Bool, true, false, ◌||◌, List, [], ◌∷◌, drop, length, refl, sym, ap, ◌∙◌, subst}
+use Rattle.std.proofs.Common.{◌≡◌, ℕ, zero, suc, ◌+◌, ◌<◌, ◌≤◌, Bool, true, false, ◌||◌, List, [], ◌∷◌, ◌++◌, drop, length, refl, sym, ap, ◌∙◌, subst}
 use Rattle.nvm_model.specs.declared.line.Line.{Line}
 use Rattle.devices.specs.State.{State, Image, Amid, Leaves, current, after_all}
 use Rattle.store_meaning.specs.Layout.{Sizes, pages, ring_lines}
 use Rattle.store_meaning.specs.Log.{Words, Change, names, named_in, named_in_groups, changes, is_logged, undone, written, grouped, no_log}
 use Rattle.store_meaning.specs.Format.{entries}
 use Rattle.store_meaning.specs.Format.Format.{whole_lines}
-use Rattle.store_meaning.specs.Recovered.{log_of, recovered_pages, lines_of}
+use Rattle.store_meaning.specs.Recovered.{log_lines, log_of, recovered_pages, lines_of}
 use Rattle.store_meaning.specs.Put.{append_calls}
 use Rattle.store_meaning.specs.Append.{abort_lines}
 use Rattle.store_meaning.specs.InPlace.{store_calls}
@@ -21,12 +21,8 @@ use Rattle.store_laws.specs.Undoing.{Undoing, TakingBack}
 use Rattle.store_laws.proofs.OpenLaws.{pages_by, facts_can_store}
 use Rattle.store_laws.proofs.WriteLaws.{record_at, names_here}
 use Rattle.store_laws.proofs.GroupLaws.{group_changes}
-use Rattle.store_laws.proofs.AbortLaws.{abort_words, undo_done, undo_pages, undo_lines}
-use Rattle.store_laws.proofs.AbortEndLaws.{abort_open, abort_pages, abort_newest, abort_committed}
-
-or_right : (x y : Bool) → y ≡ true → (x || y) ≡ true
-or_right true y e = refl
-or_right false y e = e
+use Rattle.store_laws.proofs.AbortLaws.{or_right, abort_words, undo_done, undo_pages, undo_lines}
+use Rattle.store_laws.proofs.AbortEndLaws.{abort_log, abort_open, abort_pages, abort_newest, abort_committed}
 
 or_left : (x y : Bool) → x ≡ true → (x || y) ≡ true
 or_left true y e = refl
@@ -155,3 +151,7 @@ module _ (g : Sizes) (start tail first : ℕ) (s : State) (it : TakingBack g sta
 
   pub back_ends : (mid : State) → Amid s (append_calls g tail abort_lines) mid → (i : Image) → Leaves mid i → recovered_pages whole_lines i ≡ committed_in s
   back_ends mid amid i left = abort_pages g start tail words₀ it.kept s it.undoing all_back room mid amid i left ∙ sym (back_committed g start tail first 0 s it)
+
+  -- the log has the end last, so that nothing is open
+  pub back_log : log_lines (current (after_all (append_calls g tail abort_lines) s)) ≡ log_lines (current s) ++ abort_lines
+  back_log = abort_log g start tail words₀ it.kept s it.undoing all_back room

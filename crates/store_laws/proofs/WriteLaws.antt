@@ -27,6 +27,7 @@ use Rattle.devices.proofs.DurableLaws.{line_stores}
 use Rattle.store_meaning.proofs.LogLaws.{grouped-append, written_named, written_other}
 use Rattle.store_meaning.proofs.LayoutLaws.{frame_apart}
 use Rattle.store_meaning.proofs.PutLaws.{put_done, put_gate, put_newest, put_word, durable_super, free_high}
+use Rattle.store_meaning.proofs.AtEndLaws.{log_durable}
 use Rattle.store_meaning.proofs.CheckLaws.{entry_from, fault_from, store_whole}
 use Rattle.store_meaning.proofs.FactsLaws.{record_facts, facts_done, facts_can_put, current_leaves}
 use Rattle.store_meaning.proofs.StoreLaws.{Stored, store_same, store_facts}
@@ -291,6 +292,12 @@ module _ (g : Sizes) (start tail : ℕ) (s : State) (it : OpenFacts g start tail
 
   pub write_facts : OpenFacts g start (tail + 3) (after_all (write_calls g tail page line value s) s)
   write_facts = subst (λ (x : State). OpenFacts g start (tail + 3) x) (sym calls_done) write_done
+
+  -- the log has the record last
+  pub write_log : log_lines (current (after_all (write_calls g tail page line value s) s)) ≡ log_lines (current s) ++ record_of page line (line_at s (frame_line g page line)) value
+  write_log =
+      let x : Behind (current s₂) = behind₂ (current s₂) (current_leaves s₂) in
+      ap (λ (t : State). log_lines (current t)) calls_done ∙ x.lines ∙ ap (λ (lines : List Line). lines ++ xs) (log_durable s 3 can x.j x.left)
 
   -- At each moment every image recovers to the committed pages.
   pub write_moment : (mid : State) → Amid s (write_calls g tail page line value s) mid → (i : Image) → Leaves mid i → recovered_pages whole_lines i ≡ recovered_pages whole_lines (current s)
