@@ -1,0 +1,12 @@
+pub mod OpenLaws
+pub mod AsReadLaws
+pub mod WriteLaws
+pub mod EndLaws
+pub mod EmptyLaws
+pub mod AbortLaws
+pub mod AbortEndLaws
+pub mod GroupLaws
+pub mod CheckpointLaws
+pub mod TakingBackLaws
+pub mod ReadBackLaws
+pub mod StepLaws
