@@ -6,7 +6,7 @@ use Rattle.devices.specs.State.{State, Image, Amid, Leaves, current, after_all, 
 use Rattle.devices.specs.State.Call.{fence}
 use Rattle.devices.specs.Growth.{Grows, no_store, no_write}
 use Rattle.store_meaning.specs.Layout.{Sizes, pages, frame_line, ring_line}
-use Rattle.store_meaning.specs.Log.{Item, Log, is_logged, changes, named_in, no_log, grouped}
+use Rattle.store_meaning.specs.Log.{Change, Log, is_logged, changes, named_in, no_log, grouped}
 use Rattle.store_meaning.specs.Format.{entries}
 use Rattle.store_meaning.specs.Format.Format.{whole_lines}
 use Rattle.store_meaning.specs.Recovered.{Super, super_of, log_lines, log_of, home, recovered_pages, lines_of}
@@ -64,14 +64,14 @@ module _ (s mid : State) (grows : Grows no_store no_write s mid) where
 fence_grows : (s mid : State) → Amid s (fence ∷ []) mid → Grows no_store no_write s mid
 fence_grows s mid amid = Amid-grows no_store no_write (fence ∷ []) s mid (tt, tt) amid
 
--- No transaction is open: nothing stands behind the last end of the log.
-module _ (g : Sizes) (start tail : ℕ) (s : State) (it : OpenFacts g start tail s) (closed : (log_of whole_lines (current s)).open_items ≡ []) where
+-- No transaction is open: no record stands behind the last end of the log.
+module _ (g : Sizes) (start tail : ℕ) (s : State) (it : OpenFacts g start tail s) (closed : changes (log_of whole_lines (current s)).open_items ≡ []) where
   abbrev b : Bookkeeping
   b = keeping g it.words it.kept
 
   -- the current words are the committed ones
   pub closed_words : (p l w : ℕ) → IsWord g p l w → it.words p l w ≡ it.kept p l w
-  closed_words p l w word = same_words g start tail s it (current s) (current_leaves s) p l w word (ap (λ (items : List Item). named_in (changes items) p l w) closed)
+  closed_words p l w word = same_words g start tail s it (current s) (current_leaves s) p l w word (ap (λ (cs : List Change). named_in cs p l w) closed)
 
   abbrev s₁ : State
   s₁ = fenced s

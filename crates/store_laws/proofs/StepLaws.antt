@@ -20,7 +20,7 @@ use Rattle.store_laws.proofs.OpenLaws.{open_pages}
 use Rattle.store_laws.proofs.AsReadLaws.{amid_as, after_as, current_as, fresh_as, facts_read, open_read}
 use Rattle.store_laws.proofs.TakingBackLaws.{back_step, back_moment, back_open, back_newest, back_ends}
 use Rattle.store_laws.specs.Undoing.{TakingBack}
-use Rattle.store_meaning.specs.Log.{Change, undone}
+use Rattle.store_meaning.specs.Log.{Change, changes, undone}
 use Rattle.store_meaning.specs.InPlace.{store_calls}
 use Rattle.store_laws.proofs.WriteLaws.{write_facts, write_lines, write_moment}
 use Rattle.store_laws.proofs.EndLaws.{commit_open, commit_newest, commit_committed, commit_chooses}
@@ -34,7 +34,7 @@ write_step g start tail s it page line value hp hl is_line room = record {
   current = write_lines g start tail s it page line value hp hl is_line room;
 }
 
-pub checkpoint_step : (g : Sizes) (start tail : ℕ) (s : State) → OpenFacts g start tail s → (log_of whole_lines (current s)).open_items ≡ []
+pub checkpoint_step : (g : Sizes) (start tail : ℕ) (s : State) → OpenFacts g start tail s → changes (log_of whole_lines (current s)).open_items ≡ []
     → KeepsOpen g tail tail (λ lines. lines) (checkpoint_calls tail) s
 checkpoint_step g start tail s it closed = record {
   leads = record { facts = checkpoint_open g start tail s it closed; moments = checkpoint_moment g start tail s it closed };
