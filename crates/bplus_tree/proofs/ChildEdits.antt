@@ -246,7 +246,7 @@ pub record StandsAt (key : ℕ) (cs xs ys : List Child) : Type 0 where
   pub there : has_child key cs ≡ true
   pub out : remove cs (length xs) ≡ xs ++ ys
 
-later_child : (low high : ℕ) (s : Child) (xs ys : List Child) → Ascends low high (first_keys (xs ++ (s ∷ ys))) → low ≤ s.0
+pub later_child : (low high : ℕ) (s : Child) (xs ys : List Child) → Ascends low high (first_keys (xs ++ (s ∷ ys))) → low ≤ s.0
 later_child low high s [] ys up = up.0
 later_child low high s (x ∷ xs) ys up = let ih = later_child (x.0 + 1) high s xs ys up.2 in omega (arith, ih, up.0)
 

@@ -19,3 +19,4 @@ pub mod PairLaws
 pub mod MergeLaws
 pub mod TreeDamageLaws
 pub mod Joined
+pub mod NextLaws

@@ -6,3 +6,4 @@ pub mod Damage
 pub mod Written
 pub mod Record
 pub mod Edit
+pub mod Next

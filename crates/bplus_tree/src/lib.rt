@@ -8,6 +8,7 @@ mod joining;
 mod leaf_edit;
 mod lookup;
 mod merge;
+mod next;
 mod outcome;
 mod pair;
 mod root;
@@ -19,6 +20,7 @@ mod tree;
 mod write;
 
 pub use lookup::get;
+pub use next::next_from;
 pub use root::Root;
 pub use space::{give_page, take_page};
 pub use tree::{delete, put};

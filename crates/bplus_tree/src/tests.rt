@@ -1,7 +1,7 @@
 //! Worked examples over pages in memory.
 use crate::lookup::get;
+use crate::next::next_from;
 use crate::root::Root;
-use crate::space::{give_page, take_page};
 use crate::tree::{delete, put};
 use line_pages::{Pages, Stop, VecPages};
 use nvm_model::{Line, NoMemory};
@@ -72,5 +72,45 @@ fn gives_back_what_was_put(rt: HostRuntime) -> Result<(), Early> {
     assert!(rt; put(&mut pages, &mut root, 5, &value, &mut work)?);
     let found = get(&mut pages, &root, 5, &mut work)?;
     assert!(rt; found.is_some());
+    Ok(())
+}
+
+/// A tree of nine rows with values of 480 bytes.
+#[test]
+fn cuts_and_joins(rt: HostRuntime) -> Result<(), Early> {
+    let mut pages = VecPages::new(rt.alloc(), 100, 100_000)?;
+    let (header, leaf) = empty_lines();
+    pages.write_line(0, 0, &header)?;
+    pages.write_line(1, 0, &leaf)?;
+    let mut work = Work::new();
+    let mut root = Root { page: 1, levels: 1 };
+    let value = value_of(480)?;
+    put(&mut pages, &mut root, 1, &value, &mut work)?;
+    put(&mut pages, &mut root, 2, &value, &mut work)?;
+    put(&mut pages, &mut root, 3, &value, &mut work)?;
+    put(&mut pages, &mut root, 4, &value, &mut work)?;
+    put(&mut pages, &mut root, 5, &value, &mut work)?;
+    put(&mut pages, &mut root, 6, &value, &mut work)?;
+    put(&mut pages, &mut root, 7, &value, &mut work)?;
+    put(&mut pages, &mut root, 8, &value, &mut work)?;
+    put(&mut pages, &mut root, 9, &value, &mut work)?;
+    assert_eq!(rt; root.levels, 2);
+    let left = pages.read_line(1, 0)?;
+    assert_eq!(rt; left.words[1], 5);
+    let right = pages.read_line(2, 0)?;
+    assert_eq!(rt; right.words[1], 4);
+    match next_from(&mut pages, &root, 6, &mut work)? {
+        Some((key, _)) => assert_eq!(rt; key, 6),
+        None => assert!(rt; false),
+    }
+    assert!(rt; delete(&mut pages, &mut root, 1, &mut work)?);
+    assert!(rt; delete(&mut pages, &mut root, 2, &mut work)?);
+    assert_eq!(rt; root.levels, 2);
+    assert!(rt; delete(&mut pages, &mut root, 3, &mut work)?);
+    assert!(rt; !delete(&mut pages, &mut root, 3, &mut work)?);
+    assert_eq!(rt; root.levels, 1);
+    assert_eq!(rt; root.page, 1);
+    let all = pages.read_line(1, 0)?;
+    assert_eq!(rt; all.words[1], 6);
     Ok(())
 }
