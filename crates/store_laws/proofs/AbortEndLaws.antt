@@ -8,7 +8,7 @@ use Rattle.store_meaning.specs.Log.{Words, Log, Entry, extended, grouped, no_log
 use Rattle.store_meaning.specs.Log.Entry.{abort}
 use Rattle.store_meaning.specs.Format.{entries, zero_line}
 use Rattle.store_meaning.specs.Format.Format.{whole_lines}
-use Rattle.store_meaning.specs.Recovered.{Super, super_of, log_lines, log_of, recovered_pages, lines_of}
+use Rattle.store_meaning.specs.Recovered.{Super, super_of, log_lines, log_of, lines_of}
 use Rattle.store_meaning.specs.View.{Extends}
 use Rattle.store_meaning.specs.Put.{append_calls, IsLine, IsFree, CanPut}
 use Rattle.store_meaning.specs.Append.{abort_lines}
@@ -25,7 +25,8 @@ use Rattle.store_meaning.proofs.EndsLaws.{abort_ends}
 use Rattle.store_laws.specs.Undoing.{Undoing}
 use Rattle.store_laws.specs.ShownPages.{pages_in, words_in, committed_in}
 use Rattle.store_laws.specs.OpenFacts.{OpenFacts, keeping, super_with}
-use Rattle.store_laws.proofs.OpenLaws.{pages_by}
+use Rattle.store_laws.proofs.OpenLaws.{pages_by, store_by}
+use Rattle.store_laws.specs.Steps.{IsStoreOf}
 
 module _ (g : Sizes) (start tail : ℕ) (words kept : Words) (s : State) (it : Undoing g start tail words kept s)
     (back : (p l w : ℕ) → IsWord g p l w → words p l w ≡ kept p l w) (room : tail + 1 ≤ start + ring_lines g) where
@@ -54,10 +55,10 @@ module _ (g : Sizes) (start tail : ℕ) (words kept : Words) (s : State) (it : U
   abort_moment : (mid : State) → Amid s (append_calls sup.sizes sup.tail xs) mid → StoreFacts (moving b sup.tail (sup.tail + 1) (λ n. kept)) mid
   abort_moment mid amid = abort_facts b s it.facts xs can are_lines (λ at. refl) refl (λ p l w. refl) mid amid
 
-  -- At each moment each image recovers to the committed pages.
-  pub abort_pages : (mid : State) → Amid s (append_calls g tail xs) mid → (i : Image) → Leaves mid i → recovered_pages whole_lines i ≡ lines_of (pages g) kept
+  -- At each moment each image is a store that recovers to the committed pages.
+  pub abort_pages : (mid : State) → Amid s (append_calls g tail xs) mid → (i : Image) → Leaves mid i → IsStoreOf g (lines_of (pages g) kept) i
   abort_pages mid amid i left =
-      pages_by (moving b sup.tail (sup.tail + 1) (λ n. kept)) mid (abort_moment mid (subst (λ (cs : List Call). Amid s cs mid) (sym calls_are) amid)) kept (λ n p l w. refl) i left
+      store_by (moving b sup.tail (sup.tail + 1) (λ n. kept)) mid (abort_moment mid (subst (λ (cs : List Call). Amid s cs mid) (sym calls_are) amid)) refl kept (λ n p l w. refl) i left
 
   abbrev s₁ : State
   s₁ = after_all (append_calls sup.sizes sup.tail xs) s

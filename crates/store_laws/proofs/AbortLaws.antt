@@ -8,7 +8,7 @@ use Rattle.devices.specs.Growth.{Grows, no_write}
 use Rattle.store_meaning.specs.Layout.{Sizes, pages, frame_line}
 use Rattle.store_meaning.specs.Log.{Words, Change, Log, named_in, named_in_groups, names, changes, undone, written, is_logged, applied, applied_all}
 use Rattle.store_meaning.specs.Format.Format.{whole_lines}
-use Rattle.store_meaning.specs.Recovered.{Super, super_of, log_lines, log_of, home, recovered_pages, lines_of}
+use Rattle.store_meaning.specs.Recovered.{Super, super_of, log_lines, log_of, home, lines_of}
 use Rattle.store_meaning.specs.Put.{CanPut}
 use Rattle.store_meaning.specs.InPlace.{store_calls, CanStore}
 use Rattle.store_meaning.specs.StoreFacts.{Bookkeeping, IsWord, is_written, StoreFacts}
@@ -23,7 +23,8 @@ use Rattle.store_meaning.proofs.AtEndLaws.{log_durable}
 use Rattle.store_meaning.proofs.StoreLaws.{Stored, store_same, store_facts}
 use Rattle.store_laws.specs.OpenFacts.{OpenFacts, keeping}
 use Rattle.store_laws.specs.Undoing.{Undoing}
-use Rattle.store_laws.proofs.OpenLaws.{same_words, pages_by, facts_can_store}
+use Rattle.store_laws.proofs.OpenLaws.{same_words, facts_can_store, store_by}
+use Rattle.store_laws.specs.Steps.{IsStoreOf}
 use Rattle.store_laws.proofs.WriteLaws.{record_at, names_here, names_place}
 
 pub or_right : (x y : Bool) → y ≡ true → (x || y) ≡ true
@@ -80,12 +81,12 @@ module _ (g : Sizes) (start tail : ℕ) (words kept : Words) (s : State) (it : U
   calls_are : store_calls (super_of (current s)).sizes page line value ≡ store_calls g page line value
   calls_are = ap (λ (x : Super). store_calls x.sizes page line value) it.super_words
 
-  -- at each moment the facts hold, so each image recovers to the committed pages
+  -- at each moment the facts hold, so each image is a store that recovers to the committed pages
   pub undo_moment : (mid : State) → Amid s (store_calls g page line value) mid → StoreFacts (keeping g words₂ kept) mid
   undo_moment mid amid = store_facts b s it.facts page line value store words₂ same_current mid (subst (λ (cs : List Call). Amid s cs mid) (sym calls_are) amid)
 
-  pub undo_pages : (mid : State) → Amid s (store_calls g page line value) mid → (i : Image) → Leaves mid i → recovered_pages whole_lines i ≡ lines_of (pages g) kept
-  undo_pages mid amid i left = pages_by (keeping g words₂ kept) mid (undo_moment mid amid) kept (λ n p l w. refl) i left
+  pub undo_pages : (mid : State) → Amid s (store_calls g page line value) mid → (i : Image) → Leaves mid i → IsStoreOf g (lines_of (pages g) kept) i
+  undo_pages mid amid i left = store_by (keeping g words₂ kept) mid (undo_moment mid amid) refl kept (λ n p l w. refl) i left
 
   abbrev s₂ : State
   s₂ = after_all (store_calls g page line value) s

@@ -9,7 +9,7 @@ use Rattle.store_meaning.specs.Layout.{Sizes, pages, frame_line, ring_line}
 use Rattle.store_meaning.specs.Log.{Change, Log, is_logged, changes, named_in, no_log, grouped}
 use Rattle.store_meaning.specs.Format.{entries}
 use Rattle.store_meaning.specs.Format.Format.{whole_lines}
-use Rattle.store_meaning.specs.Recovered.{Super, super_of, log_lines, log_of, home, recovered_pages, lines_of}
+use Rattle.store_meaning.specs.Recovered.{Super, super_of, log_lines, log_of, home, lines_of}
 use Rattle.store_meaning.specs.Put.{CanPut, start_calls}
 use Rattle.store_meaning.specs.InOrder.{HomeStands}
 use Rattle.store_meaning.specs.StoreFacts.{gate_line, gate_word, Bookkeeping, IsWord, StoreFacts}
@@ -24,7 +24,8 @@ use Rattle.store_meaning.proofs.EndsLaws.{none_ends}
 use Rattle.store_laws.specs.OpenFacts.{OpenFacts, keeping, super_with}
 use Rattle.store_laws.specs.Calls.{checkpoint_calls}
 use Rattle.store_laws.specs.ShownPages.{pages_in, words_in, committed_in}
-use Rattle.store_laws.proofs.OpenLaws.{same_words, open_pages, pages_by, facts_can_store}
+use Rattle.store_laws.proofs.OpenLaws.{same_words, open_pages, facts_can_store, open_store, store_by, same_store}
+use Rattle.store_laws.specs.Steps.{IsStoreOf}
 
 -- Where nothing was stored, each image is one of before, and the facts stay.
 module _ (s mid : State) (grows : Grows no_store no_write s mid) where
@@ -147,12 +148,12 @@ module _ (g : Sizes) (start tail : ℕ) (s : State) (it : OpenFacts g start tail
       ap (λ n. committed_in (after_all (start_calls n) s₁)) (sym same_tail)
       ∙ open_pages g tail tail s₂ done (current s₂) (current_leaves s₂) ∙ sym (open_pages g start tail s it (current s) (current_leaves s))
 
-  -- At each moment every image recovers to the committed pages.
-  pub checkpoint_moment : (mid : State) → Amid s (checkpoint_calls tail) mid → (i : Image) → Leaves mid i → recovered_pages whole_lines i ≡ committed_in s
+  -- At each moment every image is a store that recovers to the committed pages.
+  pub checkpoint_moment : (mid : State) → Amid s (checkpoint_calls tail) mid → (i : Image) → Leaves mid i → IsStoreOf g (committed_in s) i
   checkpoint_moment mid amid i left = elim amid [
-    | inl part ↦ open_pages g start tail s it i (grown_leaves s mid (fence_grows s mid (inl part)) i left) ∙ sym committed
-    | inr later ↦ pages_by (starting b s₁) mid (start_moment mid (subst (λ n. Amid s₁ (start_calls n) mid) (sym same_tail) later)) it.kept (λ n p l w. refl) i left ∙ sym committed
+    | inl part ↦ again (open_store g start tail s it i (grown_leaves s mid (fence_grows s mid (inl part)) i left))
+    | inr later ↦ again (store_by (starting b s₁) mid (start_moment mid (subst (λ n. Amid s₁ (start_calls n) mid) (sym same_tail) later)) refl it.kept (λ n p l w. refl) i left)
   ]
     where
-      committed : committed_in s ≡ lines_of (pages g) it.kept
-      committed = open_pages g start tail s it (current s) (current_leaves s)
+      again : IsStoreOf g (lines_of (pages g) it.kept) i → IsStoreOf g (committed_in s) i
+      again found = same_store g (lines_of (pages g) it.kept) (committed_in s) i found (sym (open_pages g start tail s it (current s) (current_leaves s)))

@@ -25,7 +25,8 @@ use Rattle.store_meaning.proofs.RecoveredLaws.{lines_of-same, entries-append}
 use Rattle.store_meaning.proofs.EndsLaws.{commit_ends}
 use Rattle.store_laws.specs.OpenFacts.{OpenFacts, keeping, super_with}
 use Rattle.store_laws.specs.ShownPages.{pages_in, words_in}
-use Rattle.store_laws.proofs.OpenLaws.{pages_by}
+use Rattle.store_laws.proofs.OpenLaws.{pages_by, same_store}
+use Rattle.store_laws.specs.Steps.{IsStoreOf}
 
 module _ (g : Sizes) (start tail : ℕ) (s : State) (it : OpenFacts g start tail s) (room : tail + 1 ≤ start + ring_lines g) where
   abbrev xs : List Line
@@ -60,17 +61,20 @@ module _ (g : Sizes) (start tail : ℕ) (s : State) (it : OpenFacts g start tail
   lines_now : lines_of (pages g) it.words ≡ pages_in g s
   lines_now = lines_of-same (pages g) it.words (words_in g s) (λ p l w hp hl hw. sym (it.newest p l w (record { page = hp; line = hl; word = hw })))
 
-  -- At each moment each image recovers to the old committed pages or to the current ones.
+  -- At each moment each image is a store that recovers to the old committed pages or to the current ones.
   pub commit_chooses : (mid : State) → Amid s (append_calls g tail xs) mid → (i : Image) → Leaves mid i
-      → (recovered_pages whole_lines i ≡ lines_of (pages g) it.kept) ⊎ (recovered_pages whole_lines i ≡ pages_in g s)
+      → IsStoreOf g (lines_of (pages g) it.kept) i ⊎ IsStoreOf g (pages_in g s) i
   commit_chooses mid amid i left =
       let facts : StoreFacts (moving b sup.tail (sup.tail + 1) after_commit) mid = commit_moment mid (subst (λ (cs : List Call). Amid s cs mid) (sym calls_are) amid) in
-      let by : (words : Words) → ((p l w : ℕ) → after_commit (super_of i).tail p l w ≡ words p l w) → recovered_pages whole_lines i ≡ lines_of (pages g) words =
-      (λ words same. ap (λ (n : Sizes). lines_of (pages n) (recovered whole_lines i)) (facts.sizes i left)
-      ∙ lines_of-same (pages g) (recovered whole_lines i) words
-      (λ p l w hp hl hw. facts_recover (moving b sup.tail (sup.tail + 1) after_commit) mid facts i left p l w (record { page = hp; line = hl; word = hw }) ∙ same p l w)) in
+      let by : (words : Words) → ((p l w : ℕ) → after_commit (super_of i).tail p l w ≡ words p l w) → IsStoreOf g (lines_of (pages g) words) i =
+      (λ words same. record {
+        is_sized = record { store = facts.stores i left; sizes = facts.sizes i left };
+        pages = ap (λ (n : Sizes). lines_of (pages n) (recovered whole_lines i)) (facts.sizes i left)
+            ∙ lines_of-same (pages g) (recovered whole_lines i) words
+            (λ p l w hp hl hw. facts_recover (moving b sup.tail (sup.tail + 1) after_commit) mid facts i left p l w (record { page = hp; line = hl; word = hw }) ∙ same p l w);
+      }) in
       elim (cases_eq (super_of i).tail (sup.tail + 1)) [
-        | inl new ↦ inr (by it.words (λ p l w. ap (λ (x : Words). x p l w) (cond-true (eqb (super_of i).tail (sup.tail + 1)) it.words it.kept (eq-eqb (super_of i).tail (sup.tail + 1) new))) ∙ lines_now)
+        | inl new ↦ inr (same_store g (lines_of (pages g) it.words) (pages_in g s) i (by it.words (λ p l w. ap (λ (x : Words). x p l w) (cond-true (eqb (super_of i).tail (sup.tail + 1)) it.words it.kept (eq-eqb (super_of i).tail (sup.tail + 1) new)))) lines_now)
         | inr old ↦ inl (by it.kept (λ p l w. ap (λ (x : Words). x p l w) (cond-false (eqb (super_of i).tail (sup.tail + 1)) it.words it.kept (ne_eqb (super_of i).tail (sup.tail + 1) old))))
       ]
 

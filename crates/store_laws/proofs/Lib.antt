@@ -10,3 +10,4 @@ pub mod CheckpointLaws
 pub mod TakingBackLaws
 pub mod ReadBackLaws
 pub mod StepLaws
+pub mod ImageLaws

@@ -5,7 +5,9 @@ use Rattle.devices.specs.State.{State, Image, Leaves, current}
 use Rattle.store_meaning.specs.Layout.{Sizes, pages, ring_lines}
 use Rattle.store_meaning.specs.Log.{Words, is_logged, named_in, changes}
 use Rattle.store_meaning.specs.Format.Format.{whole_lines}
-use Rattle.store_meaning.specs.Recovered.{Super, super_of, log_of, recovered, recovered_pages, lines_of, home}
+use Rattle.store_meaning.specs.Format.{Format}
+use Rattle.store_meaning.specs.Recovered.{Super, super_of, log_of, recovered, recovered_pages, lines_of, home, IsStore}
+use Rattle.line_pages.specs.Lines.{Lines}
 use Rattle.store_meaning.specs.StoreFacts.{Bookkeeping, IsWord, is_written, StoreFacts}
 use Rattle.store_meaning.specs.Put.{CanPut}
 use Rattle.store_meaning.specs.Checked.{SuperPasses}
@@ -13,6 +15,7 @@ use Rattle.store_meaning.proofs.CheckLaws.{store_passes}
 use Rattle.store_meaning.proofs.FactsLaws.{facts_recover, facts_can_put, current_leaves}
 use Rattle.store_meaning.proofs.RecoveredLaws.{lines_of-same}
 use Rattle.store_laws.specs.OpenFacts.{OpenFacts, keeping, super_with}
+use Rattle.store_laws.specs.Steps.{IsStoreOf}
 use Rattle.store_meaning.proofs.EndsLaws.{commit_untouched, commit_logged}
 
 -- where the committed words are the same for each tail, every image recovers to their lines
@@ -22,6 +25,18 @@ pages_by b s facts kept same i left =
     ap (λ (g : Sizes). lines_of (pages g) (recovered b.format i)) (facts.sizes i left)
     ∙ lines_of-same (pages b.sizes) (recovered b.format i) kept
     (λ p l w hp hl hw. facts_recover b s facts i left p l w (record { page = hp; line = hl; word = hw }) ∙ same (super_of i).tail p l w)
+
+-- and is a store of its sizes
+pub store_by : (b : Bookkeeping) (s : State) → StoreFacts b s → b.format ≡ whole_lines → (kept : Words) → ((n p l w : ℕ) → b.committed n p l w ≡ kept p l w) → (i : Image) → Leaves s i
+    → IsStoreOf b.sizes (lines_of (pages b.sizes) kept) i
+store_by b s facts format kept same i left = record {
+  is_sized = record { store = subst (λ (f : Format). IsStore f i) format (facts.stores i left); sizes = facts.sizes i left };
+  pages = ap (λ (f : Format). recovered_pages f i) (sym format) ∙ pages_by b s facts kept same i left;
+}
+
+-- the same lines under another name
+pub same_store : (g : Sizes) (lines others : Lines) (i : Image) → IsStoreOf g lines i → lines ≡ others → IsStoreOf g others i
+same_store g lines others i it same = record { is_sized = it.is_sized; pages = it.pages ∙ same }
 
 -- the log of a store is within its ring, so that a line may be stored in place, or the log emptied
 pub facts_can_store : (b : Bookkeeping) (s : State) → StoreFacts b s → b.changing ≡ None → CanPut s 0
@@ -53,6 +68,9 @@ module _ (g : Sizes) (start tail : ℕ) (s : State) (it : OpenFacts g start tail
         (let unwritten : is_written (keeping g it.words it.kept) j p l w ≡ false = rw unlogged refl in
         sym (((it.facts).homes j left).current p l w word unwritten) ∙ ((it.facts).homes j left).committed p l w word unwritten)
   ]
+
+  pub open_store : (i : Image) → Leaves s i → IsStoreOf g (lines_of (pages g) it.kept) i
+  open_store i left = store_by (keeping g it.words it.kept) s it.facts refl it.kept (λ n p l w. refl) i left
 
   pub open_pages : (i : Image) → Leaves s i → recovered_pages whole_lines i ≡ lines_of (pages g) it.kept
   open_pages i left = pages_by (keeping g it.words it.kept) s it.facts it.kept (λ n p l w. refl) i left

@@ -15,8 +15,8 @@ use Rattle.store_meaning.proofs.AtEndLaws.{OnOk_map}
 use Rattle.store_laws.specs.OpenFacts.{OpenFacts, keeping}
 use Rattle.store_laws.specs.ShownPages.{pages_in, committed_in}
 use Rattle.store_laws.specs.Calls.{write_calls, checkpoint_calls}
-use Rattle.store_laws.specs.Steps.{MayLeave, LeadsTo, KeepsOpen, CommitsOpen}
-use Rattle.store_laws.proofs.OpenLaws.{open_pages}
+use Rattle.store_laws.specs.Steps.{IsSized, IsStoreOf, MayLeave, LeadsTo, KeepsOpen, CommitsOpen}
+use Rattle.store_laws.proofs.OpenLaws.{open_pages, same_store}
 use Rattle.store_laws.proofs.AsReadLaws.{amid_as, after_as, current_as, fresh_as, facts_read, open_read}
 use Rattle.store_laws.proofs.TakingBackLaws.{back_step, back_moment, back_open, back_newest, back_ends}
 use Rattle.store_laws.specs.Undoing.{TakingBack}
@@ -47,14 +47,14 @@ commit_step g start tail s it room = record {
   current = commit_newest g start tail s it room;
   committed = commit_committed g start tail s it room;
   moments = λ mid amid i left. elim (commit_chooses g start tail s it room mid amid i left) [
-    | inl old ↦ inl (old ∙ sym (open_pages g start tail s it (current s) (current_leaves s)))
+    | inl old ↦ inl (same_store g (lines_of (pages g) it.kept) (committed_in s) i old (sym (open_pages g start tail s it (current s) (current_leaves s))))
     | inr new ↦ inr new
   ];
 }
 
 -- one record taken back, and the end of an abort
 pub back_leads : (g : Sizes) (start tail first k : ℕ) (s : State) (it : TakingBack g start tail first (suc k) s) (c : Change) (rest : List Change) → drop k (it.group).group ≡ c ∷ rest
-    → LeadsTo (TakingBack g start tail first k) (store_calls g c.page c.line c.before) s
+    → LeadsTo g (TakingBack g start tail first k) (store_calls g c.page c.line c.before) s
 back_leads g start tail first k s it c rest at = record { facts = back_step g start tail first k s it c rest at; moments = back_moment g start tail first k s it c rest at }
 
 pub abort_step : (g : Sizes) (start tail first : ℕ) (s : State) → TakingBack g start tail first 0 s → tail + 1 ≤ start + ring_lines g
@@ -80,8 +80,12 @@ back_read g start tail first k s it = record {
 }
 
 -- what may be left of an earlier moment
-pub leaves_earlier : (a b : Standing) → Goes a b → (m : ℕ) (lines : Lines) → m ≤ a.clock → MayLeave b m lines → MayLeave a m lines
-leaves_earlier a b goes m lines early h = (h.0, subst (λ (s : State). Leaves s h.0) (goes.earlier m early) h.1, h.2)
+pub leaves_earlier : (g : Sizes) (a b : Standing) → Goes a b → (m : ℕ) (lines : Lines) → m ≤ a.clock → MayLeave g b m lines → MayLeave g a m lines
+leaves_earlier g a b goes m lines early h = (h.0, subst (λ (s : State). Leaves s h.0) (goes.earlier m early) h.1, h.2)
+
+-- what an image of a store recovers to, where it may be left
+pub left_lines : (g : Sizes) (lines others : Lines) (i : Image) → IsStoreOf g others i → (IsSized g i → recovered_pages whole_lines i ≡ lines) → lines ≡ others
+left_lines g lines others i is left = sym (left is.is_sized) ∙ is.pages
 
 -- what the calls leave, as one reads it
 same_read : (calls : List Call) (s : State) → current (after_all calls s) ≡ current (after_all calls (fresh (current s)))
@@ -107,13 +111,13 @@ module _ {T E : Type 0} (calls : List Call) (a b : Standing) (r : Result T E) (g
 
   -- As one reads the device: the facts and the current lines where the call answers ok, and the committed lines whatever it
   -- answers.
-  pub read_facts : (Facts : State → Type 0) → ((s : State) → Facts s → Facts (fresh (current s))) → LeadsTo Facts calls seen → OnOk r (Facts (fresh (current (now b))))
+  pub read_facts : {g : Sizes} (Facts : State → Type 0) → ((s : State) → Facts s → Facts (fresh (current s))) → LeadsTo g Facts calls seen → OnOk r (Facts (fresh (current (now b))))
   read_facts Facts reads step = facts_after Facts reads step.facts
 
-  pub read_committed : {Facts : State → Type 0} → LeadsTo Facts calls seen → committed_in (now b) ≡ committed_in (now a)
+  pub read_committed : {g : Sizes} {Facts : State → Type 0} → LeadsTo g Facts calls seen → committed_in (now b) ≡ committed_in (now a)
   read_committed step =
       let found : (m : State) × Amid seen calls m × _ = amid_as calls (now a) seen (now b) (fresh_as (now a)) at_end in
-      ap (recovered_pages whole_lines) (current_as (now b) found.0 found.2) ∙ step.moments found.0 found.1 (current found.0) (current_leaves found.0)
+      ap (recovered_pages whole_lines) (current_as (now b) found.0 found.2) ∙ (step.moments found.0 found.1 (current found.0) (current_leaves found.0)).pages
 
   pub read_open : (g : Sizes) (start tail : ℕ) {change : Lines → Lines} → KeepsOpen g start tail change calls seen → OnOk r (OpenFacts g start tail (fresh (current (now b))))
   read_open g start tail step = facts_after (OpenFacts g start tail) (open_read g start tail) (step.leads).facts
@@ -122,11 +126,11 @@ module _ {T E : Type 0} (calls : List Call) (a b : Standing) (r : Result T E) (g
   read_current g start tail step = current_after g _ step.current
 
   -- Whatever a crash leaves: the facts where the call answers ok, and the committed lines at each moment.
-  pub steady_facts : (Facts : State → Type 0) → LeadsTo Facts calls (now a) → OnOk r (Facts (now b))
+  pub steady_facts : {g : Sizes} (Facts : State → Type 0) → LeadsTo g Facts calls (now a) → OnOk r (Facts (now b))
   steady_facts Facts step = OnOk_map r (λ (done : now b ≡ after_all calls (now a)). subst Facts (sym done) step.facts) (makes.whole told)
 
-  pub steady_during : {Facts : State → Type 0} → LeadsTo Facts calls (now a) → (m : ℕ) → a.clock < m → m ≤ b.clock → (lines : Lines) → MayLeave b m lines → lines ≡ committed_in (now a)
-  steady_during step m low high lines h = sym h.2 ∙ step.moments (b.at m) ((makes.part told).each m (omega arith) high) h.0 h.1
+  pub steady_during : {g : Sizes} {Facts : State → Type 0} → LeadsTo g Facts calls (now a) → (m : ℕ) → a.clock < m → m ≤ b.clock → (lines : Lines) → MayLeave g b m lines → lines ≡ committed_in (now a)
+  steady_during {g} step m low high lines h = left_lines g lines (committed_in (now a)) h.0 (step.moments (b.at m) ((makes.part told).each m (omega arith) high) h.0 h.1) h.2
 
   -- The same for a commit.
   pub commit_read : (g : Sizes) (start tail : ℕ) → CommitsOpen g start tail calls seen → OnOk r (OpenFacts g start tail (fresh (current (now b))))
@@ -142,9 +146,9 @@ module _ {T E : Type 0} (calls : List Call) (a b : Standing) (r : Result T E) (g
   pub commit_steady : (g : Sizes) (start tail : ℕ) → CommitsOpen g start tail calls (now a) → OnOk r (OpenFacts g start tail (now b))
   commit_steady g start tail step = OnOk_map r (λ (done : now b ≡ after_all calls (now a)). subst (λ (s : State). OpenFacts g start tail s) (sym done) step.facts) (makes.whole told)
 
-  pub commit_during : (g : Sizes) (start tail : ℕ) → CommitsOpen g start tail calls (now a) → (m : ℕ) → a.clock < m → m ≤ b.clock → (lines : Lines) → MayLeave b m lines
+  pub commit_during : (g : Sizes) (start tail : ℕ) → CommitsOpen g start tail calls (now a) → (m : ℕ) → a.clock < m → m ≤ b.clock → (lines : Lines) → MayLeave g b m lines
       → (lines ≡ committed_in (now a)) ⊎ (lines ≡ pages_in g (now a))
   commit_during g start tail step m low high lines h = elim (step.moments (b.at m) ((makes.part told).each m (omega arith) high) h.0 h.1) [
-    | inl old ↦ inl (sym h.2 ∙ old)
-    | inr new ↦ inr (sym h.2 ∙ new)
+    | inl old ↦ inl (left_lines g lines (committed_in (now a)) h.0 old h.2)
+    | inr new ↦ inr (left_lines g lines (pages_in g (now a)) h.0 new h.2)
   ]

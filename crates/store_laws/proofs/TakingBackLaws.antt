@@ -6,7 +6,7 @@ use Rattle.store_meaning.specs.Layout.{Sizes, pages, ring_lines}
 use Rattle.store_meaning.specs.Log.{Words, Change, names, named_in, named_in_groups, changes, is_logged, undone, written, grouped, no_log}
 use Rattle.store_meaning.specs.Format.{entries}
 use Rattle.store_meaning.specs.Format.Format.{whole_lines}
-use Rattle.store_meaning.specs.Recovered.{log_lines, log_of, recovered_pages, lines_of}
+use Rattle.store_meaning.specs.Recovered.{log_lines, log_of, lines_of}
 use Rattle.store_meaning.specs.Put.{append_calls}
 use Rattle.store_meaning.specs.Append.{abort_lines}
 use Rattle.store_meaning.specs.InPlace.{store_calls}
@@ -18,7 +18,8 @@ use Rattle.store_laws.specs.OpenFacts.{OpenFacts, keeping}
 use Rattle.store_laws.specs.OpenGroup.{OpenGroup, IsOfStore, AreOfStore}
 use Rattle.store_laws.specs.ShownPages.{pages_in, committed_in}
 use Rattle.store_laws.specs.Undoing.{Undoing, TakingBack}
-use Rattle.store_laws.proofs.OpenLaws.{pages_by, facts_can_store}
+use Rattle.store_laws.proofs.OpenLaws.{pages_by, facts_can_store, same_store}
+use Rattle.store_laws.specs.Steps.{IsStoreOf}
 use Rattle.store_laws.proofs.WriteLaws.{record_at, names_here}
 use Rattle.store_laws.proofs.GroupLaws.{group_changes}
 use Rattle.store_laws.proofs.AbortLaws.{or_right, abort_words, undo_done, undo_pages, undo_lines}
@@ -122,14 +123,15 @@ module _ (g : Sizes) (start tail first k : ℕ) (s : State) (it : TakingBack g s
     back = it.back;
   }
 
-  -- At each moment every image recovers to the committed pages.
-  pub back_moment : (mid : State) → Amid s (store_calls g c.page c.line c.before) mid → (i : Image) → Leaves mid i → recovered_pages whole_lines i ≡ committed_in s
+  -- At each moment every image is a store that recovers to the committed pages.
+  pub back_moment : (mid : State) → Amid s (store_calls g c.page c.line c.before) mid → (i : Image) → Leaves mid i → IsStoreOf g (committed_in s) i
   back_moment mid amid i left =
-      undo_pages g start tail words₁ it.kept s it.undoing c.page c.line c.before one.line logged mid amid i left
-      ∙ sym (back_committed g start tail first (suc k) s it)
+      same_store g (lines_of (pages g) it.kept) (committed_in s) i
+      (undo_pages g start tail words₁ it.kept s it.undoing c.page c.line c.before one.line logged mid amid i left)
+      (sym (back_committed g start tail first (suc k) s it))
 
   pub back_stays : committed_in (after_all (store_calls g c.page c.line c.before) s) ≡ committed_in s
-  back_stays = back_moment s₂ (Amid_end (store_calls g c.page c.line c.before) s) (current s₂) (current_leaves s₂)
+  back_stays = (back_moment s₂ (Amid_end (store_calls g c.page c.line c.before) s) (current s₂) (current_leaves s₂)).pages
 
 -- When all records are taken back, the end of the abort.
 module _ (g : Sizes) (start tail first : ℕ) (s : State) (it : TakingBack g start tail first 0 s) (room : tail + 1 ≤ start + ring_lines g) where
@@ -149,8 +151,11 @@ module _ (g : Sizes) (start tail first : ℕ) (s : State) (it : TakingBack g sta
   pub back_kept : committed_in (after_all (append_calls g tail abort_lines) s) ≡ committed_in s
   back_kept = abort_committed g start tail words₀ it.kept s it.undoing all_back room ∙ sym (back_committed g start tail first 0 s it)
 
-  pub back_ends : (mid : State) → Amid s (append_calls g tail abort_lines) mid → (i : Image) → Leaves mid i → recovered_pages whole_lines i ≡ committed_in s
-  back_ends mid amid i left = abort_pages g start tail words₀ it.kept s it.undoing all_back room mid amid i left ∙ sym (back_committed g start tail first 0 s it)
+  pub back_ends : (mid : State) → Amid s (append_calls g tail abort_lines) mid → (i : Image) → Leaves mid i → IsStoreOf g (committed_in s) i
+  back_ends mid amid i left =
+      same_store g (lines_of (pages g) it.kept) (committed_in s) i
+      (abort_pages g start tail words₀ it.kept s it.undoing all_back room mid amid i left)
+      (sym (back_committed g start tail first 0 s it))
 
   -- the log has the end last, so that nothing is open
   pub back_log : log_lines (current (after_all (append_calls g tail abort_lines) s)) ≡ log_lines (current s) ++ abort_lines

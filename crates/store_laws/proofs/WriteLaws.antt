@@ -14,7 +14,7 @@ use Rattle.store_meaning.specs.Log.Item.{write}
 use Rattle.store_meaning.specs.Log.Entry.{item}
 use Rattle.store_meaning.specs.Format.{entries, zero_line, word_in, head_check, entry_check, log_check}
 use Rattle.store_meaning.specs.Format.Format.{whole_lines}
-use Rattle.store_meaning.specs.Recovered.{Super, super_of, log_lines, log_of, recovered_pages, lines_of}
+use Rattle.store_meaning.specs.Recovered.{Super, super_of, log_lines, log_of, lines_of}
 use Rattle.store_meaning.specs.View.{Extends}
 use Rattle.store_meaning.specs.Put.{append_calls, IsLine, IsFree, CanPut}
 use Rattle.store_meaning.specs.Append.{head_line, record_of}
@@ -35,9 +35,10 @@ use Rattle.store_meaning.proofs.RecoveredLaws.{line_of-same, entries-append}
 use Rattle.store_meaning.proofs.EndsLaws.{record_logged, record_ends}
 use Rattle.store_laws.specs.OpenFacts.{OpenFacts, keeping, super_with}
 use Rattle.store_laws.specs.Calls.{write_calls}
-use Rattle.store_laws.specs.ShownPages.{pages_in, words_in}
+use Rattle.store_laws.specs.ShownPages.{pages_in, words_in, committed_in}
+use Rattle.store_laws.specs.Steps.{IsStoreOf}
 use Rattle.line_pages.specs.Lines.{with_line}
-use Rattle.store_laws.proofs.OpenLaws.{same_words, open_pages, pages_by}
+use Rattle.store_laws.proofs.OpenLaws.{same_words, open_pages, store_by, same_store}
 
 -- word w of the line of eight words
 word_of : (f : ℕ → ℕ) (w : ℕ) → w < 8 → slice_index (line_of f).words w ≡ f w
@@ -299,15 +300,15 @@ module _ (g : Sizes) (start tail : ℕ) (s : State) (it : OpenFacts g start tail
       let x : Behind (current s₂) = behind₂ (current s₂) (current_leaves s₂) in
       ap (λ (t : State). log_lines (current t)) calls_done ∙ x.lines ∙ ap (λ (lines : List Line). lines ++ xs) (log_durable s 3 can x.j x.left)
 
-  -- At each moment every image recovers to the committed pages.
-  pub write_moment : (mid : State) → Amid s (write_calls g tail page line value s) mid → (i : Image) → Leaves mid i → recovered_pages whole_lines i ≡ recovered_pages whole_lines (current s)
+  -- At each moment every image is a store that recovers to the committed pages.
+  pub write_moment : (mid : State) → Amid s (write_calls g tail page line value s) mid → (i : Image) → Leaves mid i → IsStoreOf g (committed_in s) i
   write_moment mid amid i left = elim (Amid_append (append_calls g tail xs) (store_calls g page line value) s mid amid) [
-    | inl first ↦ pages_by (moving b sup.tail (sup.tail + 3) (λ n. it.kept)) mid (record_moment mid first) it.kept (λ n p l w. refl) i left ∙ sym committed
-    | inr second ↦ pages_by (keeping g words₂ it.kept) mid (store_moment mid (subst (λ (cs : List Call). Amid (after_all cs s) (store_calls g page line value) mid) (sym calls_are) second)) it.kept (λ n p l w. refl) i left ∙ sym committed
+    | inl first ↦ again (store_by (moving b sup.tail (sup.tail + 3) (λ n. it.kept)) mid (record_moment mid first) refl it.kept (λ n p l w. refl) i left)
+    | inr second ↦ again (store_by (keeping g words₂ it.kept) mid (store_moment mid (subst (λ (cs : List Call). Amid (after_all cs s) (store_calls g page line value) mid) (sym calls_are) second)) refl it.kept (λ n p l w. refl) i left)
   ]
     where
-      committed : recovered_pages whole_lines (current s) ≡ lines_of (pages g) it.kept
-      committed = open_pages g start tail s it (current s) (current_leaves s)
+      again : IsStoreOf g (lines_of (pages g) it.kept) i → IsStoreOf g (committed_in s) i
+      again found = same_store g (lines_of (pages g) it.kept) (committed_in s) i found (sym (open_pages g start tail s it (current s) (current_leaves s)))
 
   -- The newest lines are the old ones but for this line.
   pub write_lines : pages_in g (after_all (write_calls g tail page line value s) s) ≡ with_line page line value (pages_in g s)
