@@ -1,0 +1,6 @@
+//! Transactions over a store of pages on a device: pages are read and written in place, a commit or an abort ends the
+//! open group of the log, and a checkpoint empties the log.
+#![tactic(auto)]
+
+mod emptying;
+mod undo;

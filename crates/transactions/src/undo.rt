@@ -1,0 +1,1 @@
+//! Taking back the lines of an open group.
