@@ -1,0 +1,4 @@
+pub mod BookLaws
+pub mod CallLaws
+pub mod SizeLaws
+pub mod StandsLaws
