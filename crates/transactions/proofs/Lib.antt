@@ -1,4 +1,5 @@
 pub mod BookLaws
 pub mod CallLaws
+pub mod ClosingLaws
 pub mod SizeLaws
 pub mod StandsLaws

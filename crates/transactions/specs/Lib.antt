@@ -1,2 +1,4 @@
 pub mod BookCalls
+pub mod Closing
 pub mod StoreStanding
+pub mod TakenBack
