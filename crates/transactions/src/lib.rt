@@ -2,7 +2,9 @@
 //! open group of the log, and a checkpoint empties the log.
 #![tactic(auto)]
 
+mod begin;
 mod book;
+mod commit;
 mod emptying;
 mod putting;
 mod store;
