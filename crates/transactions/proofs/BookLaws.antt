@@ -83,11 +83,11 @@ touched_by old new a b book_name device_name page line writes r access touches =
   touches = holds_ok r touches;
 }
 
-ok_both : {T E P Q R : Type 0} (r : Result T E) → (P → Q → R) → OnOk r P → OnOk r Q → OnOk r R
+pub ok_both : {T E P Q R : Type 0} (r : Result T E) → (P → Q → R) → OnOk r P → OnOk r Q → OnOk r R
 ok_both (Ok v) f p q = f p q
 ok_both (Err e) f p q = tt
 
-ok_under : {T E A : Type 0} (P : Type 0) (r : Result T E) → (A → OnOk r P) → OnOk r (A → P)
+pub ok_under : {T E A : Type 0} (P : Type 0) (r : Result T E) → (A → OnOk r P) → OnOk r (A → P)
 ok_under P (Ok v) f = f
 ok_under P (Err e) f = tt
 

@@ -1,5 +1,6 @@
 pub mod BookLaws
 pub mod CallLaws
 pub mod ClosingLaws
+pub mod EndingLaws
 pub mod SizeLaws
 pub mod StandsLaws
