@@ -1,6 +1,7 @@
 pub mod BookLaws
 pub mod CallLaws
 pub mod ClosingLaws
+pub mod EmptiedLaws
 pub mod EndingLaws
 pub mod SizeLaws
 pub mod StandsLaws

@@ -4,6 +4,7 @@
 
 mod begin;
 mod book;
+mod checkpoint;
 mod commit;
 mod emptying;
 mod putting;
