@@ -3,5 +3,6 @@ pub mod CallLaws
 pub mod ClosingLaws
 pub mod EmptiedLaws
 pub mod EndingLaws
+pub mod OpeningLaws
 pub mod SizeLaws
 pub mod StandsLaws

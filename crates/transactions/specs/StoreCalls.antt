@@ -1,5 +1,5 @@
 -- What the calls of a store do that are none of pages.
-use Rattle.std.specs.Prelude.{◌≡◌, ◌⊎◌, ℕ, ◌+◌, ◌-◌, ◌*◌, ◌<◌, ◌≤◌, nat_lt, not, ◌==◌, if◌then◌else◌, Bool, true, false, IsTrue, Result, OnOk, IfErr}
+use Rattle.std.specs.Prelude.{◌≡◌, ◌⊎◌, ℕ, ◌+◌, ◌-◌, ◌*◌, ◌<◌, ◌≤◌, nat_le, ◌==◌, if◌then◌else◌, Bool, true, false, IsTrue, Result, OnOk, IfErr}
 use Rattle.devices.specs.World.{Standing as Device, Goes, Rose, now}
 use Rattle.line_pages.specs.Lines.{Lines}
 use Rattle.line_pages.specs.LineSets.{pairs_of}
@@ -47,7 +47,15 @@ pub record AbortsLines (old : Book) (a : Device) (new : Book) (b : Device) : Typ
 
 -- the log has room for the longest transaction: 640 records of three lines for each write, and an end
 abbrev pub has_room : Book → Bool
-has_room book = not (nat_lt (ring_lines (book_sizes book) - (book.log.tail - book.log.start)) (1920 * book.log.geometry.writes + 1))
+has_room book = nat_le (1920 * book.log.geometry.writes + 1) (ring_lines (book_sizes book) - (book.log.tail - book.log.start))
+
+-- The log has room for the longest transaction, behind a checkpoint where it had none.
+pub record MakesRoom (old new : Book) : Type 0 where
+  pub is_open : new.is_open ≡ false
+  pub room : new.room ≡ 0
+  pub start : new.log.start ≡ (if has_room old then old.log.start else old.log.tail)
+  pub tail : new.log.tail ≡ old.log.tail
+  pub takes : new.log.tail + (1920 * new.log.geometry.writes + 1) ≤ new.log.start + ring_lines (book_sizes new)
 
 -- A transaction begins, behind a checkpoint where the log had no room for it.
 pub record Begins (old new : Book) : Type 0 where
