@@ -142,6 +142,7 @@ module _ (old : Book) (touched : Accesses) (new : Book) (a b : Device) (page lin
       let start : new.log.start ≡ old.log.start = written.start in
       let first : new.first ≡ old.first = written.first in
       let begins : old.log.start ≤ old.first = ready.begins in
+      let behind : old.first ≤ old.log.tail = ready.within in
       let kept : kept_lines new ≡ kept_lines old = same_kept in
       let under : reach old + kept_lines old ≤ 2 ^ 62 = ready.below in
       record {
@@ -151,7 +152,7 @@ module _ (old : Book) (touched : Accesses) (new : Book) (a b : Device) (page lin
         room = omega (arith, all, reaches, kept, start, ring);
         below = omega (arith, under, reaches, kept);
         begins = omega (arith, begins, start, first);
-        records = ((ready.records).0 + 1, (let k : ℕ = (ready.records).0 in let at : old.log.tail ≡ old.first + 3 * k = (ready.records).1 in omega (arith, at, tail, first)));
+        within = omega (arith, behind, tail, first);
         closed = λ shut. let none : old.room ≡ 0 = (ready.closed (sym written.is_open ∙ shut)).room in absurd (omega (arith, none, some));
         read = λ told. stands_by old new old.log.start (old.log.tail + 3) old.first (fresh (current (now b))) written.geometry written.start tail written.first (read (subst IsTrue goes.told told));
       }

@@ -48,7 +48,6 @@ module _ (old : Book) (log : Log) (loose : LineSet) (a b : Device) {T E : Type 0
       let no_room : old.room ≡ 0 = (ready.closed shut).room in
       let tail : log.tail ≡ old.log.tail = emptied.tail in
       let at : old.first ≡ old.log.tail = first in
-      let long : log.tail ≡ old.first + 3 * 0 = omega (arith, tail, at) in
       record {
         fits = subst (λ (x : Geometry). nvm_lines (sizes_of x) ≤ b.lines) (sym emptied.geometry) (subst (λ n. nvm_lines (book_sizes old) ≤ n) (sym goes.lines) ready.fits);
         allowed = subst (λ (x : Geometry). is_allowed (sizes_of x) ≡ true) (sym emptied.geometry) ready.allowed;
@@ -56,7 +55,7 @@ module _ (old : Book) (log : Log) (loose : LineSet) (a b : Device) {T E : Type 0
         room = omega (arith, none, no_room, tail, start);
         below = omega (arith, under, none, no_room, tail);
         begins = omega (arith, start, at);
-        records = (0, long);
+        within = omega (arith, tail, at);
         closed = λ still. record { room = no_room; first = at ∙ sym tail };
         read = λ told. stands_new (fresh (current (now b))) start (closed (subst IsTrue goes.told told));
       }

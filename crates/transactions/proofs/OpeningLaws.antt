@@ -24,7 +24,7 @@ opened_ready book d ready shut low takes =
       room = omega (arith, all, takes);
       below = omega (arith, all, low, few);
       begins = ready.begins;
-      records = ready.records;
+      within = ready.within;
       closed = λ still. absurd (cc);
       read = ready.read;
     }

@@ -96,7 +96,7 @@ pub record IsReady (book : Book) (d : Device) : Type 0 where
   pub room : reach book + kept_lines book ≤ book.log.start + ring_lines (book_sizes book)
   pub below : reach book + kept_lines book ≤ 2 ^ 62
   pub begins : book.log.start ≤ book.first
-  pub records : (k : ℕ) × (book.log.tail ≡ book.first + 3 * k)
+  pub within : book.first ≤ book.log.tail
   pub closed : book.is_open ≡ false → NoneOpen book
   pub read : IsTrue d.told → Stands (book_sizes book) book.log.start book.log.tail book.first (fresh (current (now d)))
 
