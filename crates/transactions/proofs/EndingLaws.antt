@@ -3,6 +3,7 @@ use Rattle.std.proofs.Common.{◌≡◌, ℕ, ◌+◌, ◌-◌, ◌*◌, ◌^◌
 use Rattle.std.specs.Prelude.{OnOk, IfErr}
 use Rattle.devices.specs.State.{State, current, fresh}
 use Rattle.devices.specs.World.{Standing as Device, Goes, MakesAll, now}
+use Rattle.line_pages.specs.Lines.{Lines}
 use Rattle.line_pages.specs.LineSets.{pages_of}
 use Rattle.line_pages.specs.declared.stop.Stop.{Stop}
 use Rattle.line_pages.specs.declared.stop.Stop.TheVariants.{Nvm}
@@ -20,8 +21,8 @@ use Rattle.nvm_log.specs.Moved.{IsMoved}
 use Rattle.transactions.specs.declared.book.Book.{Book}
 use Rattle.transactions.specs.Closing.{IsClosed, ClosesRead, ClosesSteady, Aborts}
 use Rattle.transactions.specs.StoreStanding.{book_sizes, reach, reserve, kept_lines, Stands, IsReady, IsSteady}
-use Rattle.transactions.specs.StoreCalls.{StoreCall, CommitsLines, AbortsLines, IsCommitted, IsOldOrNew}
-use Rattle.transactions.proofs.StandsLaws.{stands_read, commit_stands, after_read, after_steady}
+use Rattle.transactions.specs.StoreCalls.{StoreCall, LeavesOnly, CommitsLines, AbortsLines, IsCommitted, IsOldOrNew}
+use Rattle.transactions.proofs.StandsLaws.{stands_leaves, stands_read, commit_stands, after_read, after_steady}
 use Rattle.transactions.proofs.BookLaws.{stands_by, ok_both, ok_under}
 
 -- the log has room for the end
@@ -96,6 +97,11 @@ module _ (old : Book) (log : Log) (a b : Device) {T E : Type 0} (r : Result T E)
     where
       step : IsTrue a.told → CommitsOpen (book_sizes old) old.log.start (old.log.tail + 1) (append_calls (book_sizes old) old.log.tail commit_lines) (fresh (current (now a)))
       step told = commit_step (book_sizes old) old.log.start old.log.tail (fresh (current (now a))) (ready.read told).facts (end_room old a ready opened)
+
+  pub commit_leaves : IsTrue a.told → IsSteady old a → OnOk r (LeavesOnly (pages_in (book_sizes old) (now a)) b)
+  commit_leaves told steady = ok_both r
+      (λ facts lines. subst (λ (x : Lines). LeavesOnly x b) lines.committed (stands_leaves (book_sizes old) old.log.start (old.log.tail + 1) (old.log.tail + 1) b facts))
+      (commit_holds told steady) (commit_lines_are told)
 
   pub commit_call : (new : Book) → new.log.geometry ≡ old.log.geometry → new.accesses ≡ old.accesses → b.block_reads ≡ a.block_reads → StoreCall (IsOldOrNew old a) old a new b
   commit_call new geometry accesses reads = record {

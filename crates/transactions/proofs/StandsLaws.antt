@@ -10,11 +10,14 @@ use Rattle.store_meaning.specs.Put.{IsLine, append_calls}
 use Rattle.store_meaning.specs.Append.{commit_lines}
 use Rattle.store_meaning.specs.Recovered.{Super, super_of, from, log_line, log_lines}
 use Rattle.store_meaning.proofs.AtEndLaws.{OnOk_map}
+use Rattle.store_meaning.proofs.FactsLaws.{current_leaves}
+use Rattle.store_laws.specs.ShownPages.{committed_in}
+use Rattle.transactions.specs.StoreCalls.{LeavesOnly}
 use Rattle.store_laws.specs.OpenFacts.{OpenFacts, super_with}
 use Rattle.store_laws.specs.OpenGroup.{OpenGroup}
 use Rattle.store_laws.specs.Calls.{write_calls}
 use Rattle.store_laws.specs.Steps.{LeadsTo}
-use Rattle.store_laws.proofs.OpenLaws.{facts_range}
+use Rattle.store_laws.proofs.OpenLaws.{facts_range, open_pages}
 use Rattle.store_laws.proofs.AsReadLaws.{after_as, current_as, fresh_as, open_read}
 use Rattle.store_laws.proofs.GroupLaws.{group_write, group_commit}
 use Rattle.store_laws.proofs.WriteLaws.{write_log}
@@ -75,3 +78,8 @@ after_read calls a b r makes told Facts reads facts =
 pub after_steady : {T E : Type 0} (calls : List Call) (a b : Standing) (r : Result T E) → MakesAll calls a b r → IsTrue a.told
     → (Facts : State → Type 0) → Facts (after_all calls (now a)) → OnOk r (Facts (now b))
 after_steady calls a b r makes told Facts facts = OnOk_map r (λ (done : now b ≡ after_all calls (now a)). subst Facts (sym done) facts) (makes.whole told)
+
+-- whatever a crash leaves of a store that stands recovers to its committed lines
+pub stands_leaves : (g : Sizes) (start tail first : ℕ) (d : Standing) → Stands g start tail first (now d) → LeavesOnly (committed_in (now d)) d
+stands_leaves g start tail first d it lines left =
+    sym left.2 ∙ open_pages g start tail (now d) it.facts left.0 left.1 ∙ sym (open_pages g start tail (now d) it.facts (current (now d)) (current_leaves (now d)))

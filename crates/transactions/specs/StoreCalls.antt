@@ -45,6 +45,10 @@ pub record AbortsLines (old : Book) (a : Device) (new : Book) (b : Device) : Typ
   pub current : pages_in (book_sizes new) (now b) ≡ committed_in (now a)
   pub committed : committed_in (now b) ≡ committed_in (now a)
 
+-- whatever a crash leaves now recovers to these lines
+abbrev pub LeavesOnly : Lines → Device → Type 0
+LeavesOnly lines d = (left : Lines) → MayLeave d d.clock left → left ≡ lines
+
 -- the log has room for the longest transaction: 640 records of three lines for each write, and an end
 abbrev pub has_room : Book → Bool
 has_room book = nat_le (1920 * book.log.geometry.writes + 1) (ring_lines (book_sizes book) - (book.log.tail - book.log.start))

@@ -1,5 +1,5 @@
 //! A checkpoint, and what a store whose pages all stay in NVM has not to do.
-ghost use Rattle.std.specs.Prelude.{◌≡◌, false, OnOk, IsTrue};
+ghost use Rattle.std.specs.Prelude.{◌≡◌, false, Ok, OnOk, IsTrue};
 
 use crate::emptying::empty_log;
 use crate::store::Store;
@@ -40,5 +40,25 @@ impl<'a, D: Devices> Store<'a, D> {
             }
             Err(Failed) => Err(Stop::Nvm),
         }
+    }
+
+    /// Nothing: all log lines stay in NVM.
+    pub fn drain(&mut self) -> Result<(), Stop>
+        requires ready { IsReady self.old.book.now (D.standing self.old.dev.now) }
+        ensures ok { result ≡ Ok tt }
+        ensures same { (self.new.book.now ≡ self.old.book.now) × (self.new.dev.now ≡ self.old.dev.now) }
+        ensures same_references { (self.new.book.ghost_name ≡ self.old.book.ghost_name) × (self.new.dev.ghost_name ≡ self.old.dev.ghost_name) }
+    {
+        Ok(())
+    }
+
+    /// Nothing: no page has a copy that could be cleaned.
+    pub fn clean(&mut self, _n: u32) -> Result<(), Stop>
+        requires ready { IsReady self.old.book.now (D.standing self.old.dev.now) }
+        ensures ok { result ≡ Ok tt }
+        ensures same { (self.new.book.now ≡ self.old.book.now) × (self.new.dev.now ≡ self.old.dev.now) }
+        ensures same_references { (self.new.book.ghost_name ≡ self.old.book.ghost_name) × (self.new.dev.ghost_name ≡ self.old.dev.ghost_name) }
+    {
+        Ok(())
     }
 }

@@ -1,5 +1,7 @@
 //! The end of a transaction whose changes stand.
 ghost use Rattle.std.specs.Prelude.{◌≡◌, true, OnOk, IsTrue};
+ghost use Rattle.devices.specs.World.{now};
+ghost use Rattle.store_laws.specs.ShownPages.{pages_in};
 
 use crate::store::Store;
 use devices::{Devices, Failed};
@@ -7,8 +9,8 @@ use line_pages::Stop;
 use nvm_log::EndKind;
 
 impl<'a, D: Devices> Store<'a, D> {
-    ghost use Rattle.transactions.specs.StoreStanding.{IsReady, IsSteady};
-    ghost use Rattle.transactions.specs.StoreCalls.{StoreCall, IsOldOrNew, CommitsLines, Ends, FaultCause};
+    ghost use Rattle.transactions.specs.StoreStanding.{book_sizes, IsReady, IsSteady};
+    ghost use Rattle.transactions.specs.StoreCalls.{StoreCall, IsOldOrNew, CommitsLines, LeavesOnly, Ends, FaultCause};
 
     /// Ends the open transaction: its lines become the committed ones.
     ///
@@ -22,6 +24,7 @@ impl<'a, D: Devices> Store<'a, D> {
 
         // What Ok means.
         ensures lines { IsTrue (D.standing self.old.dev.now).told → OnOk result (CommitsLines self.old.book.now (D.standing self.old.dev.now) self.new.book.now (D.standing self.new.dev.now)) }
+        ensures leaves { IsTrue (D.standing self.old.dev.now).told → IsSteady self.old.book.now (D.standing self.old.dev.now) → OnOk result (LeavesOnly (pages_in (book_sizes self.old.book.now) (now (D.standing self.old.dev.now))) (D.standing self.new.dev.now)) }
         ensures ends { OnOk result (Ends self.old.book.now self.new.book.now) }
         ensures ready { OnOk result (IsReady self.new.book.now (D.standing self.new.dev.now)) }
         ensures steady { IsSteady self.old.book.now (D.standing self.old.dev.now) → OnOk result (IsSteady self.new.book.now (D.standing self.new.dev.now)) }

@@ -5,7 +5,7 @@ use Rattle.devices.specs.declared.traits.Failed.{Failed}
 use Rattle.transactions.specs.declared.book.Book.{Book}
 use Rattle.transactions.specs.StoreStanding.{IsReady, IsSteady}
 use Rattle.transactions.specs.StoreCalls.{CommitsLines, StoreCall, IsOldOrNew}
-use Rattle.transactions.proofs.EndingLaws.{ended, commit_ready, commit_steady, commit_lines_are, commit_call}
+use Rattle.transactions.proofs.EndingLaws.{ended, commit_ready, commit_steady, commit_lines_are, commit_leaves, commit_call}
 use Rattle.transactions.proofs.store.Store.commit.Goals as goal
 
 pub returns-in-Ok-clause-lines : goal.returns-in-Ok-clause-lines
@@ -36,3 +36,8 @@ pub returns-in-Err-clause-call : goal.returns-in-Err-clause-call
 returns-in-Err-clause-call g c =
     commit_call c.args.self.now.book.now c.end.new.self (g.D.Devices.standing c.args.self.now.dev.now) (g.D.Devices.standing c.end.new.dev) {T = Unit {0}} {E = Failed} (Err c.in-Err.field-0)
     c.requires.ready c.requires.is_open c.in-Err.ensures.moved c.in-Err.ensures.makes c.in-Err.ensures.goes (record c.args.self.now.book.now { log = c.end.new.self }) c.in-Err.ensures.moved.geometry refl c.in-Err.ensures.cause.reads
+
+pub returns-in-Ok-clause-leaves : goal.returns-in-Ok-clause-leaves
+returns-in-Ok-clause-leaves g c told steady =
+    commit_leaves c.args.self.now.book.now c.end.new.self (g.D.Devices.standing c.args.self.now.dev.now) (g.D.Devices.standing c.end.new.dev) {T = Unit {0}} {E = Failed} (Ok c.in-Ok.field-0)
+    c.requires.ready c.requires.is_open c.in-Ok.ensures.moved c.in-Ok.ensures.makes c.in-Ok.ensures.goes told steady
