@@ -23,6 +23,7 @@ use Rattle.store_meaning.proofs.FactsLaws.{abort_facts, facts_done, facts_can_pu
 use Rattle.store_meaning.proofs.RecoveredLaws.{entries-append, lines_of-same}
 use Rattle.store_meaning.proofs.EndsLaws.{abort_ends}
 use Rattle.store_laws.specs.Undoing.{Undoing}
+use Rattle.store_laws.specs.Steps.{HoldsFacts}
 use Rattle.store_laws.specs.ShownPages.{pages_in, words_in, committed_in}
 use Rattle.store_laws.specs.OpenFacts.{OpenFacts, keeping, super_with}
 use Rattle.store_laws.proofs.OpenLaws.{pages_by}
@@ -58,6 +59,15 @@ module _ (g : Sizes) (start tail : ℕ) (words kept : Words) (s : State) (it : U
   pub abort_pages : (mid : State) → Amid s (append_calls g tail xs) mid → (i : Image) → Leaves mid i → recovered_pages whole_lines i ≡ lines_of (pages g) kept
   abort_pages mid amid i left =
       pages_by (moving b sup.tail (sup.tail + 1) (λ n. kept)) mid (abort_moment mid (subst (λ (cs : List Call). Amid s cs mid) (sym calls_are) amid)) kept (λ n p l w. refl) i left
+
+  -- At each moment the facts of a store hold.
+  pub abort_held : (mid : State) → Amid s (append_calls g tail xs) mid → HoldsFacts g mid
+  abort_held mid amid = record {
+    keeps = moving b sup.tail (sup.tail + 1) (λ n. kept);
+    format = refl;
+    sizes = refl;
+    facts = abort_moment mid (subst (λ (cs : List Call). Amid s cs mid) (sym calls_are) amid);
+  }
 
   abbrev s₁ : State
   s₁ = after_all (append_calls sup.sizes sup.tail xs) s

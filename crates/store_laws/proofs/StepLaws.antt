@@ -15,7 +15,7 @@ use Rattle.store_meaning.proofs.AtEndLaws.{OnOk_map}
 use Rattle.store_laws.specs.OpenFacts.{OpenFacts, keeping}
 use Rattle.store_laws.specs.ShownPages.{pages_in, committed_in}
 use Rattle.store_laws.specs.Calls.{write_calls, checkpoint_calls}
-use Rattle.store_laws.specs.Steps.{MayLeave, LeadsTo, KeepsOpen, CommitsOpen}
+use Rattle.store_laws.specs.Steps.{MayLeave, HoldsFacts, LeadsTo, KeepsOpen, CommitsOpen}
 use Rattle.store_laws.proofs.OpenLaws.{open_pages}
 use Rattle.store_laws.proofs.AsReadLaws.{amid_as, after_as, current_as, fresh_as, facts_read, open_read}
 use Rattle.store_laws.proofs.TakingBackLaws.{back_step, back_moment, back_open, back_newest, back_ends}
@@ -121,12 +121,16 @@ module _ {T E : Type 0} (calls : List Call) (a b : Standing) (r : Result T E) (g
   pub read_current : (g : Sizes) (start tail : ℕ) {change : Lines → Lines} → KeepsOpen g start tail change calls seen → OnOk r (pages_in g (now b) ≡ change (pages_in g (now a)))
   read_current g start tail step = current_after g _ step.current
 
-  -- Whatever a crash leaves: the facts where the call answers ok, and the committed lines at each moment.
+  -- Whatever a crash leaves: the facts where the call answers ok, and at each moment the committed lines and the facts of a
+  -- store.
   pub steady_facts : (Facts : State → Type 0) → LeadsTo Facts calls (now a) → OnOk r (Facts (now b))
   steady_facts Facts step = OnOk_map r (λ (done : now b ≡ after_all calls (now a)). subst Facts (sym done) step.facts) (makes.whole told)
 
   pub steady_during : {Facts : State → Type 0} → LeadsTo Facts calls (now a) → (m : ℕ) → a.clock < m → m ≤ b.clock → (lines : Lines) → MayLeave b m lines → lines ≡ committed_in (now a)
   steady_during step m low high lines h = sym h.2 ∙ step.moments (b.at m) ((makes.part told).each m (omega arith) high) h.0 h.1
+
+  pub steady_held : (g : Sizes) → ((mid : State) → Amid (now a) calls mid → HoldsFacts g mid) → (m : ℕ) → a.clock < m → m ≤ b.clock → HoldsFacts g (b.at m)
+  steady_held g held m low high = held (b.at m) ((makes.part told).each m (omega arith) high)
 
   -- The same for a commit.
   pub commit_read : (g : Sizes) (start tail : ℕ) → CommitsOpen g start tail calls seen → OnOk r (OpenFacts g start tail (fresh (current (now b))))

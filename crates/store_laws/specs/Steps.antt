@@ -6,12 +6,20 @@ use Rattle.line_pages.specs.Lines.{Lines}
 use Rattle.store_meaning.specs.Layout.{Sizes}
 use Rattle.store_meaning.specs.Format.Format.{whole_lines}
 use Rattle.store_meaning.specs.Recovered.{recovered_pages}
+use Rattle.store_meaning.specs.StoreFacts.{Bookkeeping, StoreFacts}
 use Rattle.store_laws.specs.OpenFacts.{OpenFacts}
 use Rattle.store_laws.specs.ShownPages.{pages_in, committed_in}
 
 -- a crash at that moment may leave an image that recovers to these lines
 abbrev pub MayLeave : Standing → ℕ → Lines → Type 0
 MayLeave d m lines = (i : Image) × Leaves (d.at m) i × (recovered_pages whole_lines i ≡ lines)
+
+-- The facts of a store of these sizes hold, for some bookkeeping.
+pub record HoldsFacts (g : Sizes) (s : State) : Type 0 where
+  pub keeps : Bookkeeping
+  pub format : keeps.format ≡ whole_lines
+  pub sizes : keeps.sizes ≡ g
+  pub facts : StoreFacts keeps s
 
 -- The calls lead to these facts; at each moment every image recovers to the lines that were committed before.
 pub record LeadsTo (Facts : State → Type 0) (calls : List Call) (s : State) : Type 0 where

@@ -28,8 +28,9 @@ use Rattle.nvm_log.specs.declared.log.Log.{Log}
 use Rattle.transactions.specs.declared.book.Book.{Book}
 use Rattle.transactions.specs.StoreStanding.{standing_of, book_sizes, reach, reserve, kept_lines, Stands, IsReady, IsSteady}
 use Rattle.transactions.specs.BookCalls.{IsWritten}
+use Rattle.transactions.specs.StoreCalls.{HoldsAlong}
 use Rattle.transactions.proofs.CallLaws.{at_end, holds_ok}
-use Rattle.transactions.proofs.StandsLaws.{stands_read, write_leads}
+use Rattle.transactions.proofs.StandsLaws.{stands_read, write_leads, write_along}
 
 -- Every call of pages: nothing apart changes, and each moment recovers to the committed pages.
 pub continues_by : (old new : Book) (a b : Device) (book_name device_name : ℕ)
@@ -100,13 +101,23 @@ stands_by old new start tail first s geometry starts tails firsts it =
     (subst (λ n. Stands (book_sizes old) start n new.first s) (sym tails)
     (subst (λ n. Stands (book_sizes old) start tail n s) (sym firsts) it)))
 
+-- the log has room for the record of a line that may be written
+pub record_room : (book : Book) (a : Device) → IsReady book a → 1 ≤ book.room → book.log.tail + 3 ≤ book.log.start + ring_lines (book_sizes book)
+record_room book a ready some = let all : reach book + kept_lines book ≤ book.log.start + ring_lines (book_sizes book) = ready.room in omega (arith, all, some)
+
+-- A write keeps the facts of a store at each moment.
+pub write_holds : {T E : Type 0} (book : Book) (a b : Device) (page line : ℕ) (value : Line) (r : Result T E) → IsReady book a → page < pages (book_sizes book) → line < 64 → IsLine value → 1 ≤ book.room
+    → MakesAll (write_calls (book_sizes book) book.log.tail page line value (now a)) a b r → Goes a b → IsTrue a.told → IsSteady book a → HoldsAlong (book_sizes book) a b
+write_holds book a b page line value r ready hp hl is_line some makes goes told steady =
+    write_along (book_sizes book) book.log.start book.log.tail book.first a b r goes told (steady told) page line value hp hl is_line (record_room book a ready some) makes
+
 -- A write, by the calls that it made on the device.
 module _ (old : Book) (touched : Accesses) (new : Book) (a b : Device) (page line : ℕ) (value : Line) {T E : Type 0} (r : Result T E)
     (ready : IsReady old a) (hp : page < pages (book_sizes old)) (hl : line < 64) (is_line : IsLine value) (some : 1 ≤ old.room)
     (written : IsWritten page line (record old { accesses = touched }) new r)
     (makes : MakesAll (write_calls (book_sizes old) old.log.tail page line value (now a)) a b r) (goes : Goes a b) where
   room_for : old.log.tail + 3 ≤ old.log.start + ring_lines (book_sizes old)
-  room_for = let all : reach old + kept_lines old ≤ old.log.start + ring_lines (book_sizes old) = ready.room in omega (arith, all, some)
+  room_for = record_room old a ready some
 
   abbrev Facts : State → Type 0
   Facts s = Stands (book_sizes old) old.log.start (old.log.tail + 3) old.first s

@@ -15,8 +15,8 @@ use Rattle.store_laws.proofs.OpenLaws.{facts_range}
 use Rattle.store_laws.proofs.AsReadLaws.{open_read}
 use Rattle.store_laws.proofs.GroupLaws.{group_changes, group_none}
 use Rattle.store_laws.proofs.ReadBackLaws.{group_tail}
-use Rattle.store_laws.proofs.CheckpointLaws.{checkpoint_open, checkpoint_empty, checkpoint_moment}
-use Rattle.store_laws.proofs.StepLaws.{checkpoint_step, read_facts, read_committed, read_current, steady_facts, steady_during}
+use Rattle.store_laws.proofs.CheckpointLaws.{checkpoint_open, checkpoint_empty, checkpoint_held, checkpoint_moment}
+use Rattle.store_laws.proofs.StepLaws.{checkpoint_step, read_facts, read_committed, read_current, steady_facts, steady_during, steady_held}
 use Rattle.transactions.specs.Closing.{IsClosed, Empties}
 
 no_records : (cs : List Change) → length cs ≡ 0 → cs ≡ []
@@ -62,5 +62,6 @@ checkpoint_empties g start tail old new r goes makes told = record {
       record {
         closed = steady_facts (checkpoint_calls tail) old new r goes makes told (IsClosed g tail tail) leads;
         during = steady_during (checkpoint_calls tail) old new r goes makes told leads;
+        held = steady_held (checkpoint_calls tail) old new r goes makes told g (checkpoint_held g start tail (now old) it (nothing_open g start tail (now old) it group));
       };
 }

@@ -79,4 +79,5 @@ module _ (old : Book) (log : Log) (loose : LineSet) (a b : Device) {T E : Type 0
     goes = goes;
     block_reads = reads;
     during = λ told steady. (closes_steady told steady).during;
+    held = λ told steady. (closes_steady told steady).held;
   }

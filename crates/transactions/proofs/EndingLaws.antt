@@ -13,7 +13,8 @@ use Rattle.store_meaning.specs.Append.{commit_lines}
 use Rattle.store_meaning.proofs.AtEndLaws.{OnOk_map}
 use Rattle.store_laws.specs.ShownPages.{pages_in, committed_in}
 use Rattle.store_laws.specs.Steps.{CommitsOpen}
-use Rattle.store_laws.proofs.StepLaws.{commit_step, commit_current, commit_result, commit_during}
+use Rattle.store_laws.proofs.StepLaws.{commit_step, commit_current, commit_result, commit_during, steady_held}
+use Rattle.store_laws.proofs.EndLaws.{commit_held}
 use Rattle.nvm_layout.specs.Sizes.{sizes_of}
 use Rattle.nvm_layout.specs.declared.geometry.Geometry.{Geometry}
 use Rattle.nvm_log.specs.declared.log.Log.{Log}
@@ -111,6 +112,8 @@ module _ (old : Book) (log : Log) (a b : Device) {T E : Type 0} (r : Result T E)
     block_reads = reads;
     during = λ told steady. commit_during (append_calls (book_sizes old) old.log.tail commit_lines) a b r goes makes told (book_sizes old) old.log.start (old.log.tail + 1)
         (commit_step (book_sizes old) old.log.start old.log.tail (now a) (steady told).facts (end_room old a ready opened));
+    held = λ told steady. steady_held (append_calls (book_sizes old) old.log.tail commit_lines) a b r goes makes told (book_sizes old)
+        (commit_held (book_sizes old) old.log.start old.log.tail (now a) (steady told).facts (end_room old a ready opened));
   }
 
 -- An abort, by what it did to the log and the device.
@@ -146,6 +149,7 @@ module _ (old : Book) (log : Log) (a b : Device) {T : Type 0} (r : Result T Stop
     goes = goes;
     block_reads = reads;
     during = λ told steady. (abort_holds told steady).during;
+    held = λ told steady. (abort_holds told steady).held;
   }
 
   -- nothing but a fault stops it

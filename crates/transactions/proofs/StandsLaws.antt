@@ -3,7 +3,7 @@ use Rattle.std.proofs.Common.{◌≡◌, ℕ, zero, suc, ◌+◌, ◌-◌, ◌*�
 use Rattle.std.specs.Prelude.{OnOk}
 use Rattle.nvm_model.specs.declared.line.Line.{Line}
 use Rattle.devices.specs.State.{State, Image, Call, current, fresh, line_at, after_all}
-use Rattle.devices.specs.World.{Standing, MakesAll, now}
+use Rattle.devices.specs.World.{Standing, Goes, MakesAll, now}
 use Rattle.store_meaning.specs.Layout.{Sizes, pages, frame_line, ring_lines}
 use Rattle.store_meaning.specs.Log.{Change}
 use Rattle.store_meaning.specs.Put.{IsLine, append_calls}
@@ -12,7 +12,7 @@ use Rattle.store_meaning.specs.Recovered.{Super, super_of, from, log_line, log_l
 use Rattle.store_meaning.proofs.AtEndLaws.{OnOk_map}
 use Rattle.store_meaning.proofs.FactsLaws.{current_leaves}
 use Rattle.store_laws.specs.ShownPages.{committed_in}
-use Rattle.transactions.specs.StoreCalls.{LeavesOnly}
+use Rattle.transactions.specs.StoreCalls.{LeavesOnly, HoldsAlong}
 use Rattle.store_laws.specs.OpenFacts.{OpenFacts, super_with}
 use Rattle.store_laws.specs.OpenGroup.{OpenGroup}
 use Rattle.store_laws.specs.Calls.{write_calls}
@@ -20,9 +20,9 @@ use Rattle.store_laws.specs.Steps.{LeadsTo}
 use Rattle.store_laws.proofs.OpenLaws.{facts_range, open_pages}
 use Rattle.store_laws.proofs.AsReadLaws.{after_as, current_as, fresh_as, open_read}
 use Rattle.store_laws.proofs.GroupLaws.{group_write, group_commit}
-use Rattle.store_laws.proofs.WriteLaws.{write_log}
+use Rattle.store_laws.proofs.WriteLaws.{write_log, write_held}
 use Rattle.store_laws.proofs.EndLaws.{commit_log, commit_open}
-use Rattle.store_laws.proofs.StepLaws.{write_step}
+use Rattle.store_laws.proofs.StepLaws.{write_step, steady_held}
 use Rattle.transactions.specs.StoreStanding.{Stands}
 
 -- they hold of what one reads of the state too
@@ -54,6 +54,12 @@ lines_long g start tail i is started =
     let long : length (log_lines i) ≡ tail - start =
     ap (λ (x : Super). length (from (log_line x.sizes x.drained i) x.start (x.tail - x.start))) is ∙ from_length (log_line g start i) start (tail - start) in
     omega arith
+
+-- at each moment of a write the facts of a store hold
+pub write_along : {T E : Type 0} (g : Sizes) (start tail first : ℕ) (a b : Standing) (r : Result T E) → Goes a b → IsTrue a.told → Stands g start tail first (now a)
+    → (page line : ℕ) (value : Line) → page < pages g → line < 64 → IsLine value → tail + 3 ≤ start + ring_lines g → MakesAll (write_calls g tail page line value (now a)) a b r → HoldsAlong g a b
+write_along g start tail first a b r goes told it page line value hp hl is_line room makes =
+    steady_held (write_calls g tail page line value (now a)) a b r goes makes told g (write_held g start tail (now a) it.facts page line value hp hl is_line room)
 
 -- the end of a commit leaves an empty group
 pub commit_stands : (g : Sizes) (start tail first : ℕ) (s : State) → Stands g start tail first s → tail + 1 ≤ start + ring_lines g

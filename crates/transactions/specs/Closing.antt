@@ -9,7 +9,7 @@ use Rattle.store_meaning.specs.Layout.{Sizes}
 use Rattle.store_laws.specs.OpenFacts.{OpenFacts}
 use Rattle.store_laws.specs.OpenGroup.{OpenGroup}
 use Rattle.store_laws.specs.ShownPages.{pages_in, committed_in}
-use Rattle.store_laws.specs.Steps.{MayLeave}
+use Rattle.store_laws.specs.Steps.{MayLeave, HoldsFacts}
 
 -- The facts of an open store hold, and no record stands behind the last end of its log.
 pub record IsClosed (g : Sizes) (start tail : ℕ) (s : State) : Type 0 where
@@ -23,10 +23,12 @@ pub record ClosesRead {T E : Type 0} (g : Sizes) (start tail : ℕ) (lines : Lin
   pub current : OnOk result (pages_in g (now new) ≡ lines)
   pub committed : committed_in (now new) ≡ committed_in (now old)
 
--- Whatever a crash leaves: the facts where it answers ok, and at each moment nothing but the committed lines.
+-- Whatever a crash leaves: the facts where it answers ok, and at each moment nothing but the committed lines, and the facts
+-- of a store.
 pub record ClosesSteady {T E : Type 0} (g : Sizes) (start tail : ℕ) (old new : Standing) (result : Result T E) : Type 0 where
   pub closed : OnOk result (IsClosed g start tail (now new))
   pub during : (m : ℕ) → old.clock < m → m ≤ new.clock → (lines : Lines) → MayLeave new m lines → lines ≡ committed_in (now old)
+  pub held : (m : ℕ) → old.clock < m → m ≤ new.clock → HoldsFacts g (new.at m)
 
 -- The log of a store in which nothing is open is emptied: it stands at its tail, and the current lines stay.
 pub record Empties {T E : Type 0} (g : Sizes) (start tail : ℕ) (old new : Standing) (result : Result T E) : Type 0 where

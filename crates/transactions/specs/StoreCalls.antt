@@ -6,21 +6,27 @@ use Rattle.line_pages.specs.LineSets.{pairs_of}
 use Rattle.line_pages.specs.Pairs.{no_pairs}
 use Rattle.line_pages.specs.declared.stop.Stop.{Stop}
 use Rattle.line_pages.specs.declared.stop.Stop.TheVariants.{Nvm, Ssd, Damaged}
-use Rattle.store_meaning.specs.Layout.{ring_lines}
+use Rattle.store_meaning.specs.Layout.{Sizes, ring_lines}
 use Rattle.store_laws.specs.ShownPages.{pages_in, committed_in}
-use Rattle.store_laws.specs.Steps.{MayLeave}
+use Rattle.store_laws.specs.Steps.{MayLeave, HoldsFacts}
 use Rattle.transactions.specs.declared.book.Book.{Book}
 use Rattle.transactions.specs.StoreStanding.{book_sizes, reach, IsSteady}
 
+-- at each moment of a call the facts of a store hold
+abbrev pub HoldsAlong : Sizes → Device → Device → Type 0
+HoldsAlong g a b = (m : ℕ) → a.clock < m → m ≤ b.clock → HoldsFacts g (b.at m)
+
 -- Whatever a call answers: the geometry, the accesses and the touches stay, and of the device its sizes, whether it is told
 -- and honest, what stands beside it, its earlier moments and its count of block reads; no count of faults falls. Where the
--- store was steady, each moment recovers to lines of which `Recovers` holds.
+-- store was steady, at each moment the facts of a store hold, and what a crash leaves recovers to lines of which `Recovers`
+-- holds.
 pub record StoreCall (Recovers : Lines → Type 0) (old : Book) (a : Device) (new : Book) (b : Device) : Type 0 where
   pub geometry : new.log.geometry ≡ old.log.geometry
   pub accesses : new.accesses ≡ old.accesses
   pub goes : Goes a b
   pub block_reads : b.block_reads ≡ a.block_reads
   pub during : IsTrue a.told → IsSteady old a → (m : ℕ) → a.clock < m → m ≤ b.clock → (lines : Lines) → MayLeave b m lines → Recovers lines
+  pub held : IsTrue a.told → IsSteady old a → HoldsAlong (book_sizes old) a b
 
 -- the committed lines, as they were before the call
 abbrev pub IsCommitted : Device → Lines → Type 0

@@ -1,5 +1,5 @@
 //! A line written in place.
-ghost use Rattle.std.specs.Prelude.{◌≡◌, ◌≤◌, ◌<◌};
+ghost use Rattle.std.specs.Prelude.{◌≡◌, ◌≤◌, ◌<◌, IsTrue};
 ghost use Rattle.devices.specs.World.{Goes, MakesAll, NvmCause, now};
 ghost use Rattle.store_meaning.specs.Layout.{pages};
 ghost use Rattle.store_meaning.specs.Put.{append_calls, IsLine};
@@ -13,8 +13,9 @@ use nvm_log::LineRecord;
 use nvm_model::Line;
 
 impl Book {
-    ghost use Rattle.transactions.specs.StoreStanding.{book_sizes, IsReady};
+    ghost use Rattle.transactions.specs.StoreStanding.{book_sizes, IsReady, IsSteady};
     ghost use Rattle.transactions.specs.BookCalls.{IsWritten};
+    ghost use Rattle.transactions.specs.StoreCalls.{HoldsAlong};
 
     /// Writes a line: the record of what stands there and of the value, durable, and then the value in its place, flushed.
     pub(crate) fn write_in_place<D: Devices>(
@@ -28,7 +29,9 @@ impl Book {
         requires page { page < pages (book_sizes self.old) }
         requires line { line < 64 }
         requires room { 1 ≤ self.old.room }
+        requires is_line { IsLine value.now }
         ensures written { IsWritten page line self.old self.new result }
+        ensures held { IsTrue (D.standing dev.old).told → IsSteady self.old (D.standing dev.old) → HoldsAlong (book_sizes self.old) (D.standing dev.old) (D.standing dev.new) }
         ensures makes { MakesAll (write_calls (book_sizes self.old) self.old.log.tail page line value.now (now (D.standing dev.old))) (D.standing dev.old) (D.standing dev.new) result }
         ensures cause { NvmCause (D.standing dev.old) (D.standing dev.new) result }
         ensures goes { Goes (D.standing dev.old) (D.standing dev.new) }

@@ -12,6 +12,7 @@ use Rattle.store_meaning.specs.InPlace.{store_calls}
 use Rattle.store_laws.specs.Calls.{write_calls}
 use Rattle.transactions.specs.StoreStanding.{book_sizes}
 use Rattle.transactions.proofs.CallLaws.{makes_none, makes_told, line_put}
+use Rattle.transactions.proofs.BookLaws.{write_holds}
 use Rattle.transactions.proofs.book.Book.write_in_place.Goals as goal
 
 pub returns-clause-makes : goal.returns-clause-makes
@@ -32,3 +33,16 @@ returns-in_err-record-clause-makes g c =
     (c.in_ok-before.ensures.value told ∙ ap (line_at (now (g.D.Devices.standing c.args.dev.now))) c.place-place.ensures.place))
     (makes_then c.in_ok-before.ensures.goes c.in_err-record.ensures.goes (makes_none {T = Unit {0}} (Ok tt) c.in_ok-before.ensures.goes c.in_ok-before.ensures.stays)
     (makes_stop (store_calls sizes c.args.page c.args.line c.args.value.now) c.from_residual-in_err-record.result c.from_residual-in_err-record.ensures.0 c.in_err-record.ensures.makes))
+
+pub returns-clause-goes : goal.returns-clause-goes
+returns-clause-goes g c = Goes-trans c.in_ok-before.ensures.goes (Goes-trans c.in_ok-record.ensures.goes c.put_line.ensures.goes)
+
+pub returns-clause-held : goal.returns-clause-held
+returns-clause-held g c =
+    write_holds c.args.self.now (g.D.Devices.standing c.args.dev.now) (g.D.Devices.standing c.put_line.new.dev) c.args.page c.args.line c.args.value.now c.put_line.result
+    c.requires.ready c.requires.page c.requires.line c.requires.is_line c.requires.room (returns-clause-makes g c) (returns-clause-goes g c)
+
+pub returns-in_err-record-clause-held : goal.returns-in_err-record-clause-held
+returns-in_err-record-clause-held g c =
+    write_holds c.args.self.now (g.D.Devices.standing c.args.dev.now) (g.D.Devices.standing c.record.new.dev) c.args.page c.args.line c.args.value.now c.from_residual-in_err-record.result
+    c.requires.ready c.requires.page c.requires.line c.requires.is_line c.requires.room (returns-in_err-record-clause-makes g c) (Goes-trans c.in_ok-before.ensures.goes c.in_err-record.ensures.goes)
