@@ -23,10 +23,10 @@ use Rattle.store_meaning.proofs.FactsLaws.{abort_facts, facts_done, facts_can_pu
 use Rattle.store_meaning.proofs.RecoveredLaws.{entries-append, lines_of-same}
 use Rattle.store_meaning.proofs.EndsLaws.{abort_ends}
 use Rattle.store_laws.specs.Undoing.{Undoing}
+use Rattle.store_laws.specs.Steps.{HoldsFacts, IsStoreOf}
 use Rattle.store_laws.specs.ShownPages.{pages_in, words_in, committed_in}
 use Rattle.store_laws.specs.OpenFacts.{OpenFacts, keeping, super_with}
 use Rattle.store_laws.proofs.OpenLaws.{pages_by, store_by}
-use Rattle.store_laws.specs.Steps.{IsStoreOf}
 
 module _ (g : Sizes) (start tail : ℕ) (words kept : Words) (s : State) (it : Undoing g start tail words kept s)
     (back : (p l w : ℕ) → IsWord g p l w → words p l w ≡ kept p l w) (room : tail + 1 ≤ start + ring_lines g) where
@@ -59,6 +59,15 @@ module _ (g : Sizes) (start tail : ℕ) (words kept : Words) (s : State) (it : U
   pub abort_pages : (mid : State) → Amid s (append_calls g tail xs) mid → (i : Image) → Leaves mid i → IsStoreOf g (lines_of (pages g) kept) i
   abort_pages mid amid i left =
       store_by (moving b sup.tail (sup.tail + 1) (λ n. kept)) mid (abort_moment mid (subst (λ (cs : List Call). Amid s cs mid) (sym calls_are) amid)) refl kept (λ n p l w. refl) i left
+
+  -- At each moment the facts of a store hold.
+  pub abort_held : (mid : State) → Amid s (append_calls g tail xs) mid → HoldsFacts g mid
+  abort_held mid amid = record {
+    keeps = moving b sup.tail (sup.tail + 1) (λ n. kept);
+    format = refl;
+    sizes = refl;
+    facts = abort_moment mid (subst (λ (cs : List Call). Amid s cs mid) (sym calls_are) amid);
+  }
 
   abbrev s₁ : State
   s₁ = after_all (append_calls sup.sizes sup.tail xs) s

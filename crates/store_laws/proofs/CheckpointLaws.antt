@@ -23,9 +23,9 @@ use Rattle.store_meaning.proofs.StartLaws.{start_facts, start_done, start_single
 use Rattle.store_meaning.proofs.EndsLaws.{none_ends}
 use Rattle.store_laws.specs.OpenFacts.{OpenFacts, keeping, super_with}
 use Rattle.store_laws.specs.Calls.{checkpoint_calls}
+use Rattle.store_laws.specs.Steps.{HoldsFacts, IsStoreOf}
 use Rattle.store_laws.specs.ShownPages.{pages_in, words_in, committed_in}
 use Rattle.store_laws.proofs.OpenLaws.{same_words, open_pages, facts_can_store, open_store, store_by, same_store}
-use Rattle.store_laws.specs.Steps.{IsStoreOf}
 
 -- Where nothing was stored, each image is one of before, and the facts stay.
 module _ (s mid : State) (grows : Grows no_store no_write s mid) where
@@ -147,6 +147,13 @@ module _ (g : Sizes) (start tail : ℕ) (s : State) (it : OpenFacts g start tail
   checkpoint_committed =
       ap (λ n. committed_in (after_all (start_calls n) s₁)) (sym same_tail)
       ∙ open_pages g tail tail s₂ done (current s₂) (current_leaves s₂) ∙ sym (open_pages g start tail s it (current s) (current_leaves s))
+
+  -- At each moment the facts of a store hold.
+  pub checkpoint_held : (mid : State) → Amid s (checkpoint_calls tail) mid → HoldsFacts g mid
+  checkpoint_held mid amid = elim amid [
+    | inl part ↦ record { keeps = b; format = refl; sizes = refl; facts = grown_facts s mid (fence_grows s mid (inl part)) b it.facts }
+    | inr later ↦ record { keeps = starting b s₁; format = refl; sizes = refl; facts = start_moment mid (subst (λ n. Amid s₁ (start_calls n) mid) (sym same_tail) later) }
+  ]
 
   -- At each moment every image is a store that recovers to the committed pages.
   pub checkpoint_moment : (mid : State) → Amid s (checkpoint_calls tail) mid → (i : Image) → Leaves mid i → IsStoreOf g (committed_in s) i

@@ -25,8 +25,8 @@ use Rattle.store_meaning.proofs.RecoveredLaws.{lines_of-same, entries-append}
 use Rattle.store_meaning.proofs.EndsLaws.{commit_ends}
 use Rattle.store_laws.specs.OpenFacts.{OpenFacts, keeping, super_with}
 use Rattle.store_laws.specs.ShownPages.{pages_in, words_in}
+use Rattle.store_laws.specs.Steps.{HoldsFacts, IsStoreOf}
 use Rattle.store_laws.proofs.OpenLaws.{pages_by, same_store}
-use Rattle.store_laws.specs.Steps.{IsStoreOf}
 
 module _ (g : Sizes) (start tail : ℕ) (s : State) (it : OpenFacts g start tail s) (room : tail + 1 ≤ start + ring_lines g) where
   abbrev xs : List Line
@@ -77,6 +77,15 @@ module _ (g : Sizes) (start tail : ℕ) (s : State) (it : OpenFacts g start tail
         | inl new ↦ inr (same_store g (lines_of (pages g) it.words) (pages_in g s) i (by it.words (λ p l w. ap (λ (x : Words). x p l w) (cond-true (eqb (super_of i).tail (sup.tail + 1)) it.words it.kept (eq-eqb (super_of i).tail (sup.tail + 1) new)))) lines_now)
         | inr old ↦ inl (by it.kept (λ p l w. ap (λ (x : Words). x p l w) (cond-false (eqb (super_of i).tail (sup.tail + 1)) it.words it.kept (ne_eqb (super_of i).tail (sup.tail + 1) old))))
       ]
+
+  -- At each moment the facts of a store hold.
+  pub commit_held : (mid : State) → Amid s (append_calls g tail xs) mid → HoldsFacts g mid
+  commit_held mid amid = record {
+    keeps = moving b sup.tail (sup.tail + 1) after_commit;
+    format = refl;
+    sizes = refl;
+    facts = commit_moment mid (subst (λ (cs : List Call). Amid s cs mid) (sym calls_are) amid);
+  }
 
   abbrev s₁ : State
   s₁ = after_all (append_calls sup.sizes sup.tail xs) s

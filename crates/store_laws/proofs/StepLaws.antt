@@ -15,8 +15,8 @@ use Rattle.store_meaning.proofs.AtEndLaws.{OnOk_map}
 use Rattle.store_laws.specs.OpenFacts.{OpenFacts, keeping}
 use Rattle.store_laws.specs.ShownPages.{pages_in, committed_in}
 use Rattle.store_laws.specs.Calls.{write_calls, checkpoint_calls}
-use Rattle.store_laws.specs.Steps.{IsSized, IsStoreOf, MayLeave, LeadsTo, KeepsOpen, CommitsOpen}
-use Rattle.store_laws.proofs.OpenLaws.{open_pages, same_store}
+use Rattle.store_laws.specs.Steps.{IsSized, IsStoreOf, MayLeave, HoldsFacts, LeadsTo, KeepsOpen, CommitsOpen}
+use Rattle.store_laws.proofs.OpenLaws.{open_pages, open_store, same_store}
 use Rattle.store_laws.proofs.AsReadLaws.{amid_as, after_as, current_as, fresh_as, facts_read, open_read}
 use Rattle.store_laws.proofs.TakingBackLaws.{back_step, back_moment, back_open, back_newest, back_ends}
 use Rattle.store_laws.specs.Undoing.{TakingBack}
@@ -87,6 +87,12 @@ leaves_earlier g a b goes m lines early h = (h.0, subst (λ (s : State). Leaves 
 pub left_lines : (g : Sizes) (lines others : Lines) (i : Image) → IsStoreOf g others i → (IsSized g i → recovered_pages whole_lines i ≡ lines) → lines ≡ others
 left_lines g lines others i is left = sym (left is.is_sized) ∙ is.pages
 
+-- where the facts of an open store hold, the committed lines
+pub open_left : (g : Sizes) (start tail : ℕ) (s : State) → OpenFacts g start tail s → (lines : Lines) (i : Image) → Leaves s i → (IsSized g i → recovered_pages whole_lines i ≡ lines) → lines ≡ committed_in s
+open_left g start tail s it lines i leaves left =
+    left_lines g lines (committed_in s) i
+    (same_store g (lines_of (pages g) it.kept) (committed_in s) i (open_store g start tail s it i leaves) (sym (open_pages g start tail s it (current s) (current_leaves s)))) left
+
 -- what the calls leave, as one reads it
 same_read : (calls : List Call) (s : State) → current (after_all calls s) ≡ current (after_all calls (fresh (current s)))
 same_read calls s = current_as (after_all calls s) (after_all calls (fresh (current s))) (after_as calls s (fresh (current s)) (fresh_as s))
@@ -125,12 +131,16 @@ module _ {T E : Type 0} (calls : List Call) (a b : Standing) (r : Result T E) (g
   pub read_current : (g : Sizes) (start tail : ℕ) {change : Lines → Lines} → KeepsOpen g start tail change calls seen → OnOk r (pages_in g (now b) ≡ change (pages_in g (now a)))
   read_current g start tail step = current_after g _ step.current
 
-  -- Whatever a crash leaves: the facts where the call answers ok, and the committed lines at each moment.
+  -- Whatever a crash leaves: the facts where the call answers ok, and at each moment the committed lines and the facts of a
+  -- store.
   pub steady_facts : {g : Sizes} (Facts : State → Type 0) → LeadsTo g Facts calls (now a) → OnOk r (Facts (now b))
   steady_facts Facts step = OnOk_map r (λ (done : now b ≡ after_all calls (now a)). subst Facts (sym done) step.facts) (makes.whole told)
 
   pub steady_during : {g : Sizes} {Facts : State → Type 0} → LeadsTo g Facts calls (now a) → (m : ℕ) → a.clock < m → m ≤ b.clock → (lines : Lines) → MayLeave g b m lines → lines ≡ committed_in (now a)
   steady_during {g} step m low high lines h = left_lines g lines (committed_in (now a)) h.0 (step.moments (b.at m) ((makes.part told).each m (omega arith) high) h.0 h.1) h.2
+
+  pub steady_held : (g : Sizes) → ((mid : State) → Amid (now a) calls mid → HoldsFacts g mid) → (m : ℕ) → a.clock < m → m ≤ b.clock → HoldsFacts g (b.at m)
+  steady_held g held m low high = held (b.at m) ((makes.part told).each m (omega arith) high)
 
   -- The same for a commit.
   pub commit_read : (g : Sizes) (start tail : ℕ) → CommitsOpen g start tail calls seen → OnOk r (OpenFacts g start tail (fresh (current (now b))))

@@ -15,15 +15,15 @@ use Rattle.devices.proofs.GrowthLaws.{Amid_end}
 use Rattle.store_meaning.proofs.FactsLaws.{current_leaves}
 use Rattle.store_meaning.proofs.AtEndLaws.{log_durable}
 use Rattle.store_laws.specs.OpenFacts.{OpenFacts, keeping}
+use Rattle.store_laws.specs.Steps.{HoldsFacts, IsStoreOf}
 use Rattle.store_laws.specs.OpenGroup.{OpenGroup, IsOfStore, AreOfStore}
 use Rattle.store_laws.specs.ShownPages.{pages_in, committed_in}
 use Rattle.store_laws.specs.Undoing.{Undoing, TakingBack}
 use Rattle.store_laws.proofs.OpenLaws.{pages_by, facts_can_store, same_store}
-use Rattle.store_laws.specs.Steps.{IsStoreOf}
 use Rattle.store_laws.proofs.WriteLaws.{record_at, names_here}
 use Rattle.store_laws.proofs.GroupLaws.{group_changes}
-use Rattle.store_laws.proofs.AbortLaws.{or_right, abort_words, undo_done, undo_pages, undo_lines}
-use Rattle.store_laws.proofs.AbortEndLaws.{abort_log, abort_open, abort_pages, abort_newest, abort_committed}
+use Rattle.store_laws.proofs.AbortLaws.{or_right, abort_words, undo_done, undo_moment, undo_pages, undo_lines}
+use Rattle.store_laws.proofs.AbortEndLaws.{abort_held, abort_log, abort_open, abort_pages, abort_newest, abort_committed}
 
 or_left : (x y : Bool) → x ≡ true → (x || y) ≡ true
 or_left true y e = refl
@@ -123,6 +123,15 @@ module _ (g : Sizes) (start tail first k : ℕ) (s : State) (it : TakingBack g s
     back = it.back;
   }
 
+  -- At each moment the facts of a store hold.
+  pub back_held : (mid : State) → Amid s (store_calls g c.page c.line c.before) mid → HoldsFacts g mid
+  back_held mid amid = record {
+    keeps = keeping g (written (record_at c.page c.line c.before c.before) c.before words₁) it.kept;
+    format = refl;
+    sizes = refl;
+    facts = undo_moment g start tail words₁ it.kept s it.undoing c.page c.line c.before one.line logged mid amid;
+  }
+
   -- At each moment every image is a store that recovers to the committed pages.
   pub back_moment : (mid : State) → Amid s (store_calls g c.page c.line c.before) mid → (i : Image) → Leaves mid i → IsStoreOf g (committed_in s) i
   back_moment mid amid i left =
@@ -150,6 +159,9 @@ module _ (g : Sizes) (start tail first : ℕ) (s : State) (it : TakingBack g sta
 
   pub back_kept : committed_in (after_all (append_calls g tail abort_lines) s) ≡ committed_in s
   back_kept = abort_committed g start tail words₀ it.kept s it.undoing all_back room ∙ sym (back_committed g start tail first 0 s it)
+
+  pub back_end_held : (mid : State) → Amid s (append_calls g tail abort_lines) mid → HoldsFacts g mid
+  back_end_held mid amid = abort_held g start tail words₀ it.kept s it.undoing all_back room mid amid
 
   pub back_ends : (mid : State) → Amid s (append_calls g tail abort_lines) mid → (i : Image) → Leaves mid i → IsStoreOf g (committed_in s) i
   back_ends mid amid i left =

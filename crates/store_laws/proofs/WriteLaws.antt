@@ -34,9 +34,9 @@ use Rattle.store_meaning.proofs.StoreLaws.{Stored, store_same, store_facts}
 use Rattle.store_meaning.proofs.RecoveredLaws.{line_of-same, entries-append}
 use Rattle.store_meaning.proofs.EndsLaws.{record_logged, record_ends}
 use Rattle.store_laws.specs.OpenFacts.{OpenFacts, keeping, super_with}
+use Rattle.store_laws.specs.Steps.{HoldsFacts, IsStoreOf}
 use Rattle.store_laws.specs.Calls.{write_calls}
 use Rattle.store_laws.specs.ShownPages.{pages_in, words_in, committed_in}
-use Rattle.store_laws.specs.Steps.{IsStoreOf}
 use Rattle.line_pages.specs.Lines.{with_line}
 use Rattle.store_laws.proofs.OpenLaws.{same_words, open_pages, store_by, same_store}
 
@@ -309,6 +309,18 @@ module _ (g : Sizes) (start tail : ℕ) (s : State) (it : OpenFacts g start tail
     where
       again : IsStoreOf g (lines_of (pages g) it.kept) i → IsStoreOf g (committed_in s) i
       again found = same_store g (lines_of (pages g) it.kept) (committed_in s) i found (sym (open_pages g start tail s it (current s) (current_leaves s)))
+
+  -- At each moment the facts of a store hold.
+  pub write_held : (mid : State) → Amid s (write_calls g tail page line value s) mid → HoldsFacts g mid
+  write_held mid amid = elim (Amid_append (append_calls g tail xs) (store_calls g page line value) s mid amid) [
+    | inl first ↦ record { keeps = moving b sup.tail (sup.tail + 3) (λ n. it.kept); format = refl; sizes = refl; facts = record_moment mid first }
+    | inr second ↦ record {
+        keeps = keeping g words₂ it.kept;
+        format = refl;
+        sizes = refl;
+        facts = store_moment mid (subst (λ (cs : List Call). Amid (after_all cs s) (store_calls g page line value) mid) (sym calls_are) second);
+      }
+  ]
 
   -- The newest lines are the old ones but for this line.
   pub write_lines : pages_in g (after_all (write_calls g tail page line value s) s) ≡ with_line page line value (pages_in g s)

@@ -6,6 +6,7 @@ use Rattle.line_pages.specs.Lines.{Lines}
 use Rattle.store_meaning.specs.Layout.{Sizes}
 use Rattle.store_meaning.specs.Format.Format.{whole_lines}
 use Rattle.store_meaning.specs.Recovered.{super_of, recovered_pages, IsStore}
+use Rattle.store_meaning.specs.StoreFacts.{Bookkeeping, StoreFacts}
 use Rattle.store_laws.specs.OpenFacts.{OpenFacts}
 use Rattle.store_laws.specs.ShownPages.{pages_in, committed_in}
 
@@ -23,6 +24,13 @@ pub record IsStoreOf (g : Sizes) (lines : Lines) (i : Image) : Type 0 where
 -- image of any lines: so where only some lines may be left, every image is a store (`ImageLaws`).
 abbrev pub MayLeave : Sizes → Standing → ℕ → Lines → Type 0
 MayLeave g d m lines = (i : Image) × Leaves (d.at m) i × (IsSized g i → recovered_pages whole_lines i ≡ lines)
+
+-- The facts of a store of these sizes hold, for some bookkeeping.
+pub record HoldsFacts (g : Sizes) (s : State) : Type 0 where
+  pub keeps : Bookkeeping
+  pub format : keeps.format ≡ whole_lines
+  pub sizes : keeps.sizes ≡ g
+  pub facts : StoreFacts keeps s
 
 -- The calls lead to these facts; at each moment every image is a store that recovers to the lines that were committed before.
 pub record LeadsTo (g : Sizes) (Facts : State → Type 0) (calls : List Call) (s : State) : Type 0 where

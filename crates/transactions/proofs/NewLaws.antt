@@ -1,0 +1,58 @@
+-- The book of a store just opened, whose log is empty.
+use Rattle.std.proofs.Common.{◌≡◌, ℕ, ◌+◌, ◌-◌, ◌*◌, ◌^◌, ◌<◌, ◌≤◌, true, false, [], refl, sym, ap, ◌∙◌, subst, arith, IsTrue}
+use Rattle.devices.specs.State.{State, current, fresh}
+use Rattle.devices.specs.World.{Standing as Device, now}
+use Rattle.line_pages.specs.LineSets.{pages_of}
+use Rattle.line_pages.specs.declared.line_set.LineSet.{LineSet}
+use Rattle.store_meaning.specs.Layout.{Sizes, pages, nvm_lines, ring_lines, is_allowed}
+use Rattle.store_meaning.specs.Recovered.{Super, super_of, from, log_line, log_lines}
+use Rattle.store_laws.specs.OpenFacts.{OpenFacts}
+use Rattle.store_laws.specs.OpenGroup.{OpenGroup}
+use Rattle.store_laws.proofs.GroupLaws.{group_none}
+use Rattle.nvm_layout.specs.Sizes.{sizes_of}
+use Rattle.nvm_log.specs.declared.log.Log.{Log}
+use Rattle.transactions.specs.declared.book.Book.{Book}
+use Rattle.transactions.specs.StoreStanding.{book_sizes, reach, reserve, kept_lines, Stands, IsReady, IsSteady}
+use Rattle.transactions.specs.BookCalls.{IsNew}
+
+-- A store with an empty log stands, and nothing is open in it.
+pub empty_stands : (g : Sizes) (at : ℕ) (s : State) → OpenFacts g at at s → Stands g at at at s
+empty_stands g at s it = record { facts = it; group = group_none g at (current s) none }
+  where
+    none : log_lines (current s) ≡ []
+    none =
+        let zero_lines : at - at ≡ 0 = omega arith in
+        ap (λ (x : Super). from (log_line x.sizes x.drained (current s)) x.start (x.tail - x.start)) it.super_words ∙ ap (λ n. from (log_line g at (current s)) at n) zero_lines
+
+module _ (log : Log) (loose : LineSet) (book : Book) (d : Device) (made : IsNew log loose book) (empty : log.start ≡ log.tail) where
+  stands_new : (s : State) → OpenFacts (sizes_of log.geometry) log.start log.tail s → Stands (book_sizes book) book.log.start book.log.tail book.first s
+  stands_new s it =
+      subst (λ n. Stands (book_sizes book) book.log.start book.log.tail n s) (sym made.first)
+      (subst (λ (x : Log). Stands (sizes_of x.geometry) x.start x.tail log.tail s) (sym made.log_is)
+      (subst (λ n. Stands (sizes_of log.geometry) n log.tail log.tail s) (sym empty) (empty_stands (sizes_of log.geometry) log.tail s (subst (λ n. OpenFacts (sizes_of log.geometry) n log.tail s) empty it))))
+
+  -- It is ready where its sizes are allowed and fit, and the facts of an open store hold as one reads the device;
+  pub new_ready : nvm_lines (sizes_of log.geometry) ≤ d.lines → is_allowed (sizes_of log.geometry) ≡ true → pages (sizes_of log.geometry) ≤ pages_of loose → log.tail ≤ 2 ^ 62
+      → (IsTrue d.told → OpenFacts (sizes_of log.geometry) log.start log.tail (fresh (current (now d)))) → IsReady book d
+  new_ready fits allowed sized low read =
+      let none : kept_lines book ≡ 0 = ap (λ o. reserve o book.log.geometry.writes book.accepted) made.is_open in
+      let no_room : book.room ≡ 0 = made.room in
+      let same : book.log ≡ log = made.log_is in
+      let tail : book.log.tail ≡ log.tail = ap (λ (x : Log). x.tail) same in
+      let start : book.log.start ≡ log.tail = ap (λ (x : Log). x.start) same ∙ empty in
+      let first : book.first ≡ log.tail = made.first in
+      record {
+        fits = subst (λ (x : Log). nvm_lines (sizes_of x.geometry) ≤ d.lines) (sym same) fits;
+        allowed = subst (λ (x : Log). is_allowed (sizes_of x.geometry) ≡ true) (sym same) allowed;
+        sized = subst (λ (x : Log). pages (sizes_of x.geometry) ≤ pages_of book.loose) (sym same) (subst (λ (x : LineSet). pages (sizes_of log.geometry) ≤ pages_of x) (sym made.loose_is) sized);
+        room = omega (arith, none, no_room, tail, start);
+        below = omega (arith, none, no_room, tail, low);
+        begins = omega (arith, start, first);
+        within = omega (arith, tail, first);
+        closed = λ shut. record { room = no_room; first = first ∙ sym tail };
+        read = λ told. stands_new (fresh (current (now d))) (read told);
+      }
+
+  -- and steady where they hold whatever a crash leaves.
+  pub new_steady : (IsTrue d.told → OpenFacts (sizes_of log.geometry) log.start log.tail (now d)) → IsSteady book d
+  new_steady steady told = stands_new (now d) (steady told)

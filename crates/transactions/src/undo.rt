@@ -1,0 +1,103 @@
+//! Taking back the lines of the open group.
+//!
+//! The before images of its records are put back in their places, from the last record to the first, and then the end of an
+//! abort is put last in the log. So at each moment recovery gives the lines that were committed before: it takes back the
+//! same lines again.
+ghost use Rattle.std.specs.Prelude.{◌≡◌, ◌≤◌, ◌<◌, ◌^◌, ℕ, ◌+◌, ◌-◌, ◌*◌, ◌/◌, IsTrue, IfOk, IfErr};
+ghost use Rattle.devices.specs.State.{current};
+ghost use Rattle.devices.specs.World.{Goes, Stays, MakesAll, NvmCause, now};
+ghost use Rattle.store_meaning.specs.Layout.{pages, nvm_lines};
+ghost use Rattle.store_meaning.specs.Recovered.{log_line};
+ghost use Rattle.store_meaning.specs.InPlace.{store_calls};
+ghost use Rattle.nvm_layout.specs.Sizes.{sizes_of};
+
+use devices::{Devices, Failed};
+use line_pages::{Evidence, Stop};
+use nvm_layout::Geometry;
+use nvm_log::{EndKind, Head, Log, read_head};
+use nvm_model::Line;
+
+/// A line of a page.
+#[derive(Clone, Copy, Debug, PartialEq, Eq)]
+struct Place {
+    /// The number of the page.
+    page: u64,
+    /// The line of the page, from 0 to 63.
+    line: u8,
+}
+
+ghost use Rattle.nvm_log.specs.Moved.{IsMoved};
+ghost use Rattle.transactions.specs.Closing.{Aborts};
+ghost use Rattle.transactions.specs.TakenBack.{IsPlace, AbortCause, IsNvm, NamesPlace, FindsPlace, TakesLine, SameLog, TakesBack};
+
+/// Reads a line as the head of a record. `Err` is the number of the first check that the line fails: 7 its kind is not that
+/// of a record; 8 its page is none of the store's, or its line not below 64.
+fn read_place(geometry: &Geometry, head: &Line) -> Result<Place, u8>
+    ensures { IsPlace (sizes_of geometry.now) head.now result }
+{
+    match read_head(geometry, head) {
+        Ok(Head::Line { page, line }) => Ok(Place { page, line }),
+        Ok(Head::End(_)) => Err(7),
+        Err(check) => Err(check),
+    }
+}
+
+/// The line of the log at an offset.
+fn load<D: Devices>(log: &Log, dev: &mut D, offset: u64) -> Result<Line, Stop>
+    requires above { log.now.start ≤ offset }
+    requires below { offset < log.now.tail }
+    requires fits { nvm_lines (sizes_of log.now.geometry) ≤ (D.standing dev.old).lines }
+    ensures value { IsTrue (D.standing dev.old).told → IfOk result (λ found. found ≡ log_line (sizes_of log.now.geometry) log.now.start (current (now (D.standing dev.old))) offset) }
+    ensures stops { IfErr result IsNvm }
+    ensures cause { AbortCause (sizes_of log.now.geometry) log.now.start log.now.tail (D.standing dev.old) (D.standing dev.new) result }
+    ensures goes { Goes (D.standing dev.old) (D.standing dev.new) }
+    ensures stays { Stays (D.standing dev.old) (D.standing dev.new) }
+{
+    match log.load_line(dev, offset) {
+        Ok(line) => Ok(line),
+        Err(Failed) => Err(Stop::Nvm),
+    }
+}
+
+/// The line that the record at an offset of the log names.
+fn load_place<D: Devices>(log: &Log, dev: &mut D, offset: u64) -> Result<Place, Stop>
+    requires above { log.now.start ≤ offset }
+    requires below { offset < log.now.tail }
+    requires fits { nvm_lines (sizes_of log.now.geometry) ≤ (D.standing dev.old).lines }
+    ensures place { IsTrue (D.standing dev.old).told → FindsPlace (sizes_of log.now.geometry) log.now.start offset (D.standing dev.old) result }
+    ensures within { IfOk result (λ place. (place.page < pages (sizes_of log.now.geometry)) × (place.line < 64)) }
+    ensures cause { AbortCause (sizes_of log.now.geometry) log.now.start log.now.tail (D.standing dev.old) (D.standing dev.new) result }
+    ensures goes { Goes (D.standing dev.old) (D.standing dev.new) }
+    ensures stays { Stays (D.standing dev.old) (D.standing dev.new) }
+{
+    let head = load(log, dev, offset)?;
+    match read_place(&log.geometry, &head) {
+        Ok(place) => Ok(place),
+        Err(check) => Err(Stop::Damaged(Evidence::Log {
+            offset,
+            line: head,
+            tail: log.tail,
+            check,
+        })),
+    }
+}
+
+/// Stores a line of a page in its frame and flushes it.
+fn store_in_place<D: Devices>(
+    geometry: &Geometry,
+    dev: &mut D,
+    place: Place,
+    value: &Line,
+) -> Result<(), Failed>
+    requires page { place.page < pages (sizes_of geometry.now) }
+    requires line { place.line < 64 }
+    requires framed { pages (sizes_of geometry.now) ≤ geometry.now.frames }
+    requires fits { nvm_lines (sizes_of geometry.now) ≤ (D.standing dev.old).lines }
+    ensures makes { MakesAll (store_calls (sizes_of geometry.now) place.page place.line value.now) (D.standing dev.old) (D.standing dev.new) result }
+    ensures cause { NvmCause (D.standing dev.old) (D.standing dev.new) result }
+    ensures goes { Goes (D.standing dev.old) (D.standing dev.new) }
+{
+    let line = geometry.frame_line(place.page as u32, place.line as usize);
+    dev.store_line(line, value)?;
+    dev.flush(line)
+}
