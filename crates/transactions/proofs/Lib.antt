@@ -1,1 +1,2 @@
 pub mod ClosingLaws
+pub mod TakenBackLaws

@@ -6,7 +6,7 @@
 ghost use Rattle.std.specs.Prelude.{◌≡◌, ◌≤◌, ◌<◌, ◌^◌, ℕ, ◌+◌, ◌-◌, ◌*◌, ◌/◌, IsTrue, IfOk, IfErr};
 ghost use Rattle.devices.specs.State.{current};
 ghost use Rattle.devices.specs.World.{Goes, Stays, MakesAll, NvmCause, now};
-ghost use Rattle.store_meaning.specs.Layout.{pages, nvm_lines};
+ghost use Rattle.store_meaning.specs.Layout.{pages, nvm_lines, ring_line, frame_line};
 ghost use Rattle.store_meaning.specs.Recovered.{log_line};
 ghost use Rattle.store_meaning.specs.InPlace.{store_calls};
 ghost use Rattle.nvm_layout.specs.Sizes.{sizes_of};
@@ -94,10 +94,45 @@ fn store_in_place<D: Devices>(
     requires framed { pages (sizes_of geometry.now) ≤ geometry.now.frames }
     requires fits { nvm_lines (sizes_of geometry.now) ≤ (D.standing dev.old).lines }
     ensures makes { MakesAll (store_calls (sizes_of geometry.now) place.page place.line value.now) (D.standing dev.old) (D.standing dev.new) result }
+    ensures apart { (offset : ℕ) → ring_line (sizes_of geometry.now) offset < frame_line (sizes_of geometry.now) place.page place.line }
     ensures cause { NvmCause (D.standing dev.old) (D.standing dev.new) result }
     ensures goes { Goes (D.standing dev.old) (D.standing dev.new) }
 {
     let line = geometry.frame_line(place.page as u32, place.line as usize);
     dev.store_line(line, value)?;
     dev.flush(line)
+}
+
+/// Puts a line of a page back in its frame.
+fn put_back<D: Devices>(log: &Log, dev: &mut D, place: Place, before: &Line) -> Result<(), Stop>
+    requires page { place.page < pages (sizes_of log.now.geometry) }
+    requires line { place.line < 64 }
+    requires framed { pages (sizes_of log.now.geometry) ≤ log.now.geometry.frames }
+    requires fits { nvm_lines (sizes_of log.now.geometry) ≤ (D.standing dev.old).lines }
+    ensures makes { MakesAll (store_calls (sizes_of log.now.geometry) place.page place.line before.now) (D.standing dev.old) (D.standing dev.new) result }
+    ensures apart { (offset : ℕ) → ring_line (sizes_of log.now.geometry) offset < frame_line (sizes_of log.now.geometry) place.page place.line }
+    ensures stops { IfErr result IsNvm }
+    ensures cause { AbortCause (sizes_of log.now.geometry) log.now.start log.now.tail (D.standing dev.old) (D.standing dev.new) result }
+    ensures goes { Goes (D.standing dev.old) (D.standing dev.new) }
+{
+    match store_in_place(&log.geometry, dev, place, before) {
+        Ok(()) => Ok(()),
+        Err(Failed) => Err(Stop::Nvm),
+    }
+}
+
+/// Takes back the line of the record at an offset: its before image is put back in its place.
+fn take_back_line<D: Devices>(log: &Log, dev: &mut D, offset: u64) -> Result<(), Stop>
+    requires above { log.now.start ≤ offset }
+    requires within { offset + 3 ≤ log.now.tail }
+    requires below { log.now.tail < 2 ^ 62 }
+    requires framed { pages (sizes_of log.now.geometry) ≤ log.now.geometry.frames }
+    requires fits { nvm_lines (sizes_of log.now.geometry) ≤ (D.standing dev.old).lines }
+    ensures takes { IsTrue (D.standing dev.old).told → TakesLine (sizes_of log.now.geometry) log.now.start offset (D.standing dev.old) (D.standing dev.new) result }
+    ensures cause { AbortCause (sizes_of log.now.geometry) log.now.start log.now.tail (D.standing dev.old) (D.standing dev.new) result }
+    ensures goes { Goes (D.standing dev.old) (D.standing dev.new) }
+{
+    let place = load_place(log, dev, offset)?;
+    let before = load(log, dev, offset + 1)?;
+    put_back(log, dev, place, &before)
 }
