@@ -1,2 +1,3 @@
 pub mod ClosingLaws
 pub mod TakenBackLaws
+pub mod TakingBackLaws

@@ -3,7 +3,7 @@
 //! The before images of its records are put back in their places, from the last record to the first, and then the end of an
 //! abort is put last in the log. So at each moment recovery gives the lines that were committed before: it takes back the
 //! same lines again.
-ghost use Rattle.std.specs.Prelude.{◌≡◌, ◌≤◌, ◌<◌, ◌^◌, ℕ, ◌+◌, ◌-◌, ◌*◌, ◌/◌, IsTrue, IfOk, IfErr};
+ghost use Rattle.std.specs.Prelude.{◌≡◌, ◌≤◌, ◌<◌, ◌^◌, ℕ, ◌+◌, ◌-◌, ◌*◌, ◌/◌, IsTrue, IfOk, IfErr, OnOk};
 ghost use Rattle.devices.specs.State.{current};
 ghost use Rattle.devices.specs.World.{Goes, Stays, MakesAll, NvmCause, now};
 ghost use Rattle.store_meaning.specs.Layout.{pages, nvm_lines, ring_line, frame_line};
@@ -135,4 +135,23 @@ fn take_back_line<D: Devices>(log: &Log, dev: &mut D, offset: u64) -> Result<(),
     let place = load_place(log, dev, offset)?;
     let before = load(log, dev, offset + 1)?;
     put_back(log, dev, place, &before)
+}
+
+/// Takes back the lines of the records from an offset on, from the last record to the first.
+fn take_back<D: Devices>(log: &Log, dev: &mut D, first: u64) -> Result<(), Stop>
+    requires begins { log.now.start ≤ first }
+    requires within { first ≤ log.now.tail }
+    requires below { log.now.tail < 2 ^ 62 }
+    requires framed { pages (sizes_of log.now.geometry) ≤ log.now.geometry.frames }
+    requires fits { nvm_lines (sizes_of log.now.geometry) ≤ (D.standing dev.old).lines }
+    ensures takes { IsTrue (D.standing dev.old).told → TakesBack (sizes_of log.now.geometry) log.now.start log.now.tail first ((log.now.tail - first) / 3) 0 (D.standing dev.old) (D.standing dev.new) result }
+    ensures log { IsTrue (D.standing dev.old).told → OnOk result (SameLog (sizes_of log.now.geometry) log.now.start (D.standing dev.old) (D.standing dev.new)) }
+    ensures cause { AbortCause (sizes_of log.now.geometry) log.now.start log.now.tail (D.standing dev.old) (D.standing dev.new) result }
+    ensures goes { Goes (D.standing dev.old) (D.standing dev.new) }
+{
+    let records = (log.tail - first) / 3;
+    for taken in 0..records {
+        take_back_line(log, dev, first + 3 * (records - 1 - taken))?;
+    }
+    Ok(())
 }
