@@ -1,16 +1,15 @@
 -- How the calls of an abort join: what stops it, and what it makes of the devices.
-use Rattle.std.proofs.Common.{◌≡◌, ◌≢◌, ℕ, zero, suc, ◌+◌, ◌-◌, ◌*◌, ◌%◌, ◌<◌, ◌≤◌, List, [], ◌∷◌, drop, length, refl, sym, ap, ◌∙◌, subst, arith, inl, inr, IsTrue, Result, Ok, Err, nat_lt, if◌then◌else◌}
-use Rattle.std.specs.Prelude.{OnOk, IfOk, IfErr, IsErr}
+use Rattle.std.proofs.Common.{◌≡◌, ◌≢◌, ℕ, ◌+◌, ◌*◌, ◌%◌, ◌<◌, ◌≤◌, List, [], refl, sym, ap, ◌∙◌, subst, arith, IsTrue, Result, Ok, Err, nat_lt, if◌then◌else◌}
+use Rattle.std.specs.Prelude.{IfErr, IsErr}
 use mathlib.Core.Path.{fun_ext}
 use Rattle.nvm_model.specs.declared.line.Line.{Line}
 use Rattle.nvm_model.specs.Memory.{line_of}
-use Rattle.devices.specs.State.{State, Image, Call, current, after_all, line_stored}
+use Rattle.devices.specs.State.{State, Call, current, after_all, line_stored}
 use Rattle.devices.specs.World.{Standing, Goes, Stays, MakesAll, now}
-use Rattle.devices.proofs.MomentLaws.{Goes-trans, Goes-on}
-use Rattle.devices.proofs.JoinLaws.{Stays-now, Stays-trans}
+use Rattle.devices.proofs.MomentLaws.{Goes-on}
+use Rattle.devices.proofs.JoinLaws.{Stays-now}
 use Rattle.devices.proofs.CallLaws.{makes_then, makes_stop}
 use Rattle.devices.proofs.StateLaws.{line_stored_other, flushed_other}
-use Rattle.line_pages.specs.declared.stop.Evidence.{Evidence}
 use Rattle.line_pages.specs.declared.stop.Stop.{Stop}
 use Rattle.line_pages.specs.declared.stop.Stop.TheVariants.{Nvm, Ssd, Damaged}
 use Rattle.store_meaning.specs.Layout.{Sizes, frame_line, ring_line, ring_block}
@@ -20,7 +19,7 @@ use Rattle.store_meaning.specs.Recovered.{log_line, block_line}
 use Rattle.store_meaning.specs.InPlace.{store_calls}
 use Rattle.store_meaning.proofs.AtEndLaws.{OnOk_map}
 use Rattle.transactions.specs.declared.undo.Place.{Place}
-use Rattle.transactions.specs.TakenBack.{AbortCause, StopsFor, IsDamage, IsNvm, NamesPlace, SameLog, StandsAt, TakesLine}
+use Rattle.transactions.specs.TakenBack.{AbortCause, IsDamage, IsNvm, NamesPlace, SameLog, StandsAt, TakesLine}
 
 -- the log's lines where nothing changed, and over two stretches
 pub log_refl : (g : Sizes) (start : ℕ) (a : Standing) → SameLog g start a a

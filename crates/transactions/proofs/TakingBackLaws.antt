@@ -1,22 +1,20 @@
 -- An abort takes back record after record.
-use Rattle.std.proofs.Common.{◌≡◌, ℕ, zero, suc, ◌+◌, ◌-◌, ◌*◌, ◌<◌, ◌≤◌, List, [], ◌∷◌, drop, length, refl, sym, ap, ◌∙◌, subst, arith, inl, inr, IsTrue, Result, Ok, Err}
+use Rattle.std.proofs.Common.{◌≡◌, ℕ, zero, suc, ◌+◌, ◌-◌, ◌*◌, ◌<◌, ◌≤◌, List, [], ◌∷◌, drop, length, refl, sym, ◌∙◌, subst, arith, inl, inr, IsTrue, Result, Ok, Err}
 use Rattle.std.proofs.lemmas.Bool.{cases_lt}
-use Rattle.nvm_model.specs.declared.line.Line.{Line}
 use Rattle.devices.specs.State.{State, current, fresh}
 use Rattle.devices.specs.World.{Standing, Goes, MakesAll, now}
-use Rattle.line_pages.specs.Lines.{Lines}
 use Rattle.line_pages.specs.declared.stop.Stop.{Stop}
 use Rattle.store_meaning.specs.Layout.{Sizes}
 use Rattle.store_meaning.specs.Log.{Change, undone}
 use Rattle.store_meaning.specs.Recovered.{log_line}
 use Rattle.store_meaning.specs.InPlace.{store_calls}
 use Rattle.store_laws.specs.OpenGroup.{IsOfStore, AreOfStore, RecordAt}
-use Rattle.store_laws.specs.Steps.{LeadsTo, MayLeave}
+use Rattle.store_laws.specs.Steps.{LeadsTo}
 use Rattle.store_laws.specs.Undoing.{TakingBack}
 use Rattle.store_laws.proofs.OpenLaws.{facts_range}
 use Rattle.store_laws.proofs.ReadBackLaws.{group_tail, group_reads}
 use Rattle.store_laws.proofs.StepLaws.{back_leads, back_read, read_facts, read_committed, steady_facts, steady_during, leaves_earlier}
-use Rattle.transactions.specs.TakenBack.{IsNvm, StandsAt, TakesLine, BackRead, BackSteady, TakesBack}
+use Rattle.transactions.specs.TakenBack.{StandsAt, TakesLine, BackRead, BackSteady, TakesBack}
 
 of_store_at : (g : Sizes) (k : ℕ) (cs : List Change) (c : Change) (rest : List Change) → AreOfStore g cs → drop k cs ≡ c ∷ rest → IsOfStore g c
 of_store_at g zero [] c rest all at = absurd (cc)

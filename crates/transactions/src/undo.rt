@@ -8,6 +8,8 @@ ghost use Rattle.devices.specs.State.{current};
 ghost use Rattle.devices.specs.World.{Goes, Stays, MakesAll, NvmCause, now};
 ghost use Rattle.store_meaning.specs.Layout.{pages, nvm_lines, ring_line, frame_line};
 ghost use Rattle.store_meaning.specs.Recovered.{log_line};
+ghost use Rattle.store_meaning.specs.Put.{append_calls};
+ghost use Rattle.store_meaning.specs.Append.{abort_lines};
 ghost use Rattle.store_meaning.specs.InPlace.{store_calls};
 ghost use Rattle.nvm_layout.specs.Sizes.{sizes_of};
 
@@ -154,4 +156,45 @@ fn take_back<D: Devices>(log: &Log, dev: &mut D, first: u64) -> Result<(), Stop>
         take_back_line(log, dev, first + 3 * (records - 1 - taken))?;
     }
     Ok(())
+}
+
+/// Puts the end of an abort last in the log.
+fn end_abort<D: Devices>(log: &mut Log, dev: &mut D) -> Result<(), Stop>
+    requires room { log.old.tail + 1 ≤ log.old.start + 64 * log.old.geometry.log_blocks }
+    requires below { log.old.tail < 2 ^ 62 }
+    requires fits { nvm_lines (sizes_of log.old.geometry) ≤ (D.standing dev.old).lines }
+    ensures moved { IsMoved log.old log.new 1 result }
+    ensures makes { MakesAll (append_calls (sizes_of log.old.geometry) log.old.tail abort_lines) (D.standing dev.old) (D.standing dev.new) result }
+    ensures stops { IfErr result IsNvm }
+    ensures cause { AbortCause (sizes_of log.old.geometry) log.old.start log.old.tail (D.standing dev.old) (D.standing dev.new) result }
+    ensures goes { Goes (D.standing dev.old) (D.standing dev.new) }
+{
+    match log.end(dev, EndKind::Abort) {
+        Ok(()) => Ok(()),
+        Err(Failed) => Err(Stop::Nvm),
+    }
+}
+
+/// Takes back the group that is open from an offset on, and ends it as an abort. `Damaged` carries a line of the log that
+/// fails check 7 or 8 where the head of a record was to stand; it never comes where the facts of an open store hold.
+pub(crate) fn undo<D: Devices>(log: &mut Log, dev: &mut D, first: u64) -> Result<(), Stop>
+    requires begins { log.old.start ≤ first }
+    requires within { first ≤ log.old.tail }
+    requires room { log.old.tail + 1 ≤ log.old.start + 64 * log.old.geometry.log_blocks }
+    requires below { log.old.tail < 2 ^ 62 }
+    requires framed { pages (sizes_of log.old.geometry) ≤ log.old.geometry.frames }
+    requires fits { nvm_lines (sizes_of log.old.geometry) ≤ (D.standing dev.old).lines }
+
+    // What it does to the log in memory, and to an open store.
+    ensures moved { IsMoved log.old log.new 1 result }
+    ensures aborts { IsTrue (D.standing dev.old).told → Aborts (sizes_of log.old.geometry) log.old.start log.old.tail first (D.standing dev.old) (D.standing dev.new) result }
+
+    // Why it stops.
+    ensures cause { AbortCause (sizes_of log.old.geometry) log.old.start log.old.tail (D.standing dev.old) (D.standing dev.new) result }
+
+    // What stays, however far it gets.
+    ensures goes { Goes (D.standing dev.old) (D.standing dev.new) }
+{
+    take_back(log, dev, first)?;
+    end_abort(log, dev)
 }

@@ -1,5 +1,5 @@
 -- With each turn one record less is left; a stop is handed on.
-use Rattle.std.proofs.Common.{refl, IsTrue, subst, sym, ap, Ok, Err, ◌≡◌, ◌≤◌, ◌∙◌, ◌-◌, ◌+◌, ◌*◌, ◌/◌, ℕ, arith}
+use Rattle.std.proofs.Common.{refl, IsTrue, subst, sym, ap, Ok, Err, ◌≡◌, ◌≤◌, ◌∙◌, ◌-◌, ◌+◌, ◌*◌, ◌/◌, arith}
 use Rattle.std.proofs.lemmas.Result.{err_from_is_err_and}
 use Rattle.devices.proofs.MomentLaws.{Goes-refl, Goes-trans}
 use Rattle.line_pages.specs.declared.stop.Stop.{Stop}

@@ -1,5 +1,5 @@
 -- So far the last records were taken back.
-use Rattle.std.proofs.Common.{◌≡◌, ◌+◌, ◌-◌, ◌*◌, ◌/◌, ◌≤◌, ◌<◌, ◌^◌, IsTrue, Ok}
+use Rattle.std.proofs.Common.{◌-◌, IsTrue, Ok}
 use Rattle.devices.specs.World.{Goes}
 use Rattle.nvm_layout.specs.Sizes.{sizes_of}
 use Rattle.transactions.specs.TakenBack.{AbortCause, SameLog, TakesBack}

@@ -1,5 +1,5 @@
 -- Nothing is stored where a load fails; else the line before, which was loaded, is put in its place.
-use Rattle.std.proofs.Common.{◌≡◌, ◌+◌, ◌∙◌, sym, ap, subst, IsTrue, Err}
+use Rattle.std.proofs.Common.{◌+◌, ◌∙◌, sym, ap, subst, IsTrue, Err}
 use Rattle.std.proofs.lemmas.Result.{err_from_is_err_and}
 use Rattle.devices.specs.State.{State, current}
 use Rattle.devices.proofs.MomentLaws.{Goes-trans, Goes-on}
