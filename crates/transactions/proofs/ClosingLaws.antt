@@ -157,3 +157,13 @@ stops_aborts {U = U} {why = why} g start tail first a b r is front =
       read = λ it group. record { closed = tt; current = tt; committed = (front.read (all_stand g start tail first (fresh (current (now a))) it group)).committed };
       steady = λ it group. record { closed = tt; during = (front.steady (all_stand g start tail first (now a) it group)).during };
     })
+
+-- Where the log is empty nothing is open.
+pub empty_closed : (g : Sizes) (start : ℕ) (s : State) → OpenFacts g start start s → IsClosed g start start s
+empty_closed g start s it =
+    let none : start - start ≡ 0 = omega arith in
+    record {
+      facts = it;
+      group = group_none g start (current s)
+          (ap (λ (x : Super). from (log_line x.sizes x.drained (current s)) x.start (x.tail - x.start)) it.super_words ∙ ap (λ n. from (log_line g start (current s)) start n) none);
+    }
