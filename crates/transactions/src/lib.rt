@@ -2,5 +2,15 @@
 //! open group of the log, and a checkpoint empties the log.
 #![tactic(auto)]
 
+mod begin;
+mod book;
+mod checkpoint;
+mod commit;
 mod emptying;
+mod putting;
+mod store;
 mod undo;
+mod writing;
+
+pub use book::Book;
+pub use store::Store;

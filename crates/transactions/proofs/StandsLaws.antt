@@ -1,0 +1,77 @@
+-- The facts of an open store with its open group, over a write and both ends of a transaction.
+use Rattle.std.proofs.Common.{◌≡◌, ℕ, zero, suc, ◌+◌, ◌-◌, ◌*◌, ◌<◌, ◌≤◌, List, length, refl, sym, ap, ◌∙◌, subst, arith, IsTrue, Result}
+use Rattle.std.specs.Prelude.{OnOk}
+use Rattle.nvm_model.specs.declared.line.Line.{Line}
+use Rattle.devices.specs.State.{State, Image, Call, current, fresh, line_at, after_all}
+use Rattle.devices.specs.World.{Standing, MakesAll, now}
+use Rattle.store_meaning.specs.Layout.{Sizes, pages, frame_line, ring_lines}
+use Rattle.store_meaning.specs.Log.{Change}
+use Rattle.store_meaning.specs.Put.{IsLine, append_calls}
+use Rattle.store_meaning.specs.Append.{commit_lines}
+use Rattle.store_meaning.specs.Recovered.{Super, super_of, from, log_line, log_lines}
+use Rattle.store_meaning.proofs.AtEndLaws.{OnOk_map}
+use Rattle.store_laws.specs.OpenFacts.{OpenFacts, super_with}
+use Rattle.store_laws.specs.OpenGroup.{OpenGroup}
+use Rattle.store_laws.specs.Calls.{write_calls}
+use Rattle.store_laws.specs.Steps.{LeadsTo}
+use Rattle.store_laws.proofs.OpenLaws.{facts_range}
+use Rattle.store_laws.proofs.AsReadLaws.{after_as, current_as, fresh_as, open_read}
+use Rattle.store_laws.proofs.GroupLaws.{group_write, group_commit}
+use Rattle.store_laws.proofs.WriteLaws.{write_log}
+use Rattle.store_laws.proofs.EndLaws.{commit_log, commit_open}
+use Rattle.store_laws.proofs.StepLaws.{write_step}
+use Rattle.transactions.specs.StoreStanding.{Stands}
+
+-- they hold of what one reads of the state too
+pub stands_read : (g : Sizes) (start tail first : ℕ) (s : State) → Stands g start tail first s → Stands g start tail first (fresh (current s))
+stands_read g start tail first s it = record { facts = open_read g start tail s it.facts; group = it.group }
+
+-- a write
+pub write_leads : (g : Sizes) (start tail first : ℕ) (s : State) → Stands g start tail first s → (page line : ℕ) (value : Line) → page < pages g → line < 64 → IsLine value → tail + 3 ≤ start + ring_lines g
+    → LeadsTo (Stands g start (tail + 3) first) (write_calls g tail page line value s) s
+write_leads g start tail first s it page line value hp hl is_line room =
+    let step : _ = write_step g start tail s it.facts page line value hp hl is_line room in
+    let change : Change = record { page = page; line = line; mask = 255; before = line_at s (frame_line g page line); after = value } in
+    record {
+      facts = record {
+        facts = (step.leads).facts;
+        group = group_write g start first (current (after_all (write_calls g tail page line value s) s)) (current s) change it.group (record { page = hp; line = hl; mask = refl })
+            (write_log g start tail s it.facts page line value hp hl is_line room);
+      };
+      moments = (step.leads).moments;
+    }
+
+from_length : (line : ℕ → Line) (at n : ℕ) → length (from line at n) ≡ n
+from_length line at zero = refl
+from_length line at (suc n) = ap suc (from_length line (at + 1) n)
+
+-- the log's lines are those from its start up to its tail
+lines_long : (g : Sizes) (start tail : ℕ) (i : Image) → super_of i ≡ super_with g start tail → start ≤ tail → start + length (log_lines i) ≡ tail
+lines_long g start tail i is started =
+    let long : length (log_lines i) ≡ tail - start =
+    ap (λ (x : Super). length (from (log_line x.sizes x.drained i) x.start (x.tail - x.start))) is ∙ from_length (log_line g start i) start (tail - start) in
+    omega arith
+
+-- the end of a commit leaves an empty group
+pub commit_stands : (g : Sizes) (start tail first : ℕ) (s : State) → Stands g start tail first s → tail + 1 ≤ start + ring_lines g
+    → Stands g start (tail + 1) (tail + 1) (after_all (append_calls g tail commit_lines) s)
+commit_stands g start tail first s it room =
+    let s₁ : State = after_all (append_calls g tail commit_lines) s in
+    let facts : OpenFacts g start (tail + 1) s₁ = commit_open g start tail s it.facts room in
+    let started : start ≤ tail + 1 = (facts_range g start (tail + 1) facts.words facts.kept s₁ facts.facts facts.super_words).0 in
+    let behind : ℕ = start + length (log_lines (current s₁)) in
+    let group : OpenGroup g start behind (current s₁) = group_commit g start first (current s₁) (current s) it.group (commit_log g start tail s it.facts room) in
+    record { facts = facts; group = subst (λ n. OpenGroup g start n (current s₁)) (lines_long g start (tail + 1) (current s₁) facts.super_words started) group }
+
+-- what calls lead to, as one reads it
+pub after_read : {T E : Type 0} (calls : List Call) (a b : Standing) (r : Result T E) → MakesAll calls a b r → IsTrue a.told
+    → (Facts : State → Type 0) → ((s : State) → Facts s → Facts (fresh (current s))) → Facts (after_all calls (fresh (current (now a)))) → OnOk r (Facts (fresh (current (now b))))
+after_read calls a b r makes told Facts reads facts =
+    OnOk_map r (λ (done : now b ≡ after_all calls (now a)).
+        subst (λ (i : Image). Facts (fresh i))
+        (sym (ap current done ∙ current_as (after_all calls (now a)) (after_all calls (fresh (current (now a)))) (after_as calls (now a) (fresh (current (now a))) (fresh_as (now a)))))
+        (reads (after_all calls (fresh (current (now a)))) facts)) (makes.whole told)
+
+pub after_steady : {T E : Type 0} (calls : List Call) (a b : Standing) (r : Result T E) → MakesAll calls a b r → IsTrue a.told
+    → (Facts : State → Type 0) → Facts (after_all calls (now a)) → OnOk r (Facts (now b))
+after_steady calls a b r makes told Facts facts = OnOk_map r (λ (done : now b ≡ after_all calls (now a)). subst Facts (sym done) facts) (makes.whole told)

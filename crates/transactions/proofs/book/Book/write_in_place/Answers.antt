@@ -1,0 +1,34 @@
+-- The load changes nothing; the calls of the record and those of the line follow.
+use Rattle.std.proofs.Common.{◌++◌, ap, ◌∙◌, Ok, Err}
+use Rattle.nvm_model.specs.declared.line.Line.{Line}
+use Rattle.devices.specs.State.{line_at}
+use Rattle.devices.specs.World.{now}
+use Rattle.devices.proofs.MomentLaws.{Goes-trans}
+use Rattle.devices.proofs.CallLaws.{makes_then, makes_stop}
+use Rattle.store_meaning.specs.Layout.{frame_line}
+use Rattle.store_meaning.specs.Append.{record_of}
+use Rattle.store_meaning.specs.Put.{append_calls}
+use Rattle.store_meaning.specs.InPlace.{store_calls}
+use Rattle.store_laws.specs.Calls.{write_calls}
+use Rattle.transactions.specs.StoreStanding.{book_sizes}
+use Rattle.transactions.proofs.CallLaws.{makes_none, makes_told, line_put}
+use Rattle.transactions.proofs.book.Book.write_in_place.Goals as goal
+
+pub returns-clause-makes : goal.returns-clause-makes
+returns-clause-makes g c =
+    let sizes = book_sizes c.args.self.now in
+    makes_told
+    (λ told. ap (λ (x : Line). append_calls sizes c.args.self.now.log.tail (record_of c.args.page c.args.line x c.args.value.now) ++ line_put c.place-place.result c.args.value.now)
+    (c.in_ok-before.ensures.value told ∙ ap (line_at (now (g.D.Devices.standing c.args.dev.now))) c.place-place.ensures.place)
+    ∙ ap (λ n. append_calls sizes c.args.self.now.log.tail (record_of c.args.page c.args.line (line_at (now (g.D.Devices.standing c.args.dev.now)) (frame_line sizes c.args.page c.args.line)) c.args.value.now) ++ line_put n c.args.value.now) c.place-place.ensures.place)
+    (makes_then c.in_ok-before.ensures.goes (Goes-trans c.in_ok-record.ensures.goes c.put_line.ensures.goes) (makes_none {T = Unit {0}} (Ok tt) c.in_ok-before.ensures.goes c.in_ok-before.ensures.stays)
+    (makes_then c.in_ok-record.ensures.goes c.put_line.ensures.goes c.in_ok-record.ensures.makes c.put_line.ensures.makes))
+
+pub returns-in_err-record-clause-makes : goal.returns-in_err-record-clause-makes
+returns-in_err-record-clause-makes g c =
+    let sizes = book_sizes c.args.self.now in
+    makes_told
+    (λ told. ap (λ (x : Line). append_calls sizes c.args.self.now.log.tail (record_of c.args.page c.args.line x c.args.value.now) ++ store_calls sizes c.args.page c.args.line c.args.value.now)
+    (c.in_ok-before.ensures.value told ∙ ap (line_at (now (g.D.Devices.standing c.args.dev.now))) c.place-place.ensures.place))
+    (makes_then c.in_ok-before.ensures.goes c.in_err-record.ensures.goes (makes_none {T = Unit {0}} (Ok tt) c.in_ok-before.ensures.goes c.in_ok-before.ensures.stays)
+    (makes_stop (store_calls sizes c.args.page c.args.line c.args.value.now) c.from_residual-in_err-record.result c.from_residual-in_err-record.ensures.0 c.in_err-record.ensures.makes))

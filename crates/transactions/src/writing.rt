@@ -1,0 +1,71 @@
+//! A line written in place.
+ghost use Rattle.std.specs.Prelude.{◌≡◌, ◌≤◌, ◌<◌};
+ghost use Rattle.devices.specs.World.{Goes, MakesAll, NvmCause, now};
+ghost use Rattle.store_meaning.specs.Layout.{pages};
+ghost use Rattle.store_meaning.specs.Put.{append_calls, IsLine};
+ghost use Rattle.store_laws.specs.Calls.{write_calls};
+ghost use Rattle.nvm_log.specs.Entries.{record_lines};
+
+use crate::book::Book;
+use crate::putting::put_line;
+use devices::{Devices, Failed};
+use nvm_log::LineRecord;
+use nvm_model::Line;
+
+impl Book {
+    ghost use Rattle.transactions.specs.StoreStanding.{book_sizes, IsReady};
+    ghost use Rattle.transactions.specs.BookCalls.{IsWritten};
+
+    /// Writes a line: the record of what stands there and of the value, durable, and then the value in its place, flushed.
+    pub(crate) fn write_in_place<D: Devices>(
+        &mut self,
+        dev: &mut D,
+        page: u64,
+        line: usize,
+        value: &Line,
+    ) -> Result<(), Failed>
+        requires ready { IsReady self.old (D.standing dev.old) }
+        requires page { page < pages (book_sizes self.old) }
+        requires line { line < 64 }
+        requires room { 1 ≤ self.old.room }
+        ensures written { IsWritten page line self.old self.new result }
+        ensures makes { MakesAll (write_calls (book_sizes self.old) self.old.log.tail page line value.now (now (D.standing dev.old))) (D.standing dev.old) (D.standing dev.new) result }
+        ensures cause { NvmCause (D.standing dev.old) (D.standing dev.new) result }
+        ensures goes { Goes (D.standing dev.old) (D.standing dev.new) }
+    {
+        let place = self.place(page, line);
+        let before = dev.load(place)?;
+        let change = LineRecord {
+            page,
+            line: line as u8,
+            before,
+            after: *value,
+        };
+        self.record(dev, &change)?;
+        put_line(dev, place, value)
+    }
+
+    /// Puts a record into the log, durable, and its line among those that the log names.
+    fn record<D: Devices>(&mut self, dev: &mut D, change: &LineRecord) -> Result<(), Failed>
+        requires ready { IsReady self.old (D.standing dev.old) }
+        requires page { change.now.page < pages (book_sizes self.old) }
+        requires line { change.now.line < 64 }
+        requires room { 1 ≤ self.old.room }
+        ensures written { IsWritten change.now.page change.now.line self.old self.new result }
+        ensures makes { MakesAll (append_calls (book_sizes self.old) self.old.log.tail (record_lines change.now)) (D.standing dev.old) (D.standing dev.new) result }
+        ensures cause { NvmCause (D.standing dev.old) (D.standing dev.new) result }
+        ensures goes { Goes (D.standing dev.old) (D.standing dev.new) }
+    {
+        self.log.append(dev, change)?;
+        self.room -= 1;
+        self.loose.insert(change.page, change.line as usize);
+        Ok(())
+    }
+}
+
+/// A line has eight words.
+pub(crate) fn eight(line: &Line)
+    ensures { IsLine line.now }
+{
+    let _words = line.words;
+}
