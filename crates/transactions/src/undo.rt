@@ -5,7 +5,7 @@
 //! same lines again.
 ghost use Rattle.std.specs.Prelude.{◌≡◌, ◌≤◌, ◌<◌, ◌^◌, ℕ, ◌+◌, ◌-◌, ◌*◌, ◌/◌, IsTrue, IfOk, IfErr, OnOk};
 ghost use Rattle.devices.specs.State.{current};
-ghost use Rattle.devices.specs.World.{Goes, Stays, MakesAll, NvmCause, now};
+ghost use Rattle.devices.specs.World.{Goes, Stays, MakesAll, now};
 ghost use Rattle.store_meaning.specs.Layout.{pages, nvm_lines, ring_line, frame_line};
 ghost use Rattle.store_meaning.specs.Recovered.{log_line};
 ghost use Rattle.store_meaning.specs.Put.{append_calls};
@@ -13,6 +13,7 @@ ghost use Rattle.store_meaning.specs.Append.{abort_lines};
 ghost use Rattle.store_meaning.specs.InPlace.{store_calls};
 ghost use Rattle.nvm_layout.specs.Sizes.{sizes_of};
 
+use crate::putting::put_line;
 use devices::{Devices, Failed};
 use line_pages::{Evidence, Stop};
 use nvm_layout::Geometry;
@@ -30,7 +31,7 @@ struct Place {
 
 ghost use Rattle.nvm_log.specs.Moved.{IsMoved};
 ghost use Rattle.transactions.specs.Closing.{Aborts};
-ghost use Rattle.transactions.specs.TakenBack.{IsPlace, AbortCause, IsNvm, NamesPlace, FindsPlace, TakesLine, SameLog, TakesBack};
+ghost use Rattle.transactions.specs.TakenBack.{IsPlace, AbortCause, IsNvm, FindsPlace, TakesLine, SameLog, TakesBack};
 
 /// Reads a line as the head of a record. `Err` is the number of the first check that the line fails: 7 its kind is not that
 /// of a record; 8 its page is none of the store's, or its line not below 64.
@@ -84,28 +85,7 @@ fn load_place<D: Devices>(log: &Log, dev: &mut D, offset: u64) -> Result<Place, 
     }
 }
 
-/// Stores a line of a page in its frame and flushes it.
-fn store_in_place<D: Devices>(
-    geometry: &Geometry,
-    dev: &mut D,
-    place: Place,
-    value: &Line,
-) -> Result<(), Failed>
-    requires page { place.page < pages (sizes_of geometry.now) }
-    requires line { place.line < 64 }
-    requires framed { pages (sizes_of geometry.now) ≤ geometry.now.frames }
-    requires fits { nvm_lines (sizes_of geometry.now) ≤ (D.standing dev.old).lines }
-    ensures makes { MakesAll (store_calls (sizes_of geometry.now) place.page place.line value.now) (D.standing dev.old) (D.standing dev.new) result }
-    ensures apart { (offset : ℕ) → ring_line (sizes_of geometry.now) offset < frame_line (sizes_of geometry.now) place.page place.line }
-    ensures cause { NvmCause (D.standing dev.old) (D.standing dev.new) result }
-    ensures goes { Goes (D.standing dev.old) (D.standing dev.new) }
-{
-    let line = geometry.frame_line(place.page as u32, place.line as usize);
-    dev.store_line(line, value)?;
-    dev.flush(line)
-}
-
-/// Puts a line of a page back in its frame.
+/// Puts a line of a page back in its frame, and flushes it.
 fn put_back<D: Devices>(log: &Log, dev: &mut D, place: Place, before: &Line) -> Result<(), Stop>
     requires page { place.page < pages (sizes_of log.now.geometry) }
     requires line { place.line < 64 }
@@ -117,7 +97,10 @@ fn put_back<D: Devices>(log: &Log, dev: &mut D, place: Place, before: &Line) -> 
     ensures cause { AbortCause (sizes_of log.now.geometry) log.now.start log.now.tail (D.standing dev.old) (D.standing dev.new) result }
     ensures goes { Goes (D.standing dev.old) (D.standing dev.new) }
 {
-    match store_in_place(&log.geometry, dev, place, before) {
+    let line = log
+        .geometry
+        .frame_line(place.page as u32, place.line as usize);
+    match put_line(dev, line, before) {
         Ok(()) => Ok(()),
         Err(Failed) => Err(Stop::Nvm),
     }
