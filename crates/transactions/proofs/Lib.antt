@@ -7,3 +7,5 @@ pub mod NewLaws
 pub mod OpeningLaws
 pub mod SizeLaws
 pub mod StandsLaws
+pub mod TakenBackLaws
+pub mod TakingBackLaws

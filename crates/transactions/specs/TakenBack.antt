@@ -16,7 +16,7 @@ use Rattle.store_meaning.specs.Append.{head_line}
 use Rattle.store_meaning.specs.InPlace.{store_calls}
 use Rattle.store_laws.specs.OpenGroup.{IsOfStore}
 use Rattle.store_laws.specs.ShownPages.{committed_in}
-use Rattle.store_laws.specs.Steps.{MayLeave}
+use Rattle.store_laws.specs.Steps.{MayLeave, HoldsFacts}
 use Rattle.store_laws.specs.Undoing.{TakingBack}
 use Rattle.transactions.specs.declared.undo.Place.{Place}
 
@@ -98,10 +98,12 @@ pub record BackRead {T : Type 0} (g : Sizes) (start tail first k : ℕ) (old new
   pub left : OnOk result (TakingBack g start tail first k (fresh (current (now new))))
   pub committed : committed_in (now new) ≡ committed_in (now old)
 
--- The same whatever a crash leaves, which at each moment is nothing but the committed lines.
+-- The same whatever a crash leaves, which at each moment is nothing but the committed lines; and at each moment the facts of
+-- a store hold.
 pub record BackSteady {T : Type 0} (g : Sizes) (start tail first k : ℕ) (old new : Standing) (result : Result T Stop) : Type 0 where
   pub left : OnOk result (TakingBack g start tail first k (now new))
   pub during : (m : ℕ) → old.clock < m → m ≤ new.clock → (lines : Lines) → MayLeave new m lines → lines ≡ committed_in (now old)
+  pub held : (m : ℕ) → old.clock < m → m ≤ new.clock → HoldsFacts g (new.at m)
 
 -- Of the records of the group that is open from `first` on, n are still to be taken back before, and k behind it.
 pub record TakesBack {T : Type 0} (g : Sizes) (start tail first n k : ℕ) (old new : Standing) (result : Result T Stop) : Type 0 where

@@ -2,6 +2,7 @@
 //! open group of the log, and a checkpoint empties the log.
 #![tactic(auto)]
 
+mod abort;
 mod begin;
 mod book;
 mod checkpoint;

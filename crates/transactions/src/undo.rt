@@ -3,14 +3,17 @@
 //! The before images of its records are put back in their places, from the last record to the first, and then the end of an
 //! abort is put last in the log. So at each moment recovery gives the lines that were committed before: it takes back the
 //! same lines again.
-ghost use Rattle.std.specs.Prelude.{◌≡◌, ◌≤◌, ◌<◌, ◌^◌, ℕ, ◌+◌, ◌-◌, ◌*◌, ◌/◌, IsTrue, IfOk, IfErr};
+ghost use Rattle.std.specs.Prelude.{◌≡◌, ◌≤◌, ◌<◌, ◌^◌, ℕ, ◌+◌, ◌-◌, ◌*◌, ◌/◌, IsTrue, IfOk, IfErr, OnOk};
 ghost use Rattle.devices.specs.State.{current};
-ghost use Rattle.devices.specs.World.{Goes, Stays, MakesAll, NvmCause, now};
-ghost use Rattle.store_meaning.specs.Layout.{pages, nvm_lines};
+ghost use Rattle.devices.specs.World.{Goes, Stays, MakesAll, now};
+ghost use Rattle.store_meaning.specs.Layout.{pages, nvm_lines, ring_line, frame_line};
 ghost use Rattle.store_meaning.specs.Recovered.{log_line};
+ghost use Rattle.store_meaning.specs.Put.{append_calls};
+ghost use Rattle.store_meaning.specs.Append.{abort_lines};
 ghost use Rattle.store_meaning.specs.InPlace.{store_calls};
 ghost use Rattle.nvm_layout.specs.Sizes.{sizes_of};
 
+use crate::putting::put_line;
 use devices::{Devices, Failed};
 use line_pages::{Evidence, Stop};
 use nvm_layout::Geometry;
@@ -28,7 +31,7 @@ struct Place {
 
 ghost use Rattle.nvm_log.specs.Moved.{IsMoved};
 ghost use Rattle.transactions.specs.Closing.{Aborts};
-ghost use Rattle.transactions.specs.TakenBack.{IsPlace, AbortCause, IsNvm, NamesPlace, FindsPlace, TakesLine, SameLog, TakesBack};
+ghost use Rattle.transactions.specs.TakenBack.{IsPlace, AbortCause, IsNvm, FindsPlace, TakesLine, SameLog, TakesBack};
 
 /// Reads a line as the head of a record. `Err` is the number of the first check that the line fails: 7 its kind is not that
 /// of a record; 8 its page is none of the store's, or its line not below 64.
@@ -82,22 +85,99 @@ fn load_place<D: Devices>(log: &Log, dev: &mut D, offset: u64) -> Result<Place, 
     }
 }
 
-/// Stores a line of a page in its frame and flushes it.
-fn store_in_place<D: Devices>(
-    geometry: &Geometry,
-    dev: &mut D,
-    place: Place,
-    value: &Line,
-) -> Result<(), Failed>
-    requires page { place.page < pages (sizes_of geometry.now) }
+/// Puts a line of a page back in its frame, and flushes it.
+fn put_back<D: Devices>(log: &Log, dev: &mut D, place: Place, before: &Line) -> Result<(), Stop>
+    requires page { place.page < pages (sizes_of log.now.geometry) }
     requires line { place.line < 64 }
-    requires framed { pages (sizes_of geometry.now) ≤ geometry.now.frames }
-    requires fits { nvm_lines (sizes_of geometry.now) ≤ (D.standing dev.old).lines }
-    ensures makes { MakesAll (store_calls (sizes_of geometry.now) place.page place.line value.now) (D.standing dev.old) (D.standing dev.new) result }
-    ensures cause { NvmCause (D.standing dev.old) (D.standing dev.new) result }
+    requires framed { pages (sizes_of log.now.geometry) ≤ log.now.geometry.frames }
+    requires fits { nvm_lines (sizes_of log.now.geometry) ≤ (D.standing dev.old).lines }
+    ensures makes { MakesAll (store_calls (sizes_of log.now.geometry) place.page place.line before.now) (D.standing dev.old) (D.standing dev.new) result }
+    ensures apart { (offset : ℕ) → ring_line (sizes_of log.now.geometry) offset < frame_line (sizes_of log.now.geometry) place.page place.line }
+    ensures stops { IfErr result IsNvm }
+    ensures cause { AbortCause (sizes_of log.now.geometry) log.now.start log.now.tail (D.standing dev.old) (D.standing dev.new) result }
     ensures goes { Goes (D.standing dev.old) (D.standing dev.new) }
 {
-    let line = geometry.frame_line(place.page as u32, place.line as usize);
-    dev.store_line(line, value)?;
-    dev.flush(line)
+    let line = log
+        .geometry
+        .frame_line(place.page as u32, place.line as usize);
+    match put_line(dev, line, before) {
+        Ok(()) => Ok(()),
+        Err(Failed) => Err(Stop::Nvm),
+    }
+}
+
+/// Takes back the line of the record at an offset: its before image is put back in its place.
+fn take_back_line<D: Devices>(log: &Log, dev: &mut D, offset: u64) -> Result<(), Stop>
+    requires above { log.now.start ≤ offset }
+    requires within { offset + 3 ≤ log.now.tail }
+    requires below { log.now.tail < 2 ^ 62 }
+    requires framed { pages (sizes_of log.now.geometry) ≤ log.now.geometry.frames }
+    requires fits { nvm_lines (sizes_of log.now.geometry) ≤ (D.standing dev.old).lines }
+    ensures takes { IsTrue (D.standing dev.old).told → TakesLine (sizes_of log.now.geometry) log.now.start offset (D.standing dev.old) (D.standing dev.new) result }
+    ensures cause { AbortCause (sizes_of log.now.geometry) log.now.start log.now.tail (D.standing dev.old) (D.standing dev.new) result }
+    ensures goes { Goes (D.standing dev.old) (D.standing dev.new) }
+{
+    let place = load_place(log, dev, offset)?;
+    let before = load(log, dev, offset + 1)?;
+    put_back(log, dev, place, &before)
+}
+
+/// Takes back the lines of the records from an offset on, from the last record to the first.
+fn take_back<D: Devices>(log: &Log, dev: &mut D, first: u64) -> Result<(), Stop>
+    requires begins { log.now.start ≤ first }
+    requires within { first ≤ log.now.tail }
+    requires below { log.now.tail < 2 ^ 62 }
+    requires framed { pages (sizes_of log.now.geometry) ≤ log.now.geometry.frames }
+    requires fits { nvm_lines (sizes_of log.now.geometry) ≤ (D.standing dev.old).lines }
+    ensures takes { IsTrue (D.standing dev.old).told → TakesBack (sizes_of log.now.geometry) log.now.start log.now.tail first ((log.now.tail - first) / 3) 0 (D.standing dev.old) (D.standing dev.new) result }
+    ensures log { IsTrue (D.standing dev.old).told → OnOk result (SameLog (sizes_of log.now.geometry) log.now.start (D.standing dev.old) (D.standing dev.new)) }
+    ensures cause { AbortCause (sizes_of log.now.geometry) log.now.start log.now.tail (D.standing dev.old) (D.standing dev.new) result }
+    ensures goes { Goes (D.standing dev.old) (D.standing dev.new) }
+{
+    let records = (log.tail - first) / 3;
+    for taken in 0..records {
+        take_back_line(log, dev, first + 3 * (records - 1 - taken))?;
+    }
+    Ok(())
+}
+
+/// Puts the end of an abort last in the log.
+fn end_abort<D: Devices>(log: &mut Log, dev: &mut D) -> Result<(), Stop>
+    requires room { log.old.tail + 1 ≤ log.old.start + 64 * log.old.geometry.log_blocks }
+    requires below { log.old.tail < 2 ^ 62 }
+    requires fits { nvm_lines (sizes_of log.old.geometry) ≤ (D.standing dev.old).lines }
+    ensures moved { IsMoved log.old log.new 1 result }
+    ensures makes { MakesAll (append_calls (sizes_of log.old.geometry) log.old.tail abort_lines) (D.standing dev.old) (D.standing dev.new) result }
+    ensures stops { IfErr result IsNvm }
+    ensures cause { AbortCause (sizes_of log.old.geometry) log.old.start log.old.tail (D.standing dev.old) (D.standing dev.new) result }
+    ensures goes { Goes (D.standing dev.old) (D.standing dev.new) }
+{
+    match log.end(dev, EndKind::Abort) {
+        Ok(()) => Ok(()),
+        Err(Failed) => Err(Stop::Nvm),
+    }
+}
+
+/// Takes back the group that is open from an offset on, and ends it as an abort. `Damaged` carries a line of the log that
+/// fails check 7 or 8 where the head of a record was to stand; it never comes where the facts of an open store hold.
+pub(crate) fn undo<D: Devices>(log: &mut Log, dev: &mut D, first: u64) -> Result<(), Stop>
+    requires begins { log.old.start ≤ first }
+    requires within { first ≤ log.old.tail }
+    requires room { log.old.tail + 1 ≤ log.old.start + 64 * log.old.geometry.log_blocks }
+    requires below { log.old.tail < 2 ^ 62 }
+    requires framed { pages (sizes_of log.old.geometry) ≤ log.old.geometry.frames }
+    requires fits { nvm_lines (sizes_of log.old.geometry) ≤ (D.standing dev.old).lines }
+
+    // What it does to the log in memory, and to an open store.
+    ensures moved { IsMoved log.old log.new 1 result }
+    ensures aborts { IsTrue (D.standing dev.old).told → Aborts (sizes_of log.old.geometry) log.old.start log.old.tail first (D.standing dev.old) (D.standing dev.new) result }
+
+    // Why it stops.
+    ensures cause { AbortCause (sizes_of log.old.geometry) log.old.start log.old.tail (D.standing dev.old) (D.standing dev.new) result }
+
+    // What stays, however far it gets.
+    ensures goes { Goes (D.standing dev.old) (D.standing dev.new) }
+{
+    take_back(log, dev, first)?;
+    end_abort(log, dev)
 }
