@@ -1,8 +1,8 @@
 -- Calls of pages, by what they do to the book and the device of a store.
-use Rattle.std.proofs.Common.{◌≡◌, ℕ, ◌+◌, ◌*◌, ◌^◌, ◌<◌, ◌≤◌, Bool, true, false, List, [], ◌∷◌, ◌++◌, length, refl, sym, ap, ◌∙◌, subst, arith, IsTrue, Some, Result, Ok, Err}
+use Rattle.std.proofs.Common.{◌≡◌, ℕ, ◌+◌, ◌^◌, ◌<◌, ◌≤◌, Bool, true, List, [], ◌∷◌, ◌++◌, length, refl, sym, ap, ◌∙◌, subst, arith, IsTrue, Some, Result, Ok, Err}
 use Rattle.std.specs.Prelude.{OnOk}
 use Rattle.nvm_model.specs.declared.line.Line.{Line}
-use Rattle.devices.specs.State.{State, Image, Call, Leaves, current, fresh}
+use Rattle.devices.specs.State.{State, Leaves, current, fresh}
 use Rattle.devices.specs.World.{Standing as Device, Goes, Stays, MakesAll, now}
 use Rattle.line_pages.specs.Lines.{Lines, with_line}
 use Rattle.line_pages.specs.LineSets.{pages_of}
@@ -10,21 +10,15 @@ use Rattle.line_pages.specs.Touch.{Touch, accesses, touch_of}
 use Rattle.line_pages.specs.Standing.{Continues, IsTouch}
 use Rattle.line_pages.specs.declared.touches.Accesses.{Accesses}
 use Rattle.line_pages.proofs.TouchLaws.{accesses_push}
-use Rattle.store_meaning.specs.Layout.{Sizes, pages, nvm_lines, ring_lines, is_allowed}
+use Rattle.store_meaning.specs.Layout.{pages, nvm_lines, ring_lines, is_allowed}
 use Rattle.store_meaning.specs.Put.{IsLine}
 use Rattle.store_meaning.proofs.AtEndLaws.{OnOk_map}
-use Rattle.store_meaning.specs.Format.Format.{whole_lines}
-use Rattle.store_meaning.specs.Recovered.{recovered_pages}
-use Rattle.store_meaning.proofs.FactsLaws.{current_leaves}
-use Rattle.store_laws.specs.OpenFacts.{OpenFacts}
 use Rattle.store_laws.specs.Calls.{write_calls}
-use Rattle.store_laws.proofs.OpenLaws.{open_pages}
 use Rattle.store_laws.specs.ShownPages.{pages_in, committed_in}
-use Rattle.store_laws.specs.Steps.{MayLeave, LeadsTo, KeepsOpen}
-use Rattle.store_laws.proofs.StepLaws.{write_step, leaves_earlier, read_facts, read_committed, read_current, steady_facts, steady_during}
+use Rattle.store_laws.specs.Steps.{MayLeave, LeadsTo}
+use Rattle.store_laws.proofs.StepLaws.{write_step, open_left, leaves_earlier, read_facts, read_committed, read_current, steady_facts, steady_during}
 use Rattle.nvm_layout.specs.Sizes.{sizes_of}
 use Rattle.nvm_layout.specs.declared.geometry.Geometry.{Geometry}
-use Rattle.nvm_log.specs.declared.log.Log.{Log}
 use Rattle.transactions.specs.declared.book.Book.{Book}
 use Rattle.transactions.specs.StoreStanding.{standing_of, book_sizes, reach, reserve, kept_lines, Stands, IsReady, IsSteady}
 use Rattle.transactions.specs.BookCalls.{IsWritten}
@@ -37,8 +31,8 @@ pub continues_by : (old new : Book) (a b : Device) (book_name device_name : ℕ)
     → new.log.geometry ≡ old.log.geometry → new.log.start ≡ old.log.start → new.is_open ≡ old.is_open → new.accepted ≡ old.accepted → reach new ≡ reach old
     → (added : List Touch) → new.accesses.touches.list ≡ old.accesses.touches.list ++ added → Goes a b → b.block_reads ≡ a.block_reads
     → (IsTrue a.told → committed_in (now b) ≡ committed_in (now a))
-    → (IsTrue a.told → IsSteady old a → (m : ℕ) → a.clock < m → m ≤ b.clock → (lines : Lines) → MayLeave b m lines → lines ≡ committed_in (now a))
-    → Continues (MayLeave a) (MayLeave b) (IsSteady old a) (standing_of old a book_name device_name) (standing_of new b book_name device_name)
+    → (IsTrue a.told → IsSteady old a → (m : ℕ) → a.clock < m → m ≤ b.clock → (lines : Lines) → MayLeave (book_sizes old) b m lines → lines ≡ committed_in (now a))
+    → Continues (MayLeave (book_sizes old) a) (MayLeave (book_sizes new) b) (IsSteady old a) (standing_of old a book_name device_name) (standing_of new b book_name device_name)
 continues_by old new a b book_name device_name geometry start is_open accepted reaches added touches goes reads kept during = record {
   count = ap (λ (g : Geometry). pages (sizes_of g)) geometry;
   told = goes.told;
@@ -48,10 +42,13 @@ continues_by old new a b book_name device_name geometry start is_open accepted r
   ssd_faults = goes.ssd_faults;
   touches = (added, touches);
   clock = goes.clock;
-  earlier = leaves_earlier a b goes;
-  during = during;
+  earlier = λ m lines early left. leaves_earlier (book_sizes old) a b goes m lines early (of_old m lines left);
+  during = λ told steady m low high lines left. during told steady m low high lines (of_old m lines left);
 }
   where
+    of_old : (m : ℕ) (lines : Lines) → MayLeave (book_sizes new) b m lines → MayLeave (book_sizes old) b m lines
+    of_old m lines left = subst (λ (x : Geometry). MayLeave (sizes_of x) b m lines) geometry left
+
     same_apart : (standing_of new b book_name device_name).apart ≡ (standing_of old a book_name device_name).apart
     same_apart =
         let e1 = goes.outside in
@@ -64,15 +61,12 @@ continues_by old new a b book_name device_name geometry start is_open accepted r
 -- a call that changes no device
 pub reads_over : (old : Book) (touched : Accesses) (a b : Device) (book_name device_name : ℕ)
     → (added : List Touch) → touched.touches.list ≡ old.accesses.touches.list ++ added → Goes a b → b.block_reads ≡ a.block_reads → Stays a b
-    → Continues (MayLeave a) (MayLeave b) (IsSteady old a) (standing_of old a book_name device_name) (standing_of (record old { accesses = touched }) b book_name device_name)
+    → Continues (MayLeave (book_sizes old) a) (MayLeave (book_sizes old) b) (IsSteady old a) (standing_of old a book_name device_name) (standing_of (record old { accesses = touched }) b book_name device_name)
 reads_over old touched a b book_name device_name added touches goes reads stays =
     continues_by old (record old { accesses = touched }) a b book_name device_name refl refl refl refl refl added touches goes reads
     (λ told. ap committed_in (at_end goes stays told))
-    (λ told steady m low high lines left. open_during (book_sizes old) old.log.start old.log.tail (now a) (steady told).facts lines
-        (left.0, subst (λ (s : State). Leaves s left.0) ((stays told).each m (omega arith) high) left.1, left.2))
-  where
-    open_during : (g : Sizes) (start tail : ℕ) (s : State) → OpenFacts g start tail s → (lines : Lines) → ((i : Image) × Leaves s i × (recovered_pages whole_lines i ≡ lines)) → lines ≡ committed_in s
-    open_during g start tail s it lines left = sym left.2 ∙ open_pages g start tail s it left.0 left.1 ∙ sym (open_pages g start tail s it (current s) (current_leaves s))
+    (λ told steady m low high lines left. open_left (book_sizes old) old.log.start old.log.tail (now a) (steady told).facts lines left.0
+        (subst (λ (s : State). Leaves s left.0) ((stays told).each m (omega arith) high) left.1) left.2)
 
 -- the touch of a call
 pub touched_by : {T E : Type 0} (old new : Book) (a b : Device) (book_name device_name page line : ℕ) (writes : Bool) (r : Result T E) → new.accesses.open_access ≡ Some (page, writes)
@@ -122,14 +116,14 @@ module _ (old : Book) (touched : Accesses) (new : Book) (a b : Device) (page lin
   abbrev Facts : State → Type 0
   Facts s = Stands (book_sizes old) old.log.start (old.log.tail + 3) old.first s
 
-  leads_from : (s : State) → Stands (book_sizes old) old.log.start old.log.tail old.first s → LeadsTo Facts (write_calls (book_sizes old) old.log.tail page line value s) s
+  leads_from : (s : State) → Stands (book_sizes old) old.log.start old.log.tail old.first s → LeadsTo (book_sizes old) Facts (write_calls (book_sizes old) old.log.tail page line value s) s
   leads_from s it = write_leads (book_sizes old) old.log.start old.log.tail old.first s it page line value hp hl is_line room_for
 
-  seen_leads : IsTrue a.told → LeadsTo Facts (write_calls (book_sizes old) old.log.tail page line value (now a)) (fresh (current (now a)))
+  seen_leads : IsTrue a.told → LeadsTo (book_sizes old) Facts (write_calls (book_sizes old) old.log.tail page line value (now a)) (fresh (current (now a)))
   seen_leads told = leads_from (fresh (current (now a))) (ready.read told)
 
   pub write_continues : (book_name device_name : ℕ) (added : List Touch) → touched.touches.list ≡ old.accesses.touches.list ++ added → b.block_reads ≡ a.block_reads
-      → Continues (MayLeave a) (MayLeave b) (IsSteady old a) (standing_of old a book_name device_name) (standing_of new b book_name device_name)
+      → Continues (MayLeave (book_sizes old) a) (MayLeave (book_sizes new) b) (IsSteady old a) (standing_of old a book_name device_name) (standing_of new b book_name device_name)
   write_continues book_name device_name added touches reads =
       continues_by old new a b book_name device_name written.geometry written.start written.is_open written.accepted written.reach_is added
       (ap (λ (x : Accesses). x.touches.list) written.accesses ∙ touches) goes reads

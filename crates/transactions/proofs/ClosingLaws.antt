@@ -44,7 +44,7 @@ nothing_open g start tail s it group =
 pub closed_read : (g : Sizes) (start tail : ℕ) (s : State) → IsClosed g start tail s → IsClosed g start tail (fresh (current s))
 closed_read g start tail s it = record { facts = open_read g start tail s it.facts; group = it.group }
 
-pub checkpoint_leads : (g : Sizes) (start tail : ℕ) (s : State) → OpenFacts g start tail s → OpenGroup g start tail (current s) → LeadsTo (IsClosed g tail tail) (checkpoint_calls tail) s
+pub checkpoint_leads : (g : Sizes) (start tail : ℕ) (s : State) → OpenFacts g start tail s → OpenGroup g start tail (current s) → LeadsTo g (IsClosed g tail tail) (checkpoint_calls tail) s
 checkpoint_leads g start tail s it group =
     let closed : changes (log_of whole_lines (current s)).open_items ≡ [] = nothing_open g start tail s it group in
     let s₁ : State = after_all (checkpoint_calls tail) s in
@@ -61,7 +61,7 @@ pub checkpoint_empties : {T E : Type 0} (g : Sizes) (start tail : ℕ) (old new 
     → Empties g start tail old new r
 checkpoint_empties g start tail old new r goes makes told = record {
   read = λ it group.
-      let leads : LeadsTo (IsClosed g tail tail) (checkpoint_calls tail) (fresh (current (now old))) = checkpoint_leads g start tail (fresh (current (now old))) it group in
+      let leads : LeadsTo g (IsClosed g tail tail) (checkpoint_calls tail) (fresh (current (now old))) = checkpoint_leads g start tail (fresh (current (now old))) it group in
       record {
         closed = read_facts (checkpoint_calls tail) old new r goes makes told (IsClosed g tail tail) (closed_read g tail tail) leads;
         current = read_current (checkpoint_calls tail) old new r goes makes told g tail tail
@@ -69,7 +69,7 @@ checkpoint_empties g start tail old new r goes makes told = record {
         committed = read_committed (checkpoint_calls tail) old new r goes makes told leads;
       };
   steady = λ it group.
-      let leads : LeadsTo (IsClosed g tail tail) (checkpoint_calls tail) (now old) = checkpoint_leads g start tail (now old) it group in
+      let leads : LeadsTo g (IsClosed g tail tail) (checkpoint_calls tail) (now old) = checkpoint_leads g start tail (now old) it group in
       record {
         closed = steady_facts (checkpoint_calls tail) old new r goes makes told (IsClosed g tail tail) leads;
         during = steady_during (checkpoint_calls tail) old new r goes makes told leads;
@@ -95,7 +95,7 @@ abort_closes g start tail first s j it group more =
     record { facts = it; group = subst (λ n. OpenGroup g start n (current s)) next (group_abort g start first (current s) j group more) }
 
 pub end_leads : (g : Sizes) (start tail first : ℕ) (s : State) → TakingBack g start tail first 0 s → tail + 1 ≤ start + ring_lines g
-    → LeadsTo (IsClosed g start (tail + 1)) (append_calls g tail abort_lines) s
+    → LeadsTo g (IsClosed g start (tail + 1)) (append_calls g tail abort_lines) s
 end_leads g start tail first s it room = record {
   facts = abort_closes g start (tail + 1) first (after_all (append_calls g tail abort_lines) s) (current s) (back_open g start tail first s it room) it.group
       (back_log g start tail first s it room);
@@ -120,7 +120,7 @@ module _ (g : Sizes) (start tail first : ℕ) (a b c : Standing) (r : Result (Un
   ends_read : TakingBack g start tail first ((tail - first) / 3) (fresh (current (now a))) → ClosesRead g start (tail + 1) (committed_in (now a)) a c r
   ends_read begun =
       let back : BackRead g start tail first 0 a b (Ok tt) = front.read begun in
-      let leads : LeadsTo (IsClosed g start (tail + 1)) (append_calls g tail abort_lines) (fresh (current (now b))) = end_leads g start tail first (fresh (current (now b))) back.left room in
+      let leads : LeadsTo g (IsClosed g start (tail + 1)) (append_calls g tail abort_lines) (fresh (current (now b))) = end_leads g start tail first (fresh (current (now b))) back.left room in
       record {
         closed = read_facts (append_calls g tail abort_lines) b c r goes_on makes still_told (IsClosed g start (tail + 1)) (closed_read g start (tail + 1)) leads;
         current = OnOk_map r (λ (e : pages_in g (now c) ≡ committed_in (now b)). e ∙ back.committed)
@@ -132,12 +132,12 @@ module _ (g : Sizes) (start tail first : ℕ) (a b c : Standing) (r : Result (Un
   ends_steady begun =
       let back : BackSteady g start tail first 0 a b (Ok tt) = front.steady begun in
       let same : committed_in (now b) ≡ committed_in (now a) = (front.read (back_read g start tail first ((tail - first) / 3) (now a) begun)).committed in
-      let leads : LeadsTo (IsClosed g start (tail + 1)) (append_calls g tail abort_lines) (now b) = end_leads g start tail first (now b) back.left room in
+      let leads : LeadsTo g (IsClosed g start (tail + 1)) (append_calls g tail abort_lines) (now b) = end_leads g start tail first (now b) back.left room in
       record {
         closed = steady_facts (append_calls g tail abort_lines) b c r goes_on makes still_told (IsClosed g start (tail + 1)) leads;
         during = λ m low high lines h. elim (cases_lt b.clock m) [
           | inl later ↦ steady_during (append_calls g tail abort_lines) b c r goes_on makes still_told leads m later high lines h ∙ same
-          | inr earlier ↦ back.during m low earlier lines (leaves_earlier b c goes_on m lines earlier h)
+          | inr earlier ↦ back.during m low earlier lines (leaves_earlier g b c goes_on m lines earlier h)
         ];
         held = λ m low high. elim (cases_lt b.clock m) [
           | inl later ↦ steady_held (append_calls g tail abort_lines) b c r goes_on makes still_told g (back_end_held g start tail first (now b) back.left room) m later high

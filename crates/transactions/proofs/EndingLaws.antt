@@ -1,5 +1,5 @@
 -- The end of a transaction, by what it does to the book and the device of a store.
-use Rattle.std.proofs.Common.{◌≡◌, ℕ, ◌+◌, ◌-◌, ◌*◌, ◌^◌, ◌<◌, ◌≤◌, Bool, true, false, refl, sym, ap, ◌∙◌, subst, arith, IsTrue, Result, Ok, Err}
+use Rattle.std.proofs.Common.{◌≡◌, ◌+◌, ◌-◌, ◌*◌, ◌^◌, ◌≤◌, true, false, refl, sym, ap, ◌∙◌, subst, arith, IsTrue, Result}
 use Rattle.std.specs.Prelude.{OnOk, IfErr}
 use Rattle.devices.specs.State.{State, current, fresh}
 use Rattle.devices.specs.World.{Standing as Device, Goes, MakesAll, now}
@@ -7,7 +7,7 @@ use Rattle.line_pages.specs.Lines.{Lines}
 use Rattle.line_pages.specs.LineSets.{pages_of}
 use Rattle.line_pages.specs.declared.stop.Stop.{Stop}
 use Rattle.line_pages.specs.declared.stop.Stop.TheVariants.{Nvm}
-use Rattle.store_meaning.specs.Layout.{Sizes, pages, nvm_lines, ring_lines, is_allowed}
+use Rattle.store_meaning.specs.Layout.{pages, nvm_lines, ring_lines, is_allowed}
 use Rattle.store_meaning.specs.Put.{append_calls}
 use Rattle.store_meaning.specs.Append.{commit_lines}
 use Rattle.store_meaning.proofs.AtEndLaws.{OnOk_map}
@@ -99,9 +99,9 @@ module _ (old : Book) (log : Log) (a b : Device) {T E : Type 0} (r : Result T E)
       step : IsTrue a.told → CommitsOpen (book_sizes old) old.log.start (old.log.tail + 1) (append_calls (book_sizes old) old.log.tail commit_lines) (fresh (current (now a)))
       step told = commit_step (book_sizes old) old.log.start old.log.tail (fresh (current (now a))) (ready.read told).facts (end_room old a ready opened)
 
-  pub commit_leaves : IsTrue a.told → IsSteady old a → OnOk r (LeavesOnly (pages_in (book_sizes old) (now a)) b)
+  pub commit_leaves : IsTrue a.told → IsSteady old a → OnOk r (LeavesOnly (book_sizes old) (pages_in (book_sizes old) (now a)) b)
   commit_leaves told steady = ok_both r
-      (λ facts lines. subst (λ (x : Lines). LeavesOnly x b) lines.committed (stands_leaves (book_sizes old) old.log.start (old.log.tail + 1) (old.log.tail + 1) b facts))
+      (λ facts lines. subst (λ (x : Lines). LeavesOnly (book_sizes old) x b) lines.committed (stands_leaves (book_sizes old) old.log.start (old.log.tail + 1) (old.log.tail + 1) b facts))
       (commit_holds told steady) (commit_lines_are told)
 
   pub commit_call : (new : Book) → new.log.geometry ≡ old.log.geometry → new.accesses ≡ old.accesses → b.block_reads ≡ a.block_reads → StoreCall (IsOldOrNew old a) old a new b

@@ -1,5 +1,5 @@
 -- The facts of an open store with its open group, over a write and both ends of a transaction.
-use Rattle.std.proofs.Common.{◌≡◌, ℕ, zero, suc, ◌+◌, ◌-◌, ◌*◌, ◌<◌, ◌≤◌, List, length, refl, sym, ap, ◌∙◌, subst, arith, IsTrue, Result}
+use Rattle.std.proofs.Common.{◌≡◌, ℕ, zero, suc, ◌+◌, ◌-◌, ◌<◌, ◌≤◌, List, length, refl, sym, ap, ◌∙◌, subst, arith, IsTrue, Result}
 use Rattle.std.specs.Prelude.{OnOk}
 use Rattle.nvm_model.specs.declared.line.Line.{Line}
 use Rattle.devices.specs.State.{State, Image, Call, current, fresh, line_at, after_all}
@@ -10,19 +10,18 @@ use Rattle.store_meaning.specs.Put.{IsLine, append_calls}
 use Rattle.store_meaning.specs.Append.{commit_lines}
 use Rattle.store_meaning.specs.Recovered.{Super, super_of, from, log_line, log_lines}
 use Rattle.store_meaning.proofs.AtEndLaws.{OnOk_map}
-use Rattle.store_meaning.proofs.FactsLaws.{current_leaves}
 use Rattle.store_laws.specs.ShownPages.{committed_in}
 use Rattle.transactions.specs.StoreCalls.{LeavesOnly, HoldsAlong}
 use Rattle.store_laws.specs.OpenFacts.{OpenFacts, super_with}
 use Rattle.store_laws.specs.OpenGroup.{OpenGroup}
 use Rattle.store_laws.specs.Calls.{write_calls}
 use Rattle.store_laws.specs.Steps.{LeadsTo}
-use Rattle.store_laws.proofs.OpenLaws.{facts_range, open_pages}
+use Rattle.store_laws.proofs.OpenLaws.{facts_range}
 use Rattle.store_laws.proofs.AsReadLaws.{after_as, current_as, fresh_as, open_read}
 use Rattle.store_laws.proofs.GroupLaws.{group_write, group_commit}
 use Rattle.store_laws.proofs.WriteLaws.{write_log, write_held}
 use Rattle.store_laws.proofs.EndLaws.{commit_log, commit_open}
-use Rattle.store_laws.proofs.StepLaws.{write_step, steady_held}
+use Rattle.store_laws.proofs.StepLaws.{write_step, steady_held, open_left}
 use Rattle.transactions.specs.StoreStanding.{Stands}
 
 -- they hold of what one reads of the state too
@@ -31,7 +30,7 @@ stands_read g start tail first s it = record { facts = open_read g start tail s 
 
 -- a write
 pub write_leads : (g : Sizes) (start tail first : ℕ) (s : State) → Stands g start tail first s → (page line : ℕ) (value : Line) → page < pages g → line < 64 → IsLine value → tail + 3 ≤ start + ring_lines g
-    → LeadsTo (Stands g start (tail + 3) first) (write_calls g tail page line value s) s
+    → LeadsTo g (Stands g start (tail + 3) first) (write_calls g tail page line value s) s
 write_leads g start tail first s it page line value hp hl is_line room =
     let step : _ = write_step g start tail s it.facts page line value hp hl is_line room in
     let change : Change = record { page = page; line = line; mask = 255; before = line_at s (frame_line g page line); after = value } in
@@ -86,6 +85,5 @@ pub after_steady : {T E : Type 0} (calls : List Call) (a b : Standing) (r : Resu
 after_steady calls a b r makes told Facts facts = OnOk_map r (λ (done : now b ≡ after_all calls (now a)). subst Facts (sym done) facts) (makes.whole told)
 
 -- whatever a crash leaves of a store that stands recovers to its committed lines
-pub stands_leaves : (g : Sizes) (start tail first : ℕ) (d : Standing) → Stands g start tail first (now d) → LeavesOnly (committed_in (now d)) d
-stands_leaves g start tail first d it lines left =
-    sym left.2 ∙ open_pages g start tail (now d) it.facts left.0 left.1 ∙ sym (open_pages g start tail (now d) it.facts (current (now d)) (current_leaves (now d)))
+pub stands_leaves : (g : Sizes) (start tail first : ℕ) (d : Standing) → Stands g start tail first (now d) → LeavesOnly g (committed_in (now d)) d
+stands_leaves g start tail first d it lines left = open_left g start tail (now d) it.facts lines left.0 left.1 left.2

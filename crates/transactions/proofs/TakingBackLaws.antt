@@ -27,7 +27,7 @@ of_store_at g (suc k) (x ∷ xs) c rest all at = of_store_at g k xs c rest all.1
 record NextRecord (g : Sizes) (start tail first k : ℕ) (s : State) : Type 0 where
   change : Change
   stands : StandsAt g (log_line g start (current s)) (first + 3 * k) change
-  leads : LeadsTo (TakingBack g start tail first k) (store_calls g change.page change.line change.before) s
+  leads : LeadsTo g (TakingBack g start tail first k) (store_calls g change.page change.line change.before) s
   held : (mid : State) → Amid s (store_calls g change.page change.line change.before) mid → HoldsFacts g mid
 
 next_record : (g : Sizes) (start tail first k : ℕ) (s : State) → TakingBack g start tail first (suc k) s → first + 3 * k + 3 ≤ tail → NextRecord g start tail first k s
@@ -85,7 +85,7 @@ back_then g start tail first n j k a b c r goes goes_on front back = record {
         left = more.left;
         during = λ m low high lines h. elim (cases_lt b.clock m) [
           | inl later ↦ more.during m later high lines h ∙ (front.read (back_read g start tail first n (now a) it)).committed
-          | inr earlier ↦ once.during m low earlier lines (leaves_earlier b c goes_on m lines earlier h)
+          | inr earlier ↦ once.during m low earlier lines (leaves_earlier g b c goes_on m lines earlier h)
         ];
         held = λ m low high. elim (cases_lt b.clock m) [
           | inl later ↦ more.held m later high

@@ -27,7 +27,7 @@ pub record ClosesRead {T E : Type 0} (g : Sizes) (start tail : ℕ) (lines : Lin
 -- of a store.
 pub record ClosesSteady {T E : Type 0} (g : Sizes) (start tail : ℕ) (old new : Standing) (result : Result T E) : Type 0 where
   pub closed : OnOk result (IsClosed g start tail (now new))
-  pub during : (m : ℕ) → old.clock < m → m ≤ new.clock → (lines : Lines) → MayLeave new m lines → lines ≡ committed_in (now old)
+  pub during : (m : ℕ) → old.clock < m → m ≤ new.clock → (lines : Lines) → MayLeave g new m lines → lines ≡ committed_in (now old)
   pub held : (m : ℕ) → old.clock < m → m ≤ new.clock → HoldsFacts g (new.at m)
 
 -- The log of a store in which nothing is open is emptied: it stands at its tail, and the current lines stay.

@@ -25,7 +25,7 @@ pub record StoreCall (Recovers : Lines → Type 0) (old : Book) (a : Device) (ne
   pub accesses : new.accesses ≡ old.accesses
   pub goes : Goes a b
   pub block_reads : b.block_reads ≡ a.block_reads
-  pub during : IsTrue a.told → IsSteady old a → (m : ℕ) → a.clock < m → m ≤ b.clock → (lines : Lines) → MayLeave b m lines → Recovers lines
+  pub during : IsTrue a.told → IsSteady old a → (m : ℕ) → a.clock < m → m ≤ b.clock → (lines : Lines) → MayLeave (book_sizes old) b m lines → Recovers lines
   pub held : IsTrue a.told → IsSteady old a → HoldsAlong (book_sizes old) a b
 
 -- the committed lines, as they were before the call
@@ -52,8 +52,8 @@ pub record AbortsLines (old : Book) (a : Device) (new : Book) (b : Device) : Typ
   pub committed : committed_in (now b) ≡ committed_in (now a)
 
 -- whatever a crash leaves now recovers to these lines
-abbrev pub LeavesOnly : Lines → Device → Type 0
-LeavesOnly lines d = (left : Lines) → MayLeave d d.clock left → left ≡ lines
+abbrev pub LeavesOnly : Sizes → Lines → Device → Type 0
+LeavesOnly g lines d = (left : Lines) → MayLeave g d d.clock left → left ≡ lines
 
 -- the log has room for the longest transaction: 640 records of three lines for each write, and an end
 abbrev pub has_room : Book → Bool

@@ -102,7 +102,7 @@ pub record BackRead {T : Type 0} (g : Sizes) (start tail first k : ℕ) (old new
 -- a store hold.
 pub record BackSteady {T : Type 0} (g : Sizes) (start tail first k : ℕ) (old new : Standing) (result : Result T Stop) : Type 0 where
   pub left : OnOk result (TakingBack g start tail first k (now new))
-  pub during : (m : ℕ) → old.clock < m → m ≤ new.clock → (lines : Lines) → MayLeave new m lines → lines ≡ committed_in (now old)
+  pub during : (m : ℕ) → old.clock < m → m ≤ new.clock → (lines : Lines) → MayLeave g new m lines → lines ≡ committed_in (now old)
   pub held : (m : ℕ) → old.clock < m → m ≤ new.clock → HoldsFacts g (new.at m)
 
 -- Of the records of the group that is open from `first` on, n are still to be taken back before, and k behind it.

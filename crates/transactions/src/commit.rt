@@ -24,7 +24,7 @@ impl<'a, D: Devices> Store<'a, D> {
 
         // What Ok means.
         ensures lines { IsTrue (D.standing self.old.dev.now).told → OnOk result (CommitsLines self.old.book.now (D.standing self.old.dev.now) self.new.book.now (D.standing self.new.dev.now)) }
-        ensures leaves { IsTrue (D.standing self.old.dev.now).told → IsSteady self.old.book.now (D.standing self.old.dev.now) → OnOk result (LeavesOnly (pages_in (book_sizes self.old.book.now) (now (D.standing self.old.dev.now))) (D.standing self.new.dev.now)) }
+        ensures leaves { IsTrue (D.standing self.old.dev.now).told → IsSteady self.old.book.now (D.standing self.old.dev.now) → OnOk result (LeavesOnly (book_sizes self.old.book.now) (pages_in (book_sizes self.old.book.now) (now (D.standing self.old.dev.now))) (D.standing self.new.dev.now)) }
         ensures ends { OnOk result (Ends self.old.book.now self.new.book.now) }
         ensures ready { OnOk result (IsReady self.new.book.now (D.standing self.new.dev.now)) }
         ensures steady { IsSteady self.old.book.now (D.standing self.old.dev.now) → OnOk result (IsSteady self.new.book.now (D.standing self.new.dev.now)) }

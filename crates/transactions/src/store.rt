@@ -25,7 +25,7 @@ impl<'a, D: Devices> Store<'a, D> {
 }
 
 impl<'a, D: Devices> Pages for Store<'a, D> {
-    ghost use Rattle.transactions.specs.StoreStanding.{Apart as StoreApart, standing_of, IsReady, IsSteady};
+    ghost use Rattle.transactions.specs.StoreStanding.{Apart as StoreApart, standing_of, book_sizes, IsReady, IsSteady};
     ghost use Rattle.store_laws.specs.Steps.{MayLeave};
 
     ghost Apart = { StoreApart };
@@ -36,7 +36,7 @@ impl<'a, D: Devices> Pages for Store<'a, D> {
 
     ghost is_steady = { λ s. IsSteady s.book.now (D.standing s.dev.now) };
 
-    ghost may_leave = { λ s. MayLeave (D.standing s.dev.now) };
+    ghost may_leave = { λ s. MayLeave (book_sizes s.book.now) (D.standing s.dev.now) };
 
     fn page_count(&self) -> u64 {
         self.book.log.geometry.pages()

@@ -1,10 +1,9 @@
 -- The open group is taken back and ended, and what that keeps is known of the device.
-use Rattle.std.proofs.Common.{◌≡◌, sym, subst, refl, Ok, Err}
-use Rattle.line_pages.specs.declared.stop.Stop.{Stop}
+use Rattle.std.proofs.Common.{sym, subst, refl, Ok, Err}
 use Rattle.transactions.specs.declared.book.Book.{Book}
 use Rattle.transactions.specs.StoreStanding.{IsReady, IsSteady}
 use Rattle.transactions.specs.StoreCalls.{AbortsLines, StoreCall, IsCommitted}
-use Rattle.transactions.proofs.EndingLaws.{ended, abort_ready, abort_steady, abort_lines_are, abort_call, abort_stops}
+use Rattle.transactions.proofs.EndingLaws.{ended, abort_ready, abort_steady, abort_lines_are, abort_call}
 use Rattle.transactions.proofs.store.Store.abort.Goals as goal
 
 pub returns-clause-lines : goal.returns-clause-lines
