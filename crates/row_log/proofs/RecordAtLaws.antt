@@ -5,7 +5,7 @@ use Rattle.std.specs.List.{flat_map, list_all}
 use Rattle.std.specs.Int.{w64, to_le_bytes}
 use Rattle.std.proofs.lemmas.Bool.{leb-true, le-leb}
 use Rattle.std.proofs.lemmas.List.{take_at, drop_all}
-use Rattle.script.specs.Names.{is_value, is_value_byte, IsValue}
+use Rattle.row_script.specs.Names.{is_value, is_value_byte, IsValue}
 use Rattle.row_log.specs.Layout.{Words, record_word, record_bytes, value_at, row_at, is_row}
 use Rattle.row_log.specs.Record.{numbers_from, record_words, bytes_of, value_in, row_in, IsRecord}
 use Rattle.row_log.proofs.LayoutLaws.{both_true}

@@ -3,12 +3,12 @@ use Rattle.std.proofs.Common.{◌≡◌, ◌≢◌, ℕ, ◌≤◌, List, [], �
 use Rattle.std.proofs.lemmas.List.{append-nil}
 use Rattle.std.proofs.lemmas.Result.{IfOk-from_err}
 use Rattle.devices.specs.World.{Standing, WorldCall, IsTimed, sent, sent_at, sent_by}
-use Rattle.script.specs.declared.command.Command.{Command}
-use Rattle.script.specs.Lines.{IsOneLine}
-use Rattle.script.specs.Grammar.{commands}
-use Rattle.script.specs.Script.{command_in}
-use Rattle.script.specs.Machine.{State}
-use Rattle.script.proofs.LinesLaws.{commands_first, commands_dropped, commands_line}
+use Rattle.row_script.specs.declared.command.Command.{Command}
+use Rattle.row_script.specs.Lines.{IsOneLine}
+use Rattle.row_script.specs.Grammar.{commands}
+use Rattle.row_script.specs.Script.{command_in}
+use Rattle.row_script.specs.Machine.{State}
+use Rattle.row_script.proofs.LinesLaws.{commands_first, commands_dropped, commands_line}
 use Rattle.spitfire_app.specs.Run.{Aim, Owes, AreSafe, Proceeds}
 use Rattle.spitfire_app.proofs.RunLaws.{still_safe, owes_still, idle_safe}
 

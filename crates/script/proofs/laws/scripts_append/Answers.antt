@@ -1,5 +1,0 @@
-use Rattle.script.proofs.LinesLaws.{commands-append_ended}
-use Rattle.script.proofs.laws.scripts_append.Goals as goal
-
-pub returns : goal.returns
-returns c = commands-append_ended
