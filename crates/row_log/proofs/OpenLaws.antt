@@ -7,7 +7,7 @@ use Rattle.nvm_model.specs.declared.line.Line.{Line}
 use Rattle.devices.specs.State.{State, current, line_at}
 use Rattle.devices.specs.World.{Standing, Goes, Stays, Rose, now}
 use Rattle.devices.proofs.MomentLaws.{Moments-trans, Moments-map}
-use Rattle.row_script.specs.Names.{IsValue, is_value}
+use Rattle.slotted_page.specs.Value.{IsValue, is_value}
 use Rattle.row_script.specs.Machine.{Rows, most_rows}
 use Rattle.row_log.specs.declared.errors.OpenError.{OpenError}
 use Rattle.row_log.specs.declared.errors.OpenError.TheVariants.{TooSmall, Nvm, NotAStore, NoMemory}

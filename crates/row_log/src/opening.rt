@@ -1,7 +1,7 @@
 //! Opening: the records of the log are read and checked.
 ghost use Rattle.std.specs.Prelude.{◌≡◌, ◌+◌, ◌<◌, ◌≤◌, ◌↔◌, ℕ, [], Some, Err, IsTrue, IfOk, length, vec_capacity};
 ghost use Rattle.devices.specs.World.{Goes, Stays, NvmCause};
-ghost use Rattle.row_script.specs.Names.{IsValue};
+ghost use Rattle.slotted_page.specs.Value.{IsValue};
 ghost use Rattle.row_script.specs.Machine.{AreRows};
 ghost use Rattle.row_log.specs.Layout.{gate, least_lines, is_row, are_rows, row_at, rows_below, rows_of};
 ghost use Rattle.row_log.specs.Record.{record_words};

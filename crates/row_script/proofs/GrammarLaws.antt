@@ -1,29 +1,19 @@
 -- The grammar read both ways: a line is a command exactly where it is that command's spelling.
-use Rattle.std.proofs.Common.{◌≡◌, ℕ, ◌≤◌, List, [], ◌∷◌, ◌++◌, length, refl, ◌∙◌, Option, Some, None, inl, inr, subst}
-use Rattle.std.proofs.lemmas.Bool.{cases_Bool, leb-true, le-leb}
-use Rattle.std.specs.Prelude.{codes, nat_le, bytes_eq, map, IfSome}
-use Rattle.std.proofs.lemmas.Slice.Eq.{bytes_eq-Decides}
+use Rattle.std.proofs.Common.{◌≡◌, ℕ, ◌≤◌, List, [], ◌∷◌, ◌++◌, length, refl, ◌∙◌, Option, Some, None, subst}
+use Rattle.std.proofs.lemmas.Bool.{le-leb}
+use Rattle.std.specs.Prelude.{codes, map, IfSome}
 use Rattle.std.specs.List.{AllByRecursion}
-use Rattle.row_script.specs.Fields.{cut}
-use Rattle.row_script.specs.Names.{IsValue}
-use Rattle.row_script.specs.Lines.{lines}
+use Rattle.texts.specs.Fields.{cut}
+use Rattle.slotted_page.specs.Value.{IsValue}
+use Rattle.texts.specs.Lines.{lines}
 use Rattle.row_script.specs.Shapes.{one_key, key_value}
-use Rattle.row_script.specs.Forms.{by_word, longest_line}
+use Rattle.texts.specs.Forms.{by_word, longest_line}
 use Rattle.row_script.specs.Grammar.{forms, command_of, commands, IsCommand, spelling}
 use Rattle.row_script.specs.declared.command.Command.{Command}
 use Rattle.row_script.specs.declared.command.Command.TheVariants.{Put, Get}
-use Rattle.row_script.proofs.FieldsLaws.{left_text, cut_whole}
+use Rattle.texts.proofs.FieldsLaws.{left_text}
+use Rattle.texts.proofs.FormsLaws.{by_word_all, read_by_parts}
 use Rattle.row_script.proofs.ShapesLaws.{Text, one_key_sound, one_key_complete, key_value_sound, key_value_complete}
-
--- What the reader of each word of a table makes of the rest has a property: so has what the table reads.
-pub by_word_all : {C : Type 0} (P : C → Type 0) (word : Text) (left : Option Text) (table : List (Text × (Option Text → Option C))) →
-    AllByRecursion (λ form. (c : C) → word ≡ form.0 → form.1 left ≡ Some c → P c) table → (c : C) → by_word table word left ≡ Some c → P c
-by_word_all P word left [] a c h = absurd cc
-by_word_all P word left (form ∷ table) a c h =
-    elim (cases_Bool (bytes_eq word form.0)) [
-      | inl e ↦ a.0 c ((bytes_eq-Decides word form.0).0 e) (rw e at h)
-      | inr e ↦ by_word_all P word left table a.1 c (rw e at h)
-    ]
 
 module _ (word : Text) (left : Option Text) where
   -- what the words and the fields spell
@@ -42,12 +32,9 @@ module _ (word : Text) (left : Option Text) where
 -- a line that is a command is its spelling
 pub command_sound : (line : Text) (c : Command) → command_of line ≡ Some c → IsCommand c × (line ≡ spelling c) × (length line ≤ longest_line)
 command_sound line c h =
-    elim (cases_Bool (nat_le (length line) longest_line)) [
-      | inl e ↦
-          let s = form_spells (cut line).0 (cut line).1 c (rw e at h) in
-          (s.0, cut_whole line ∙ s.1, leb-true (length line) longest_line e)
-      | inr e ↦ absurd (let never : None ≡ Some c = rw e at h in cc)
-    ]
+    let p = read_by_parts forms line c h in
+    let s = form_spells (cut line).0 (cut line).1 c p.0 in
+    (s.0, p.1 ∙ s.1, p.2)
 
 -- and the spelling of a command is read as that command
 spelled : (c : Command) → IsCommand c → by_word forms (cut (spelling c)).0 (cut (spelling c)).1 ≡ Some c

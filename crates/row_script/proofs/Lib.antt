@@ -1,10 +1,5 @@
-pub mod NumbersLaws
-pub mod FieldsLaws
 pub mod ShapesLaws
 pub mod GrammarLaws
-pub mod LinesLaws
-pub mod RunsLaws
-pub mod OutputLaws
 pub mod RepliesLaws
 pub mod MachineLaws
 pub mod Worked

@@ -4,11 +4,11 @@ use Rattle.std.proofs.lemmas.Bool.{le-leb, lt-leb}
 use Rattle.std.proofs.lemmas.List.Sums.{sum_by-append}
 use Rattle.std.specs.Prelude.{nat_le, ◌==◌, ◌||◌, count_by, IfSome}
 use Rattle.std.specs.List.{list_any, AllByRecursion}
-use Rattle.row_script.specs.Names.{IsValue}
+use Rattle.slotted_page.specs.Value.{IsValue}
 use Rattle.row_script.specs.Grammar.{IsCommand, command_of, commands}
 use Rattle.row_script.specs.Replies.{IsReply, text, is_committed}
-use Rattle.row_script.specs.Output.{strip, acked}
-use Rattle.row_script.specs.Runs as run
+use Rattle.texts.specs.Output.{strip, acked}
+use Rattle.texts.specs.Runs as run
 use Rattle.row_script.specs.Machine.{Rows, AreRows, State, opening, either, last_value, found, most_rows, step, machine}
 use Rattle.row_script.specs.Script.{replies, commits}
 use Rattle.row_script.specs.declared.command.Command.{Command}
@@ -16,7 +16,7 @@ use Rattle.row_script.specs.declared.command.Command.TheVariants.{Put, Get}
 use Rattle.row_script.specs.declared.command.Reply.{Reply}
 use Rattle.row_script.specs.declared.command.Reply.TheVariants.{Committed, Refused}
 use Rattle.row_script.specs.declared.command.Reason.TheVariants.{Full}
-use Rattle.row_script.proofs.RunsLaws.{after_so_far, after_next}
+use Rattle.texts.proofs.RunsLaws.{after_so_far, after_next}
 use Rattle.row_script.proofs.GrammarLaws.{IsCommand-read, IsCommand-script}
 use Rattle.row_script.proofs.RepliesLaws.{strip-text, acked-text}
 

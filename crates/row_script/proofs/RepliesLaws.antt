@@ -5,25 +5,26 @@ use Rattle.std.proofs.lemmas.Bool.{and_parts, leb-true, ne_eqb}
 use Rattle.std.proofs.lemmas.List.Sums.{sum_by-append}
 use Rattle.std.specs.Prelude.{nat_le, ◌==◌, ◌||◌, map, filter, flat_map, count_by, decimal, if◌then◌else◌}
 use Rattle.std.specs.List.{list_all, AllByRecursion}
-use Rattle.row_script.specs.Names.{is_value_byte, IsValue}
-use Rattle.row_script.specs.Lines.{line_feed, has_line_feed}
+use Rattle.slotted_page.specs.Node.{is_printable}
+use Rattle.slotted_page.specs.Value.{IsValue}
+use Rattle.texts.specs.Lines.{line_feed, has_line_feed}
 use Rattle.row_script.specs.Replies.{IsReply, reply_line, reply_text, text, is_committed}
-use Rattle.row_script.specs.Output.{IsWhole, whole_lines, pieces, strip, acknowledges, acked}
+use Rattle.texts.specs.Output.{IsWhole, whole_lines, pieces, strip, acknowledges, acked}
 use Rattle.row_script.specs.declared.command.Reason.TheVariants.{Form, Full}
 use Rattle.row_script.specs.declared.command.Reply.{Reply}
 use Rattle.row_script.specs.declared.command.Reply.TheVariants.{Found, Absent, Committed, Refused}
-use Rattle.row_script.proofs.NumbersLaws.{decimal_not}
-use Rattle.row_script.proofs.OutputLaws.{pieces_line, keeps, IsWhole-empty, IsWhole-append}
+use Rattle.texts.proofs.NumbersLaws.{decimal_not}
+use Rattle.texts.proofs.OutputLaws.{pieces_line, keeps, IsWhole-empty, IsWhole-append}
 
-bytes_not : (v : List ℕ) → list_all is_value_byte v ≡ true → has_line_feed v ≡ false
+bytes_not : (v : List ℕ) → list_all is_printable v ≡ true → has_line_feed v ≡ false
 bytes_not [] h = refl
 bytes_not (b ∷ v) h =
-    let p = and_parts (is_value_byte b) (list_all is_value_byte v) h in
+    let p = and_parts (is_printable b) (list_all is_printable v) h in
     let low : 32 ≤ b = leb-true 32 b (and_parts (nat_le 32 b) (nat_le b 126) p.0).0 in
     rw (ne_eqb b line_feed (λ e. omega arith), bytes_not v p.1) refl
 
 value_not : (v : List ℕ) → IsValue v → has_line_feed v ≡ false
-value_not v h = bytes_not v (and_parts _ (list_all is_value_byte v) h).1
+value_not v h = bytes_not v (and_parts _ (list_all is_printable v) h).1
 
 number_not : (n : ℕ) → has_line_feed (decimal n) ≡ false
 number_not n = decimal_not line_feed n (omega arith)

@@ -5,7 +5,7 @@ use Rattle.std.specs.Fmt.{digits}
 use Rattle.row_script.specs.Replies.{text}
 use Rattle.row_script.specs.Machine.{Rows}
 use Rattle.row_script.specs.Script.{replies, commits, after}
-use Rattle.row_script.specs.Output.{strip, acked}
+use Rattle.texts.specs.Output.{strip, acked}
 
 -- some lines, each with its line feed
 abbrev lines_of : List (List ℕ) → List ℕ

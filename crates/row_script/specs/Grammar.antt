@@ -1,11 +1,10 @@
 -- The forms of a line of a script.
-use Rattle.std.specs.Prelude.{codes, ℕ, List, [], ◌∷◌, ◌++◌, map, decimal, Option}
-use Rattle.row_script.specs.Names.{IsValue}
-use Rattle.row_script.specs.Numbers.{IsKey}
-use Rattle.row_script.specs.Lines.{lines}
-use Rattle.row_script.specs.Fields.{space}
+use Rattle.std.specs.Prelude.{codes, ℕ, List, [], ◌∷◌, ◌++◌, decimal, Option}
+use Rattle.slotted_page.specs.Value.{IsValue}
+use Rattle.texts.specs.Numbers.{IsKey}
+use Rattle.texts.specs.Fields.{space}
 use Rattle.row_script.specs.Shapes.{key_value, one_key}
-use Rattle.row_script.specs.Forms.{read_by}
+use Rattle.texts.specs.Forms.{Form, read_by, commands_by}
 use Rattle.row_script.specs.declared.command.Command.{Command}
 use Rattle.row_script.specs.declared.command.Command.TheVariants.{Put, Get}
 
@@ -20,7 +19,7 @@ spelling (Put k v) = codes "put " ++ (decimal k ++ space ∷ v)
 spelling (Get k) = codes "get " ++ decimal k
 
 -- each first word, and what follows it
-abbrev pub forms : List (List ℕ × (Option (List ℕ) → Option Command))
+abbrev pub forms : List (Form Command)
 forms = (codes "put", key_value Put) ∷ (codes "get", one_key Get) ∷ []
 
 -- the command that a line is, where it is of a form and has at most 1,024 bytes
@@ -29,4 +28,4 @@ command_of line = read_by forms line
 
 -- the commands of a script: of each line that is not silent, in order
 abbrev pub commands : List ℕ → List (Option Command)
-commands bytes = map command_of (lines bytes)
+commands bytes = commands_by forms bytes

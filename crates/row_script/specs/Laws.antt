@@ -1,10 +1,10 @@
 -- Laws of the definitions, as statements that contracts name.
 use Rattle.std.specs.Prelude.{◌≡◌, ◌≤◌, List, [], ◌∷◌, ◌++◌, ℕ, length, Some}
-use Rattle.row_script.specs.Lines.{line_feed}
-use Rattle.row_script.specs.Forms.{longest_line}
+use Rattle.texts.specs.Lines.{line_feed}
+use Rattle.texts.specs.Forms.{longest_line}
 use Rattle.row_script.specs.Grammar.{command_of, commands, IsCommand, spelling}
 use Rattle.row_script.specs.Replies.{text}
-use Rattle.row_script.specs.Output.{strip, acked}
+use Rattle.texts.specs.Output.{strip, acked}
 use Rattle.row_script.specs.Machine.{Rows, AreRows}
 use Rattle.row_script.specs.Script.{replies, commits}
 use Rattle.row_script.specs.declared.command.Command.{Command}

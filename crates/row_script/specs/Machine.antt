@@ -1,7 +1,7 @@
 -- The plain machine: the pairs in the order in which they were put.
 use Rattle.std.specs.Prelude.{ℕ, ◌+◌, ◌==◌, nat_le, List, [], ◌∷◌, ◌++◌, length, Option, Some, None, if◌then◌else◌}
-use Rattle.row_script.specs.Runs.{Machine}
-use Rattle.row_script.specs.Names.{IsValue}
+use Rattle.texts.specs.Runs.{Machine}
+use Rattle.slotted_page.specs.Value.{IsValue}
 use Rattle.row_script.specs.Replies.{is_committed}
 use Rattle.row_script.specs.declared.command.Command.{Command}
 use Rattle.row_script.specs.declared.command.Command.TheVariants.{Put, Get}

@@ -1,7 +1,7 @@
 -- The texts of replies.
 use Rattle.std.specs.Prelude.{codes, ℕ, Bool, true, false, List, ◌++◌, flat_map, decimal}
-use Rattle.row_script.specs.Names.{IsValue}
-use Rattle.row_script.specs.Lines.{ended}
+use Rattle.slotted_page.specs.Value.{IsValue}
+use Rattle.texts.specs.Lines.{ended}
 use Rattle.row_script.specs.declared.command.Reply.{Reply}
 use Rattle.row_script.specs.declared.command.Reply.TheVariants.{Found, Absent, Committed, Refused}
 use Rattle.row_script.specs.declared.command.Reason.{Reason}

@@ -1,15 +1,15 @@
 -- What a script is replied to, and what stands after its commits.
-use Rattle.std.specs.Prelude.{ℕ, List, [], ◌∷◌, Option, if◌then◌else◌}
-use Rattle.row_script.specs.Lines.{is_silent}
-use Rattle.row_script.specs.Grammar.{command_of, commands}
+use Rattle.std.specs.Prelude.{ℕ, List, Option}
+use Rattle.texts.specs.Forms.{asked_by}
+use Rattle.row_script.specs.Grammar.{forms, commands}
 use Rattle.row_script.specs.Machine.{Rows, machine, opening}
-use Rattle.row_script.specs.Runs as run
+use Rattle.texts.specs.Runs as run
 use Rattle.row_script.specs.declared.command.Command.{Command}
 use Rattle.row_script.specs.declared.command.Reply.{Reply}
 
 -- the commands of one line: none where it is silent
 abbrev pub command_in : List ℕ → List (Option Command)
-command_in line = if is_silent line then [] else command_of line ∷ []
+command_in line = asked_by forms line
 
 -- all replies to a script, in order
 abbrev pub replies : Rows → List ℕ → List Reply

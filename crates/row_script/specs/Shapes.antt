@@ -1,8 +1,8 @@
 -- The shapes that the forms of a script line have: what follows the first word.
 use Rattle.std.specs.Prelude.{ℕ, List, Option, option_map}
-use Rattle.row_script.specs.Names.{value_of}
-use Rattle.row_script.specs.Numbers.{key_of}
-use Rattle.row_script.specs.Fields.{◌>>=◌, field, remainder, at_end}
+use Rattle.slotted_page.specs.Value.{value_of}
+use Rattle.texts.specs.Numbers.{key_of}
+use Rattle.texts.specs.Fields.{◌>>=◌, field, remainder, at_end}
 
 module _ {C : Type 0} where
   -- K

@@ -1,5 +1,5 @@
 //! Commands and replies, as contracts see them: plain data.
-use crate::value::Value;
+use slotted_page::Value;
 
 /// What a line of a script asks.
 #[derive(Drop)]

@@ -1,14 +1,12 @@
 //! Lines of a script, read as commands.
-ghost use Rattle.std.specs.Prelude.{◌≡◌, bytes_eq, option_copied, option_map};
-ghost use Rattle.row_script.specs.Numbers.{key_of};
-ghost use Rattle.row_script.specs.Fields.{field};
+ghost use Rattle.std.specs.Prelude.{◌≡◌, option_copied};
 ghost use Rattle.row_script.specs.Shapes.{key_value, one_key};
-ghost use Rattle.row_script.specs.Lines.{is_silent as silent};
+ghost use Rattle.texts.specs.Lines.{is_silent as silent};
 ghost use Rattle.row_script.specs.Grammar.{command_of};
 
 use crate::command::Command;
-use crate::numbers::{cut, key};
-use crate::value::Value;
+use slotted_page::Value;
+use texts::{cut, is_word, key_field};
 
 /// The command that a line is, given without its line feed; `None` exactly where the line has more than 1,024 bytes or
 /// is of no form.
@@ -19,26 +17,13 @@ pub fn read_line(line: &[u8]) -> Option<Command>
         return None;
     }
     let (word, left) = cut(line);
-    if is(word, b"put") {
+    if is_word(word, b"put") {
         put(left)
-    } else if is(word, b"get") {
+    } else if is_word(word, b"get") {
         get(left)
     } else {
         None
     }
-}
-
-/// Whether a line gives no reply: it is empty, or begins with `#`. It may have any length.
-pub fn is_silent(line: &[u8]) -> bool
-    ensures { result ≡ silent line.now }
-{
-    line.is_empty() || line[0] == b'#'
-}
-
-fn is(word: &[u8], text: &[u8]) -> bool
-    ensures { result ≡ bytes_eq word.now text.now }
-{
-    word == text
 }
 
 fn put(left: Option<&[u8]>) -> Option<Command>
@@ -57,13 +42,4 @@ fn get(left: Option<&[u8]>) -> Option<Command>
         None => Some(Command::Get(key)),
         Some(_) => None,
     }
-}
-
-/// A key, and what is left behind it.
-fn key_field(left: Option<&[u8]>) -> Option<(u64, Option<&[u8]>)>
-    ensures { option_map (λ p. (p.0, option_copied p.1)) result ≡ field key_of (option_copied left.entry) }
-{
-    let (word, left) = cut(left?);
-    let key = key(word)?;
-    Some((key, left))
 }

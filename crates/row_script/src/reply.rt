@@ -5,7 +5,7 @@ ghost use Rattle.row_script.specs.Replies.{reply_text as text_of, reason_word as
 
 use crate::command::{Reason, Reply};
 use arrayvec::ArrayVec;
-use itoa::Buffer;
+use texts::{put, put_number};
 
 /// The text of a reply: one line, with its line feed.
 pub fn reply_text(reply: &Reply) -> ArrayVec<u8, 512>
@@ -39,21 +39,4 @@ fn reason_word(reason: Reason) -> &'static [u8]
         Reason::Form => b"line",
         Reason::Full => b"full",
     }
-}
-
-fn put(out: &mut ArrayVec<u8, 512>, bytes: &[u8])
-    requires { array_vec_len out.old + length bytes.now ≤ 512 }
-    ensures items { out.new.items ≡ out.old.items ++ bytes.now }
-    ensures len { array_vec_len out.new ≡ array_vec_len out.old + length bytes.now }
-{
-    let _fits = out.try_extend_from_slice(bytes);
-}
-
-fn put_number(out: &mut ArrayVec<u8, 512>, n: u64)
-    requires { array_vec_len out.old + 20 ≤ 512 }
-    ensures items { out.new.items ≡ out.old.items ++ decimal n }
-    ensures len { array_vec_len out.new ≤ array_vec_len out.old + 20 }
-{
-    let mut buffer = Buffer::new();
-    put(out, buffer.format(n).as_bytes());
 }

@@ -1,5 +1,6 @@
 //! Worked lines and replies.
 use super::*;
+use slotted_page::Value;
 use std::test::*;
 
 /// Whether the line puts this value at this key.
@@ -50,16 +51,6 @@ fn refuses_lines(rt: HostRuntime) {
     }
 }
 
-#[test]
-fn passes_over_silent_lines(rt: HostRuntime) {
-    assert!(rt; is_silent(b""));
-    assert!(rt; is_silent(b"# put 7 x"));
-    assert!(rt; is_silent(&[b'#'; 2000]));
-    assert!(rt; !is_silent(b" # put 7 x"));
-    assert!(rt; !is_silent(b"get 7"));
-    assert!(rt; !is_silent(&[b'v'; 2000]));
-}
-
 /// Whether the text of a reply is this.
 fn is_text(reply: &Reply, text: &[u8]) -> bool {
     reply_text(reply).as_slice() == text
@@ -81,23 +72,4 @@ fn writes_replies(rt: HostRuntime) {
         Some(value) => assert!(rt; is_text(&Reply::Found(value), b"value x \n")),
         None => assert!(rt; false),
     }
-}
-
-/// Whether the bytes are a value, which has them.
-fn is_value(bytes: &[u8]) -> bool {
-    match Value::from_bytes(bytes) {
-        Some(value) => value.bytes() == bytes && value.copy().bytes() == bytes,
-        None => false,
-    }
-}
-
-#[test]
-fn keeps_values(rt: HostRuntime) {
-    assert!(rt; is_value(b""));
-    assert!(rt; is_value(b" ~"));
-    assert!(rt; is_value(&[b'v'; 480]));
-    assert!(rt; !is_value(&[b'v'; 481]));
-    assert!(rt; !is_value(b"\x1F"));
-    assert!(rt; !is_value(b"\x7F"));
-    assert!(rt; !is_value(b"x\n"));
 }

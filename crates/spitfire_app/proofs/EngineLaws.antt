@@ -2,10 +2,10 @@
 use Rattle.std.proofs.Common.{◌≡◌, ℕ, ◌≤◌, true, false, List, length, Result, OnOk, Ok, Err, Some, None, inl, refl, subst, sym}
 use Rattle.devices.specs.World.{Standing, now}
 use Rattle.devices.proofs.JoinLaws.{Moments-at}
-use Rattle.row_script.specs.Lines.{is_silent}
+use Rattle.texts.specs.Lines.{is_silent}
 use Rattle.row_script.specs.Grammar.{command_of}
 use Rattle.row_script.specs.Machine.{Rows, State, step, machine, most_rows}
-use Rattle.row_script.specs.Runs as run
+use Rattle.texts.specs.Runs as run
 use Rattle.row_script.specs.Script.{command_in}
 use Rattle.row_script.specs.declared.command.Command.TheVariants.{Put, Get}
 use Rattle.row_script.proofs.MachineLaws.{step_full}

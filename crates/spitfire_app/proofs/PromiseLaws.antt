@@ -8,8 +8,8 @@ use Rattle.devices.proofs.MomentLaws.{Goes-sent}
 use Rattle.row_script.specs.Grammar.{commands}
 use Rattle.row_script.specs.Machine.{Rows, AreRows, State, machine, opening}
 use Rattle.row_script.specs.Replies.{text}
-use Rattle.row_script.specs.Runs as run
-use Rattle.row_script.proofs.OutputLaws.{IsWhole-empty}
+use Rattle.texts.specs.Runs as run
+use Rattle.texts.proofs.OutputLaws.{IsWhole-empty}
 use Rattle.row_log.specs.Layout.{Words, rows_of}
 use Rattle.row_log.specs.InOrder.{Holds, InOrder}
 use Rattle.row_log.proofs.OrderLaws.{holds_of}

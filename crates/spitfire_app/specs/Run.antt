@@ -5,8 +5,8 @@ use Rattle.devices.specs.World.{Standing, now, sent, sent_at}
 use Rattle.row_script.specs.declared.command.Command.{Command}
 use Rattle.row_script.specs.Machine.{Rows, AreRows, State, machine}
 use Rattle.row_script.specs.Replies.{text}
-use Rattle.row_script.specs.Runs as run
-use Rattle.row_script.specs.Output.{acked, IsWhole}
+use Rattle.texts.specs.Runs as run
+use Rattle.texts.specs.Output.{acked, IsWhole}
 use Rattle.row_log.specs.InOrder.{Holds, InOrder}
 use Rattle.spitfire_app.specs.declared.stop.Ending.{Ending}
 use Rattle.spitfire_app.specs.declared.stop.Ending.TheVariants.{End, Limit}

@@ -5,8 +5,10 @@ use crate::stop::Stop;
 use devices::{Devices, World};
 pub use row_log::OpenError;
 use row_log::RowLog;
-use row_script::{Command, Reason, Reply, Value, is_silent, read_line};
+use row_script::{Command, Reason, Reply, read_line};
+use slotted_page::Value;
 use std::alloc::Global;
+use texts::is_silent;
 
 /// A store that stands open: its rows, and how many puts were committed since.
 #[derive(Drop)]
@@ -21,7 +23,7 @@ impl Engine {
     ghost use Rattle.devices.specs.World.{Standing, Goes, Stays, now};
     ghost use Rattle.row_script.specs.Machine.{AreRows, State, machine, opening};
     ghost use Rattle.row_script.specs.Script.{command_in};
-    ghost use Rattle.row_script.specs.Runs as run;
+    ghost use Rattle.texts.specs.Runs as run;
     ghost use Rattle.row_log.specs.Layout.{least_lines, rows_of};
     ghost use Rattle.row_log.specs.InOrder.{Holds, InOrder};
     ghost use Rattle.row_log.specs.Causes.{OpenCause, words_now};

@@ -1,5 +1,5 @@
 use Rattle.row_script.proofs.MachineLaws.{strip-replies, acked-replies}
-use Rattle.row_script.proofs.OutputLaws.{acked_prefix, acked-strip}
+use Rattle.texts.proofs.OutputLaws.{acked_prefix, acked-strip}
 use Rattle.row_script.proofs.laws.output_grows.Goals as goal
 
 pub returns-clause-stay : goal.returns-clause-stay

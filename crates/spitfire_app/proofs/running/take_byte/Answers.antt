@@ -3,8 +3,8 @@ use Rattle.std.proofs.Common.{rules, arith, ◌≡◌, ◌≤◌, [], ◌++◌, 
 use Rattle.std.proofs.lemmas.Bool.Decides.{nat_tests}
 use Rattle.row_script.specs.Grammar.{commands}
 use Rattle.row_script.specs.Script.{command_in}
-use Rattle.row_script.specs.Lines.{IsOneLine}
-use Rattle.row_script.proofs.LinesLaws.{IsOneLine-empty, IsOneLine-push}
+use Rattle.texts.specs.Lines.{IsOneLine}
+use Rattle.texts.proofs.LinesLaws.{IsOneLine-empty, IsOneLine-push}
 use Rattle.spitfire_app.proofs.ByteLaws.{owes_same, line_ends, line_grows, line_full, idle, fails}
 use Rattle.spitfire_app.proofs.running.take_byte.Goals as goal
 

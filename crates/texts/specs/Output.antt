@@ -1,6 +1,6 @@
 -- What was written to the output, as lines.
 use Rattle.std.specs.Prelude.{◌≡◌, codes, ℕ, Bool, false, not, ◌&&◌, ◌||◌, ◌==◌, nat_eq, List, [], ◌∷◌, ◌++◌, flat_map, filter, count_by, if◌then◌else◌}
-use Rattle.row_script.specs.Lines.{line_feed}
+use Rattle.texts.specs.Lines.{line_feed}
 use Rattle.std.specs.List.{onto_first, starts_with, list_any}
 
 -- the lines, each with its line feed; the last one may lack it

@@ -1,7 +1,7 @@
 use Rattle.std.proofs.Common.{◌≡◌, ◌<◌, ◌^◌, drop}
 use Rattle.std.specs.Str.{all_ascii_digits}
 use Rattle.std.specs.Str.Parse.{digits_value_after, digits_value}
-use Rattle.row_script.proofs.numbers.digits.Given as goal
+use Rattle.texts.proofs.numbers.digits.Given as goal
 
 -- the rest of the bytes tells what all of them tell
 abbrev pub invariant-loop-b : goal.invariant-loop-b

@@ -7,7 +7,7 @@ use Rattle.std.proofs.lemmas.List.{take-append-drop, drop_more, get_or-take, get
 use Rattle.std.proofs.lemmas.List.Quantifiers.{position-Some}
 use Rattle.std.proofs.lemmas.List.Folds.{list_any_none}
 use Rattle.std.proofs.lemmas.List.Sums.{fails_before_first}
-use Rattle.row_script.specs.Fields.{◌>>=◌, space, cut, field, remainder, at_end}
+use Rattle.texts.specs.Fields.{◌>>=◌, space, cut, field, remainder, at_end}
 
 -- the bytes of what is left, with the space in front of them
 abbrev pub left_text : Option (List ℕ) → List ℕ

@@ -1,8 +1,8 @@
 use Rattle.std.proofs.Common.{◌≡◌, ◌∙◌, sym, ◌+◌, ◌*◌, ◌≤◌, ◌^◌, arith, get_or}
 use Rattle.std.specs.Char.{digit_value}
 use Rattle.std.proofs.lemmas.Str.{digit_value_digit}
-use Rattle.row_script.proofs.NumbersLaws.{too_large, all_read}
-use Rattle.row_script.proofs.numbers.digits.Goals as goal
+use Rattle.texts.proofs.NumbersLaws.{too_large, all_read}
+use Rattle.texts.proofs.numbers.digits.Goals as goal
 
 pub returns-in_err-checked_mul : goal.returns-in_err-checked_mul
 returns-in_err-checked_mul c =

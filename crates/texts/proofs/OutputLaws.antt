@@ -7,8 +7,8 @@ use Rattle.std.specs.Prelude.{codes, not, ◌==◌, ◌&&◌, ◌||◌, nat_eq, 
 use Rattle.std.specs.List.{onto_first, starts_with}
 use Rattle.std.proofs.lemmas.List.Sums.{sum_by-append}
 use Rattle.std.proofs.lemmas.List.Concat.{flat_map-append}
-use Rattle.row_script.specs.Lines.{line_feed, has_line_feed}
-use Rattle.row_script.specs.Output.{IsWhole, no_line, whole_lines, pieces, is_aside, strip, acknowledges, acked}
+use Rattle.texts.specs.Lines.{line_feed, has_line_feed}
+use Rattle.texts.specs.Output.{IsWhole, no_line, whole_lines, pieces, is_aside, strip, acknowledges, acked}
 
 abbrev pub IsPrefix : List ℕ → List ℕ → Type 0
 IsPrefix xs ys = (more : List ℕ) × (xs ++ more ≡ ys)

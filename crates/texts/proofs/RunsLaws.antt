@@ -3,7 +3,7 @@ use Rattle.std.proofs.Common.{◌≡◌, ℕ, ◌+◌, ◌≤◌, true, false, c
 use Rattle.std.proofs.lemmas.List.{get_or_default, get_or_append_left}
 use Rattle.std.proofs.lemmas.Bool.{cases_Bool}
 use Rattle.std.specs.List.{list_any}
-use Rattle.row_script.specs.Runs.{Machine, state_after, replies, versions, commits, after}
+use Rattle.texts.specs.Runs.{Machine, state_after, replies, versions, commits, after}
 
 module _ {S C R T : Type 0} (m : Machine S C R T) where
   pub state_after-append : (s : S) (xs ys : List C) → state_after m s (xs ++ ys) ≡ state_after m (state_after m s xs) ys

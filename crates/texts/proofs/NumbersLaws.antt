@@ -10,7 +10,7 @@ use Rattle.std.specs.Fmt.{digit_glyph, digits_onto, digits}
 use Rattle.std.specs.List.{list_any}
 use Rattle.std.specs.Char.{digit_value}
 use Rattle.std.proofs.lemmas.List.{drop_more, drop_all}
-use Rattle.row_script.specs.Numbers.{is_plain, number_below, digits_number}
+use Rattle.texts.specs.Numbers.{is_plain, number_below, digits_number}
 
 own : IsNumeralModel (λ ds. all_ascii_digits ds ≡ true) (λ ds. digits_value 10 ds)
 own = numerals_by_value (λ ds. all_ascii_digits ds ≡ true) tells_all_ascii_digits
