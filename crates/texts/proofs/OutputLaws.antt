@@ -8,10 +8,7 @@ use Rattle.std.specs.List.{onto_first, starts_with}
 use Rattle.std.proofs.lemmas.List.Sums.{sum_by-append}
 use Rattle.std.proofs.lemmas.List.Concat.{flat_map-append}
 use Rattle.texts.specs.Lines.{line_feed, has_line_feed}
-use Rattle.texts.specs.Output.{IsWhole, no_line, whole_lines, pieces, is_aside, strip, acknowledges, acked}
-
-abbrev pub IsPrefix : List ℕ → List ℕ → Type 0
-IsPrefix xs ys = (more : List ℕ) × (xs ++ more ≡ ys)
+use Rattle.texts.specs.Output.{IsWhole, no_line, whole_lines, pieces, is_aside, strip, acknowledges, acked, IsPrefix}
 
 abbrev pub keeps : List ℕ → Bool
 keeps piece = not (is_aside piece)

@@ -26,6 +26,10 @@ strip bytes = flat_map (λ piece. piece) (filter (λ piece. not (is_aside piece)
 abbrev pub acknowledges : List ℕ → Bool
 acknowledges piece = starts_with nat_eq piece (codes "committed ") && list_any (λ b. b == line_feed) piece
 
+-- the first bytes of others
+abbrev pub IsPrefix : List ℕ → List ℕ → Type 0
+IsPrefix xs ys = (more : List ℕ) × (xs ++ more ≡ ys)
+
 -- how many commits were acknowledged
 abbrev pub acked : List ℕ → ℕ
 acked bytes = count_by acknowledges (pieces bytes)

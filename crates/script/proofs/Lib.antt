@@ -1,0 +1,9 @@
+pub mod ShapesLaws
+pub mod GrammarLaws
+pub mod RepliesLaws
+pub mod MachineLaws
+pub mod ValuesLaws
+pub mod ScriptLaws
+pub mod TransactionLaws
+pub mod LoopLaws
+pub mod Worked
