@@ -70,26 +70,26 @@ table_wrong (command.Get t k) tables = not (is_known t tables)
 table_wrong (command.Scan t low high) tables = not (is_known t tables)
 table_wrong _ tables = false
 
--- `writes`: a `create`, `put` or `del` in a transaction that has had `writes` writes
-abbrev pub writes_spent : Bounds → Command → ℕ → Bool
-writes_spent bounds (command.Create t) writes = nat_le bounds.writes writes
-writes_spent bounds (command.Put t k v) writes = nat_le bounds.writes writes
-writes_spent bounds (command.Del t k) writes = nat_le bounds.writes writes
-writes_spent bounds _ writes = false
+-- `writes`: a `create`, `put` or `del` in a transaction that has had the most writes
+abbrev pub writes_spent : ℕ → Command → ℕ → Bool
+writes_spent most (command.Create t) writes = nat_le most writes
+writes_spent most (command.Put t k v) writes = nat_le most writes
+writes_spent most (command.Del t k) writes = nat_le most writes
+writes_spent most _ writes = false
 
--- `tables`: a `create` where `tables` names exist
-abbrev pub tables_spent : Bounds → Command → List Table → Bool
-tables_spent bounds (command.Create t) tables = nat_le bounds.tables (length tables)
-tables_spent bounds _ tables = false
+-- `tables`: a `create` where the most names exist
+abbrev pub tables_spent : ℕ → Command → List Table → Bool
+tables_spent most (command.Create t) tables = nat_le most (length tables)
+tables_spent most _ tables = false
 
--- `full`: a `put` of a new key in a table of `rows` rows
-abbrev pub is_full : Bounds → ℕ → Option (List Row) → Bool
-is_full bounds key None = false
-is_full bounds key (Some rows) = nat_le bounds.rows (length rows) && not (has_row key rows)
+-- `full`: a `put` of a new key in a table of the most rows
+abbrev pub is_full : ℕ → ℕ → Option (List Row) → Bool
+is_full most key None = false
+is_full most key (Some rows) = nat_le most (length rows) && not (has_row key rows)
 
-abbrev pub rows_spent : Bounds → Command → List Table → Bool
-rows_spent bounds (command.Put t k v) tables = is_full bounds k (rows_of t tables)
-rows_spent bounds _ tables = false
+abbrev pub rows_spent : ℕ → Command → List Table → Bool
+rows_spent most (command.Put t k v) tables = is_full most k (rows_of t tables)
+rows_spent most _ tables = false
 
 -- the first of some tests that holds
 abbrev pub first_true : {A : Type 0} → List (Bool × A) → Option A
@@ -101,9 +101,9 @@ abbrev pub refusals : Bounds → State → Command → List (Bool × Reason)
 refusals bounds s c =
     (transaction_wrong c (is_some s.transaction), reason.Transaction)
     ∷ (table_wrong c (current s), reason.Table)
-    ∷ (writes_spent bounds c (writes_so_far s.transaction), reason.Writes)
-    ∷ (tables_spent bounds c (current s), reason.Tables)
-    ∷ (rows_spent bounds c (current s), reason.Full) ∷ []
+    ∷ (writes_spent bounds.writes c (writes_so_far s.transaction), reason.Writes)
+    ∷ (tables_spent bounds.tables c (current s), reason.Tables)
+    ∷ (rows_spent bounds.rows c (current s), reason.Full) ∷ []
 
 -- why a command is refused: the first test that holds
 abbrev pub refusal : Bounds → State → Command → Option Reason
