@@ -2,7 +2,7 @@
 use Rattle.std.proofs.Common.{◌≡◌, ◌≢◌, ℕ, ◌+◌, ◌-◌, ◌<◌, ◌≤◌, List, [], ◌∷◌, ◌++◌, length, get_or, take, drop, refl, sym, ap, ◌∙◌, arith, Option, Some, None, cond, eqb}
 use Rattle.std.proofs.lemmas.List.{drop_more, drop_all, take-append-drop}
 use Rattle.std.proofs.lemmas.Bool.{eq-eqb, ne_eqb}
-use Rattle.script.specs.Machine.{Rows, last_value, either}
+use Rattle.row_script.specs.Machine.{Rows, last_value, either}
 
 last_value-append : (key : ℕ) (xs ys : Rows) → last_value key (xs ++ ys) ≡ either (last_value key ys) (last_value key xs)
 last_value-append key [] ys = either_none (last_value key ys)

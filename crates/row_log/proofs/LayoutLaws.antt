@@ -4,8 +4,8 @@ use Rattle.std.specs.Prelude.{◌&&◌, ◌==◌, nat_le}
 use Rattle.std.specs.Int.{w64, to_le_bytes}
 use Rattle.std.proofs.lemmas.Bool.{eqb-true, eq-eqb, leb-true, le-leb}
 use Rattle.std.proofs.lemmas.List.{length_push}
-use Rattle.script.specs.Names.{is_value, IsValue}
-use Rattle.script.specs.Machine.{Rows, AreRows, most_rows}
+use Rattle.slotted_page.specs.Value.{is_value, IsValue}
+use Rattle.row_script.specs.Machine.{Rows, AreRows, most_rows}
 use Rattle.row_log.specs.Layout.{Words, magic, gate, record_word, record_bytes, value_at, row_at, rows_below, is_row, are_rows, is_row_log, rows_of}
 
 -- two words functions have the same record i

@@ -7,8 +7,8 @@ use Rattle.nvm_model.specs.declared.line.Line.{Line}
 use Rattle.devices.specs.State.{State, current, line_at}
 use Rattle.devices.specs.World.{Standing, Goes, Stays, Rose, now}
 use Rattle.devices.proofs.MomentLaws.{Moments-trans, Moments-map}
-use Rattle.script.specs.Names.{IsValue, is_value}
-use Rattle.script.specs.Machine.{Rows, most_rows}
+use Rattle.slotted_page.specs.Value.{IsValue, is_value}
+use Rattle.row_script.specs.Machine.{Rows, most_rows}
 use Rattle.row_log.specs.declared.errors.OpenError.{OpenError}
 use Rattle.row_log.specs.declared.errors.OpenError.TheVariants.{TooSmall, Nvm, NotAStore, NoMemory}
 use Rattle.row_log.specs.Layout.{Words, magic, gate, record_word, is_row, are_rows, row_at, rows_below, rows_of}

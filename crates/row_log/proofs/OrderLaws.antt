@@ -5,7 +5,7 @@ use Rattle.devices.specs.State.{State, Image, Leaves, fresh, current}
 use Rattle.devices.specs.Growth.{Grows, no_write}
 use Rattle.nvm_model.proofs.WordLaws.{single_version}
 use Rattle.devices.proofs.GrowthLaws.{Grows-version, Grows-refl}
-use Rattle.script.specs.Machine.{Rows}
+use Rattle.row_script.specs.Machine.{Rows}
 use Rattle.row_log.specs.Layout.{gate, record_line, rows_of}
 use Rattle.row_log.specs.InOrder.{InOrder, Holds}
 use Rattle.row_log.proofs.LayoutLaws.{SameRecords, rows_of-same}

@@ -9,8 +9,8 @@ use Rattle.devices.specs.World.{Standing, Goes, Moments, MakesAll, now}
 use Rattle.devices.specs.Growth.{Grows, no_write}
 use Rattle.nvm_model.proofs.WordLaws.{single_version, IsSingle-trimmed}
 use Rattle.devices.proofs.MomentLaws.{Moments-trans, Moments-map}
-use Rattle.script.specs.Names.{IsValue}
-use Rattle.script.specs.Machine.{Rows}
+use Rattle.slotted_page.specs.Value.{IsValue}
+use Rattle.row_script.specs.Machine.{Rows}
 use Rattle.row_log.specs.Layout.{Words, gate, record_line, rows_of, row_at, is_row}
 use Rattle.row_log.specs.InOrder.{InOrder, Holds, Puts, HasOrMore}
 use Rattle.row_log.specs.Record.{IsRecord}

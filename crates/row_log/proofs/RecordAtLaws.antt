@@ -5,7 +5,8 @@ use Rattle.std.specs.List.{flat_map, list_all}
 use Rattle.std.specs.Int.{w64, to_le_bytes}
 use Rattle.std.proofs.lemmas.Bool.{leb-true, le-leb}
 use Rattle.std.proofs.lemmas.List.{take_at, drop_all}
-use Rattle.script.specs.Names.{is_value, is_value_byte, IsValue}
+use Rattle.slotted_page.specs.Node.{is_printable}
+use Rattle.slotted_page.specs.Value.{is_value, IsValue}
 use Rattle.row_log.specs.Layout.{Words, record_word, record_bytes, value_at, row_at, is_row}
 use Rattle.row_log.specs.Record.{numbers_from, record_words, bytes_of, value_in, row_in, IsRecord}
 use Rattle.row_log.proofs.LayoutLaws.{both_true}
@@ -68,7 +69,7 @@ record_value ws row is =
     ap (λ (n : ℕ). take n (drop 16 (bytes_of ws))) is.size ∙ ap (λ (xs : List ℕ). take (length row.1) xs) is.bytes ∙ take_at row.1 (replicate (496 - length row.1) 0) (length row.1) refl
 
 value_short : (bytes : List ℕ) → is_value bytes ≡ true → length bytes ≤ 480
-value_short bytes e = leb-true (length bytes) 480 (both_true (nat_le (length bytes) 480) (list_all is_value_byte bytes) e).0
+value_short bytes e = leb-true (length bytes) 480 (both_true (nat_le (length bytes) 480) (list_all is_printable bytes) e).0
 
 -- What it says that record i is a row.
 pub record StandsAt (words : Words) (i : ℕ) (row : ℕ × List ℕ) : Type 0 where

@@ -7,7 +7,7 @@ use Rattle.std.specs.List.{flat_map}
 use Rattle.std.specs.Int.{w64, to_le_bytes, from_le_bytes}
 use Rattle.byteorder.specs.Endian.{little_from, little_number, IsRead}
 use Rattle.byteorder.specs.Numbers.{little_from-take}
-use Rattle.script.specs.Names.{is_value, value_of}
+use Rattle.slotted_page.specs.Value.{is_value, value_of}
 use Rattle.row_log.specs.Record.{bytes_of, IsRecord, value_in, row_in}
 
 take_below : (n : ℕ) (bytes : List ℕ) → ((i : ℕ) → slice_index bytes i < 256) → (i : ℕ) → slice_index (take n bytes) i < 256

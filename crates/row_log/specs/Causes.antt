@@ -2,7 +2,7 @@
 use Rattle.std.specs.Prelude.{◌≡◌, Bool, true, false, ◌&&◌, ◌==◌, nat_le, Result, IfErr, OnOk, IsTrue, None, IsSome}
 use Rattle.devices.specs.State.{current}
 use Rattle.devices.specs.World.{Standing, Rose, Stays, now}
-use Rattle.script.specs.Machine.{most_rows}
+use Rattle.row_script.specs.Machine.{most_rows}
 use Rattle.row_log.specs.Layout.{Words, magic, gate, rows_of}
 use Rattle.row_log.specs.declared.errors.FormatError.{FormatError}
 use Rattle.row_log.specs.declared.errors.OpenError.{OpenError}

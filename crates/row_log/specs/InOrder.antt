@@ -3,7 +3,7 @@ use Rattle.std.specs.Prelude.{◌≡◌, ◌≢◌, ◌⊎◌, ℕ, ◌+◌, ◌
 use Rattle.nvm_model.specs.Word.{IsSingle}
 use Rattle.devices.specs.State.{State, Image, Leaves, fresh, current}
 use Rattle.devices.specs.World.{Standing, Moments, now}
-use Rattle.script.specs.Machine.{Rows}
+use Rattle.row_script.specs.Machine.{Rows}
 use Rattle.row_log.specs.Layout.{magic, gate, record_line, rows_of}
 
 -- the rows that loads give

@@ -1,6 +1,6 @@
 -- What is always true of the rows of an opened log.
 use Rattle.std.specs.Prelude.{ℕ, ◌≤◌, length}
-use Rattle.script.specs.Machine.{Rows, AreRows}
+use Rattle.row_script.specs.Machine.{Rows, AreRows}
 
 -- there are at most 256 rows, with room for 256, and each value is one
 pub record IsKept (rows : Rows) (capacity : ℕ) : Type 0 where

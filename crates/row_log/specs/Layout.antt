@@ -1,8 +1,8 @@
 -- The layout of a log of rows, by what stands in each word of each line.
 use Rattle.std.specs.Prelude.{codes, ℕ, zero, suc, ◌+◌, ◌*◌, ◌/◌, ◌%◌, Bool, true, ◌&&◌, ◌==◌, nat_le, List, [], ◌∷◌, ◌++◌, take, Option, Some, None, if◌then◌else◌}
 use Rattle.std.specs.Int.{w64, to_le_bytes, from_le_bytes}
-use Rattle.script.specs.Names.{is_value}
-use Rattle.script.specs.Machine.{Rows, most_rows}
+use Rattle.slotted_page.specs.Value.{is_value}
+use Rattle.row_script.specs.Machine.{Rows, most_rows}
 
 -- what stands in each word, by its line and its place in the line
 abbrev pub Words : Type 0

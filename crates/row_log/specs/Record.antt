@@ -2,7 +2,7 @@
 use Rattle.std.specs.Prelude.{◌≡◌, ℕ, zero, suc, ◌-◌, ◌&&◌, nat_le, List, [], ◌∷◌, ◌++◌, take, drop, length, replicate, slice_index, Option, Some, None, if◌then◌else◌}
 use Rattle.std.specs.List.{flat_map}
 use Rattle.std.specs.Int.{w64, to_le_bytes}
-use Rattle.script.specs.Names.{is_value}
+use Rattle.slotted_page.specs.Value.{is_value}
 use Rattle.row_log.specs.Layout.{Words, record_word}
 
 -- n numbers, from the one at k on

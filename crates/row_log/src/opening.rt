@@ -1,8 +1,8 @@
 //! Opening: the records of the log are read and checked.
 ghost use Rattle.std.specs.Prelude.{◌≡◌, ◌+◌, ◌<◌, ◌≤◌, ◌↔◌, ℕ, [], Some, Err, IsTrue, IfOk, length, vec_capacity};
 ghost use Rattle.devices.specs.World.{Goes, Stays, NvmCause};
-ghost use Rattle.script.specs.Names.{IsValue};
-ghost use Rattle.script.specs.Machine.{AreRows};
+ghost use Rattle.slotted_page.specs.Value.{IsValue};
+ghost use Rattle.row_script.specs.Machine.{AreRows};
 ghost use Rattle.row_log.specs.Layout.{gate, least_lines, is_row, are_rows, row_at, rows_below, rows_of};
 ghost use Rattle.row_log.specs.Record.{record_words};
 ghost use Rattle.row_log.specs.Kept.{IsKept};

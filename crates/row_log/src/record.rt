@@ -1,13 +1,13 @@
 //! The 64 words of a record: word 0 is the key, word 1 the length of the value, and byte j of the value is byte
 //! `j % 8` of word `2 + j / 8`, little-endian. Bytes behind the value are 0.
 ghost use Rattle.std.specs.Prelude.{◌≡◌, ◌+◌, ◌-◌, ◌*◌, ◌<◌, ◌≤◌, ◌++◌, length, take, drop, replicate};
-ghost use Rattle.script.specs.Names.{IsValue};
+ghost use Rattle.slotted_page.specs.Value.{IsValue};
 ghost use Rattle.row_log.specs.Record.{IsRecord, row_in};
 ghost use Rattle.row_log.specs.Steps.{line_in};
 
 use byteorder::{ByteOrder, LittleEndian};
 use nvm_model::Line;
-use script::Value;
+use slotted_page::Value;
 use std::marker::Model;
 
 /// A key with its value. Contracts see the pair.

@@ -1,8 +1,8 @@
 //! The rows of an opened log.
 ghost use Rattle.std.specs.Prelude.{◌≡◌, ◌+◌, ◌<◌, ◌≤◌, [], ◌∷◌, ◌++◌, ℕ, length, nat_le, vec_len, vec_capacity, IsTrue, OnOk, OnErr};
 ghost use Rattle.devices.specs.World.{Goes, NvmCause, now};
-ghost use Rattle.script.specs.Names.{IsValue};
-ghost use Rattle.script.specs.Machine.{Rows, AreRows, last_value, most_rows};
+ghost use Rattle.slotted_page.specs.Value.{IsValue};
+ghost use Rattle.row_script.specs.Machine.{Rows, AreRows, last_value, most_rows};
 ghost use Rattle.row_log.specs.Layout.{least_lines};
 ghost use Rattle.row_log.specs.InOrder.{Holds, InOrder, Puts};
 ghost use Rattle.row_log.specs.Kept.{IsKept};
@@ -11,7 +11,7 @@ use crate::layout::{FIRST_RECORD, GATE_LINE, MOST_ROWS};
 use crate::record::{Row, words_of};
 use crate::staging::{move_gate, stage};
 use devices::{Devices, Failed};
-use script::Value;
+use slotted_page::Value;
 use std::marker::Model;
 
 /// All rows of an opened log, in the order in which they were put. Contracts see the list of pairs.

@@ -2,7 +2,7 @@
 use crate::layout::LEAST_LINES;
 use crate::{FormatError, OpenError, RowLog, format};
 use devices::{Devices, Fault, FaultKind, MemWorld};
-use script::Value;
+use slotted_page::Value;
 use std::alloc::Global;
 
 /// A world with zeros in so many lines, and these faults.

@@ -1,10 +1,9 @@
-pub mod NumbersLaws
-pub mod FieldsLaws
 pub mod ShapesLaws
 pub mod GrammarLaws
-pub mod LinesLaws
-pub mod RunsLaws
-pub mod OutputLaws
 pub mod RepliesLaws
 pub mod MachineLaws
+pub mod ValuesLaws
+pub mod ScriptLaws
+pub mod TransactionLaws
+pub mod LoopLaws
 pub mod Worked

@@ -1,195 +1,126 @@
--- The plain machine: what its steps keep, and what they reply.
-use Rattle.std.proofs.Common.{◌≡◌, ℕ, ◌+◌, ◌<◌, ◌≤◌, Bool, true, false, cond, List, [], ◌∷◌, ◌++◌, length, zero-add, add-zero, refl, ap, sym, ◌∙◌, arith, length-append, Option, Some, None}
-use Rattle.std.proofs.lemmas.Bool.{le-leb, lt-leb}
-use Rattle.std.proofs.lemmas.List.Sums.{sum_by-append}
-use Rattle.std.specs.Prelude.{nat_le, ◌==◌, ◌||◌, count_by, IfSome}
-use Rattle.std.specs.List.{list_any, AllByRecursion}
-use Rattle.script.specs.Names.{IsValue}
-use Rattle.script.specs.Grammar.{IsCommand, command_of, commands}
-use Rattle.script.specs.Replies.{IsReply, text, is_committed}
-use Rattle.script.specs.Output.{strip, acked}
-use Rattle.script.specs.Runs as run
-use Rattle.script.specs.Machine.{Rows, AreRows, State, opening, either, last_value, found, most_rows, step, machine}
-use Rattle.script.specs.Script.{replies, commits}
+-- The plain machine: what its steps keep.
+use Rattle.std.proofs.Common.{◌≡◌, ℕ, suc, ◌+◌, Bool, true, false, cond, List, [], ◌∷◌, ◌++◌, length, refl, ap, ◌∙◌, Option, Some, None}
+use Rattle.std.specs.List.{list_any}
+use Rattle.std.specs.Prelude.{is_some, map, option_map}
+use Rattle.slotted_page.specs.Rows.{Row, row_get, row_put, row_delete}
+use Rattle.script.specs.Tables.{has_row, row_range}
+use Rattle.texts.specs.Runs.{versions, commits}
+use Rattle.script.specs.Replies.{is_committed}
+use Rattle.script.specs.Machine.{Bounds, Open, State, refusal, accepted, judged, step, current, rows_in, written, found}
+use Rattle.script.specs.Script.{machine}
+use Rattle.table_store.specs.Catalog.{Table}
+use Rattle.table_store.specs.Stored.{with_rows}
+use Rattle.script.specs.Tables.{with_table}
 use Rattle.script.specs.declared.command.Command.{Command}
-use Rattle.script.specs.declared.command.Command.TheVariants.{Put, Get}
+use Rattle.script.specs.declared.command.Command.TheVariants.{Create, Begin, Put, Del, Get, Scan, Commit, Abort, Checkpoint, Drain, Clean}
+use Rattle.script.specs.declared.command.Reason.{Reason}
 use Rattle.script.specs.declared.command.Reply.{Reply}
-use Rattle.script.specs.declared.command.Reply.TheVariants.{Committed, Refused}
-use Rattle.script.specs.declared.command.Reason.TheVariants.{Full}
-use Rattle.script.proofs.RunsLaws.{after_so_far, after_next}
-use Rattle.script.proofs.GrammarLaws.{IsCommand-read, IsCommand-script}
-use Rattle.script.proofs.RepliesLaws.{strip-text, acked-text}
+use Rattle.script.specs.declared.command.Reply.TheVariants as reply
+use Rattle.script.specs.declared.command.Reply.TheVariants.{Fine, Absent, Finish}
 
--- ---- a step
+-- the committed tables change only where a commit is told
+cond_tables : (tables : List Table) (b : Bool) (x y : State × List Reply) → x.0.tables ≡ tables → y.0.tables ≡ tables → (cond b x y).0.tables ≡ tables
+cond_tables tables true x y hx hy = hx
+cond_tables tables false x y hx hy = hy
 
--- it tells of a commit
+accepted_keeps : (s : State) (c : Command) → list_any is_committed (accepted s c).1 ≡ false → (accepted s c).0.tables ≡ s.tables
+accepted_keeps s Commit h = absurd cc
+accepted_keeps s (Del t k) h = cond_tables s.tables (has_row k (rows_in t s)) (written (with_rows t (row_delete k (rows_in t s)) (current s)) s, Fine ∷ []) (s, Absent ∷ []) refl refl
+accepted_keeps s _ h = refl
+
+judged_keeps : (o : Option Reason) (s : State) (c : Command) → list_any is_committed (judged o s c).1 ≡ false → (judged o s c).0.tables ≡ s.tables
+judged_keeps None s c h = accepted_keeps s c h
+judged_keeps (Some r) s c h = refl
+
+pub step_keeps : (bounds : Bounds) (s : State) (c : Option Command) → list_any is_committed (step bounds s c).1 ≡ false → (step bounds s c).0.tables ≡ s.tables
+step_keeps bounds s None h = refl
+step_keeps bounds s (Some c) h = judged_keeps (refusal bounds s c) s c h
+
+-- ---- what is open, and what is told, follows from the commands alone
+
+abbrev pub is_open : State → Bool
+is_open s = is_some s.transaction
+
 abbrev pub tells : State × List Reply → Bool
 tells r = list_any is_committed r.1
 
--- What a property of the refusal and of the acceptance of a put says of the put.
-by_put : (P : State × List Reply → Type 0) (s : State) (k : ℕ) (v : List ℕ) →
-    P (s, Refused Full ∷ []) →
-    P (record { rows = s.rows ++ (k, v) ∷ []; puts = s.puts + 1 }, Committed (s.puts + 1) ∷ []) →
-    P (step s (Some (Put k v)))
-by_put P s k v full room =
-    elim (nat_le most_rows (length s.rows)) as (λ b. P (cond b (s, Refused Full ∷ []) (record { rows = s.rows ++ (k, v) ∷ []; puts = s.puts + 1 }, Committed (s.puts + 1) ∷ [])))
-    [ true ↦ full | false ↦ room ]
+-- whether a command tells of a commit, and whether a transaction is open after it
+abbrev pub signal : Option Command → Bool → Bool × Bool
+signal (Some Begin) o = (false, true)
+signal (Some Commit) o = (o, false)
+signal (Some Abort) o = (false, false)
+signal _ o = (false, o)
 
-found_untold : (o : Option (List ℕ)) → is_committed (found o) ≡ false
-found_untold None = refl
-found_untold (Some v) = refl
+no_row_tells : (rows : List Row) (rest : List Reply) → list_any is_committed (map (λ (row : Row). reply.Row row.0 row.1) rows ++ rest) ≡ list_any is_committed rest
+no_row_tells [] rest = refl
+no_row_tells (row ∷ rows) rest = no_row_tells rows rest
 
--- a get tells of none
-pub get_untold : (s : State) (k : ℕ) → tells (step s (Some (Get k))) ≡ false
-get_untold s k = rw (found_untold (last_value k s.rows)) refl
+written_open : (tables : List Table) (s : State) → is_open (written tables s) ≡ is_open s
+written_open tables s = still s.transaction
+  where
+    still : (o : Option Open) → is_some (option_map (λ (o : Open). let r : Open = record { tables = tables; writes = o.writes + 1 } in r) o) ≡ is_some o
+    still None = refl
+    still (Some o) = refl
 
--- the rows change only where a commit is told
-pub step_keeps : (s : State) (c : Option Command) → tells (step s c) ≡ false → (step s c).0.rows ≡ s.rows
-step_keeps s None h = refl
-step_keeps s (Some (Put k v)) h = by_put (λ r. tells r ≡ false → r.0.rows ≡ s.rows) s k v (λ e. refl) (λ e. absurd (let f : true ≡ false = e in cc)) h
-step_keeps s (Some (Get k)) h = refl
+-- a command that neither begins nor ends a transaction
+pub record Quiet (s : State) (r : State × List Reply) : Type 0 where
+  pub silent : tells r ≡ false
+  pub same : is_open r.0 ≡ is_open s
 
--- the puts are counted by the commits that are told
-pub step_counts : (s : State) (c : Option Command) → (step s c).0.puts ≡ s.puts + cond (tells (step s c)) 1 0
-step_counts s None = sym (add-zero s.puts)
-step_counts s (Some (Put k v)) = by_put (λ r. r.0.puts ≡ s.puts + cond (tells r) 1 0) s k v (sym (add-zero s.puts)) refl
-step_counts s (Some (Get k)) = rw (get_untold s k) (sym (add-zero s.puts))
+quiet_cond : (s : State) (b : Bool) (x y : State × List Reply) → Quiet s x → Quiet s y → Quiet s (cond b x y)
+quiet_cond s true x y hx hy = hx
+quiet_cond s false x y hx hy = hy
 
--- and so are the rows
-pub step_length : (s : State) (c : Option Command) → length (step s c).0.rows ≡ length s.rows + cond (tells (step s c)) 1 0
-step_length s None = sym (add-zero (length s.rows))
-step_length s (Some (Put k v)) = by_put (λ r. length r.0.rows ≡ length s.rows + cond (tells r) 1 0) s k v (sym (add-zero (length s.rows))) (length-append s.rows ((k, v) ∷ []))
-step_length s (Some (Get k)) = rw (get_untold s k) (sym (add-zero (length s.rows)))
+quiet_found : (s : State) (o : Option (List ℕ)) → Quiet s (s, found o ∷ [])
+quiet_found s None = record { silent = refl; same = refl }
+quiet_found s (Some v) = record { silent = refl; same = refl }
 
--- a put where there is room, and where there is none
-pub step_room : (s : State) (k : ℕ) (v : List ℕ) → length s.rows < most_rows →
-    step s (Some (Put k v)) ≡ (record { rows = s.rows ++ (k, v) ∷ []; puts = s.puts + 1 }, Committed (s.puts + 1) ∷ [])
-step_room s k v h = rw (lt-leb most_rows (length s.rows) h) refl
+quiet_judged : (o : Option Reason) (s : State) (c : Command) → Quiet s (accepted s c) → Quiet s (judged o s c)
+quiet_judged None s c h = h
+quiet_judged (Some r) s c h = record { silent = refl; same = refl }
 
-pub step_full : (s : State) (k : ℕ) (v : List ℕ) → most_rows ≤ length s.rows → step s (Some (Put k v)) ≡ (s, Refused Full ∷ [])
-step_full s k v h = rw (le-leb most_rows (length s.rows) h) refl
+signal_quiet : (bounds : Bounds) (s : State) (c : Command) → Quiet s (accepted s c) → (tells (step bounds s (Some c)) ≡ false) × (is_open (step bounds s (Some c)).0 ≡ is_open s)
+signal_quiet bounds s c h = let q = quiet_judged (refusal bounds s c) s c h in (q.silent, q.same)
 
--- ---- rows and replies that can be written
+begin_signal : (o : Option Open) (s : State) → s.transaction ≡ o → (bounds : Bounds) → (tells (step bounds s (Some Begin)) ≡ false) × (is_open (step bounds s (Some Begin)).0 ≡ true)
+begin_signal None s e bounds = rw e (refl, refl)
+begin_signal (Some o) s e bounds = rw e (refl, refl)
 
-pub AreRows-append : (rows more : Rows) → AreRows rows → AreRows more → AreRows (rows ++ more)
-AreRows-append [] more h k = k
-AreRows-append (row ∷ rows) more h k = (h.0, AreRows-append rows more h.1 k)
+commit_signal : (o : Option Open) (s : State) → s.transaction ≡ o → (bounds : Bounds) → (tells (step bounds s (Some Commit)) ≡ is_some o) × (is_open (step bounds s (Some Commit)).0 ≡ false)
+commit_signal None s e bounds = rw e (refl, refl)
+commit_signal (Some o) s e bounds = rw e (refl, refl)
 
--- one row more
-pub AreRows-put : (rows : Rows) (k : ℕ) (v : List ℕ) → AreRows rows → IsValue v → AreRows (rows ++ (k, v) ∷ [])
-AreRows-put rows k v h value = AreRows-append rows ((k, v) ∷ []) h (value, tt)
+abort_signal : (o : Option Open) (s : State) → s.transaction ≡ o → (bounds : Bounds) → (tells (step bounds s (Some Abort)) ≡ false) × (is_open (step bounds s (Some Abort)).0 ≡ false)
+abort_signal None s e bounds = rw e (refl, refl)
+abort_signal (Some o) s e bounds = rw e (refl, refl)
 
-either_value : (o p : Option (List ℕ)) → IfSome o IsValue → IfSome p IsValue → IfSome (either o p) IsValue
-either_value None p h k = k
-either_value (Some v) p h k = h
+pub step_signal : (bounds : Bounds) (s : State) (c : Option Command) →
+    (tells (step bounds s c) ≡ (signal c (is_open s)).0) × (is_open (step bounds s c).0 ≡ (signal c (is_open s)).1)
+step_signal bounds s None = (refl, refl)
+step_signal bounds s (Some Begin) = begin_signal s.transaction s refl bounds
+step_signal bounds s (Some Commit) = commit_signal s.transaction s refl bounds
+step_signal bounds s (Some Abort) = abort_signal s.transaction s refl bounds
+step_signal bounds s (Some (Create t)) = signal_quiet bounds s (Create t) (record { silent = refl; same = written_open (with_table t (current s)) s })
+step_signal bounds s (Some (Put t k v)) = signal_quiet bounds s (Put t k v) (record { silent = refl; same = written_open (with_rows t (row_put k v (rows_in t s)) (current s)) s })
+step_signal bounds s (Some (Del t k)) = signal_quiet bounds s (Del t k)
+    (quiet_cond s (has_row k (rows_in t s)) (written (with_rows t (row_delete k (rows_in t s)) (current s)) s, Fine ∷ []) (s, Absent ∷ [])
+    (record { silent = refl; same = written_open (with_rows t (row_delete k (rows_in t s)) (current s)) s }) (record { silent = refl; same = refl }))
+step_signal bounds s (Some (Get t k)) = signal_quiet bounds s (Get t k) (quiet_found s (row_get k (rows_in t s)))
+step_signal bounds s (Some (Scan t low high)) = signal_quiet bounds s (Scan t low high)
+    (record { silent = no_row_tells (row_range low high (rows_in t s)) (Finish (length (row_range low high (rows_in t s))) ∷ []); same = refl })
+step_signal bounds s (Some Checkpoint) = signal_quiet bounds s Checkpoint (record { silent = refl; same = refl })
+step_signal bounds s (Some Drain) = signal_quiet bounds s Drain (record { silent = refl; same = refl })
+step_signal bounds s (Some (Clean n)) = signal_quiet bounds s (Clean n) (record { silent = refl; same = refl })
 
--- what is found is a value
-pub IsValue-last : (key : ℕ) (rows : Rows) → AreRows rows → IfSome (last_value key rows) IsValue
-IsValue-last key [] h = tt
-IsValue-last key (row ∷ rows) h =
-    either_value (last_value key rows) (cond (key == row.0) (Some row.1) None) (IsValue-last key rows h.1)
-    (elim (key == row.0) as (λ b. IfSome (cond b (Some row.1) None) IsValue) [ true ↦ h.0 | false ↦ tt ])
+-- how many commits are accepted, by the commands alone
+abbrev pub commits_of : Bool → List (Option Command) → ℕ
+commits_of o [] = 0
+commits_of o (c ∷ cs) = cond (signal c o).0 (suc (commits_of (signal c o).1 cs)) (commits_of (signal c o).1 cs)
 
-reply_found : (o : Option (List ℕ)) → IfSome o IsValue → IsReply (found o)
-reply_found None h = tt
-reply_found (Some v) h = h
-
-pub IsReply-found : (key : ℕ) (rows : Rows) → AreRows rows → IsReply (found (last_value key rows))
-IsReply-found key rows h = reply_found (last_value key rows) (IsValue-last key rows h)
-
-pub AreRows-step : (s : State) (c : Option Command) → AreRows s.rows → IfSome c IsCommand → AreRows (step s c).0.rows
-AreRows-step s None h k = h
-AreRows-step s (Some (Put key v)) h k = by_put (λ r. AreRows r.0.rows) s key v h (AreRows-put s.rows key v h k.1)
-AreRows-step s (Some (Get key)) h k = h
-
-pub IsReply-step : (s : State) (c : Option Command) → AreRows s.rows → AllByRecursion IsReply (step s c).1
-IsReply-step s None h = (tt, tt)
-IsReply-step s (Some (Put key v)) h = by_put (λ r. AllByRecursion IsReply r.1) s key v (tt, tt) (tt, tt)
-IsReply-step s (Some (Get key)) h = (IsReply-found key s.rows h, tt)
-
--- ---- runs
-
--- the puts and the rows grow with the commits
-pub puts_commits : (s : State) (cs : List (Option Command)) → (run.state_after machine s cs).puts ≡ s.puts + run.commits machine s cs
-puts_commits s [] = sym (add-zero s.puts)
-puts_commits s (c ∷ cs) =
-    let after : State = (step s c).0 in
-    puts_commits after cs ∙ ap (λ n. n + run.commits machine after cs) (step_counts s c)
-    ∙ elim (tells (step s c)) as (λ b. (s.puts + cond b 1 0) + run.commits machine after cs ≡ s.puts + length (cond b (after.rows ∷ run.versions machine after cs) (run.versions machine after cs)))
-    [ true ↦ omega arith | false ↦ omega arith ]
-
-pub rows_commits : (s : State) (cs : List (Option Command)) → length (run.state_after machine s cs).rows ≡ length s.rows + run.commits machine s cs
-rows_commits s [] = sym (add-zero (length s.rows))
-rows_commits s (c ∷ cs) =
-    let after : State = (step s c).0 in
-    rows_commits after cs ∙ ap (λ n. n + run.commits machine after cs) (step_length s c)
-    ∙ elim (tells (step s c)) as (λ b. (length s.rows + cond b 1 0) + run.commits machine after cs ≡ length s.rows + length (cond b (after.rows ∷ run.versions machine after cs) (run.versions machine after cs)))
-    [ true ↦ omega arith | false ↦ omega arith ]
-
-pub AreRows-run : (s : State) (cs : List (Option Command)) → AreRows s.rows → AllByRecursion (λ c. IfSome c IsCommand) cs → AreRows (run.state_after machine s cs).rows
-AreRows-run s [] h k = h
-AreRows-run s (c ∷ cs) h k = AreRows-run (step s c).0 cs (AreRows-step s c h k.0) k.1
-
-All-append : {A : Type 0} (P : A → Type 0) (xs ys : List A) → AllByRecursion P xs → AllByRecursion P ys → AllByRecursion P (xs ++ ys)
-All-append P [] ys h k = k
-All-append P (x ∷ xs) ys h k = (h.0, All-append P xs ys h.1 k)
-
-pub IsReply-run : (s : State) (cs : List (Option Command)) → AreRows s.rows → AllByRecursion (λ c. IfSome c IsCommand) cs → AllByRecursion IsReply (run.replies machine s cs)
-IsReply-run s [] h k = tt
-IsReply-run s (c ∷ cs) h k =
-    All-append IsReply (step s c).1 (run.replies machine (step s c).0 cs) (IsReply-step s c h) (IsReply-run (step s c).0 cs (AreRows-step s c h k.0) k.1)
-
--- each commit has one reply
-count-append : (rs qs : List Reply) → count_by is_committed (rs ++ qs) ≡ count_by is_committed rs + count_by is_committed qs
-count-append rs qs = sum_by-append (λ s. cond (is_committed s) 1 0) rs qs
-
-single : (r : Reply) → count_by is_committed (r ∷ []) ≡ cond (list_any is_committed (r ∷ [])) 1 0
-single r = elim (is_committed r) as (λ b. 0 + cond b 1 0 ≡ cond (b || false) 1 0) [ true ↦ refl | false ↦ refl ]
-
-one_commit : (s : State) (c : Option Command) → count_by is_committed (step s c).1 ≡ cond (tells (step s c)) 1 0
-one_commit s None = refl
-one_commit s (Some (Put k v)) = by_put (λ r. count_by is_committed r.1 ≡ cond (tells r) 1 0) s k v refl refl
-one_commit s (Some (Get k)) = single (found (last_value k s.rows))
-
-pub count_commits : (s : State) (cs : List (Option Command)) → count_by is_committed (run.replies machine s cs) ≡ run.commits machine s cs
-count_commits s [] = refl
-count_commits s (c ∷ cs) =
-    let after : State = (step s c).0 in
-    count-append (step s c).1 (run.replies machine after cs)
-    ∙ ap (λ n. n + count_by is_committed (run.replies machine after cs)) (one_commit s c)
-    ∙ elim (tells (step s c)) as (λ b. cond b 1 0 + count_by is_committed (run.replies machine after cs) ≡ length (cond b (after.rows ∷ run.versions machine after cs) (run.versions machine after cs)))
-    [ true ↦ let ih = count_commits after cs in omega (arith, ih) | false ↦ zero-add _ ∙ count_commits after cs ]
-
--- what one step says acknowledges its commit
-pub acked-step : (s : State) (c : Option Command) → AreRows s.rows → acked (text (step s c).1) ≡ cond (tells (step s c)) 1 0
-acked-step s c h = acked-text (step s c).1 (IsReply-step s c h) ∙ one_commit s c
-
--- ---- lines
-
--- a line of a script keeps the rows such as can be written
-pub AreRows-line : (s : State) (line : List ℕ) → AreRows s.rows → AreRows (step s (command_of line)).0.rows
-AreRows-line s line h = AreRows-step s (command_of line) h (IsCommand-read line)
-
--- ---- scripts
-
--- after the commits so far the rows that are reached stand, whatever follows
-pub rows_so_far : (rows : Rows) (xs ys : List (Option Command)) →
-    run.after machine (opening rows) (xs ++ ys) (run.commits machine (opening rows) xs) ≡ (run.state_after machine (opening rows) xs).rows
-rows_so_far rows xs ys = after_so_far machine step_keeps (opening rows) xs ys
-
--- and after one commit more those that the step leaves which tells of it
-pub rows_next : (rows : Rows) (xs : List (Option Command)) (c : Option Command) (ys : List (Option Command)) →
-    tells (step (run.state_after machine (opening rows) xs) c) ≡ true →
-    run.after machine (opening rows) (xs ++ c ∷ ys) (run.commits machine (opening rows) xs + 1) ≡ (step (run.state_after machine (opening rows) xs) c).0.rows
-rows_next rows xs c ys h = after_next machine step_keeps (opening rows) xs c ys h
-
-pub IsReply-script : (rows : Rows) (script : List ℕ) → AreRows rows → AllByRecursion IsReply (replies rows script)
-IsReply-script rows script h = IsReply-run (opening rows) (commands script) h (IsCommand-script script)
-
--- the text of the replies acknowledges every commit
-pub acked-replies : (rows : Rows) (script : List ℕ) → AreRows rows → acked (text (replies rows script)) ≡ commits rows script
-acked-replies rows script h = acked-text (replies rows script) (IsReply-script rows script h) ∙ count_commits (opening rows) (commands script)
-
--- and none of it stands aside
-pub strip-replies : (rows : Rows) (script : List ℕ) → AreRows rows → strip (text (replies rows script)) ≡ text (replies rows script)
-strip-replies rows script h = strip-text (replies rows script) (IsReply-script rows script h)
+pub commits_from : (bounds : Bounds) (s : State) (cs : List (Option Command)) → commits (machine bounds) s cs ≡ commits_of (is_open s) cs
+commits_from bounds s [] = refl
+commits_from bounds s (c ∷ cs) =
+    let g = step_signal bounds s c in
+    let rest : commits (machine bounds) (step bounds s c).0 cs ≡ commits_of (signal c (is_open s)).1 cs = commits_from bounds (step bounds s c).0 cs ∙ ap (λ o. commits_of o cs) g.1 in
+    rw g.0 (elim (signal c (is_open s)).0 as (λ b. length (cond b ((step bounds s c).0.tables ∷ versions (machine bounds) (step bounds s c).0 cs) (versions (machine bounds) (step bounds s c).0 cs)) ≡ cond b (suc (commits_of (signal c (is_open s)).1 cs)) (commits_of (signal c (is_open s)).1 cs))
+    [ true ↦ ap suc rest | false ↦ rest ])

@@ -1,114 +1,113 @@
--- Worked scripts, computed.
+-- Worked examples of scripts, computed.
 use Rattle.std.proofs.Common.{◌≡◌, ℕ, List, [], ◌∷◌, ◌++◌, refl, replicate}
 use Rattle.std.specs.Prelude.{codes}
 use Rattle.std.specs.Fmt.{digits}
 use Rattle.script.specs.Replies.{text}
-use Rattle.script.specs.Machine.{Rows}
+use Rattle.table_store.specs.Catalog.{Table}
+use Rattle.script.specs.Machine.{Bounds}
 use Rattle.script.specs.Script.{replies, commits, after}
-use Rattle.script.specs.Output.{strip, acked}
+use Rattle.texts.specs.Output.{strip, acked}
+
+-- the default bounds
+abbrev usual : Bounds
+usual = record { tables = 4; rows = 20000; writes = 32 }
 
 -- some lines, each with its line feed
 abbrev lines_of : List (List ℕ) → List ℕ
 lines_of [] = []
 lines_of (l ∷ ls) = l ++ 10 ∷ lines_of ls
 
--- what is replied to them, where no row stands
-abbrev answers : List (List ℕ) → List ℕ
-answers script = text (replies [] (lines_of script))
+abbrev answers : Bounds → List (List ℕ) → List ℕ
+answers bounds script = text (replies bounds [] (lines_of script))
 
-abbrev refused : List ℕ
-refused = lines_of (codes "refused line" ∷ [])
-
--- the same line some times
-abbrev times : ℕ → List ℕ → List (List ℕ)
-times n line = replicate n line
-
--- two puts with one key: the last one is found, also where its value is empty
-puts_and_gets : answers (codes "put 7 x" ∷ codes "get 7" ∷ codes "put 7 " ∷ codes "get 7" ∷ codes "get 8" ∷ [])
-    ≡ lines_of (codes "committed 1" ∷ codes "value x" ∷ codes "committed 2" ∷ codes "value " ∷ codes "none" ∷ [])
+first : answers usual (codes "begin" ∷ codes "create a" ∷ codes "put a 7 x" ∷ codes "commit" ∷ codes "get a 7" ∷ [])
+    ≡ lines_of (codes "ok" ∷ codes "ok" ∷ codes "ok" ∷ codes "committed 1" ∷ codes "value x" ∷ [])
 unfolding digits
-puts_and_gets = refl
+first = refl
 
--- the rows after each of them
-rows_after : (after [] (lines_of (codes "put 7 x" ∷ codes "get 7" ∷ codes "put 7 " ∷ [])) 0 ≡ [])
-    × (after [] (lines_of (codes "put 7 x" ∷ codes "get 7" ∷ codes "put 7 " ∷ [])) 1 ≡ (7, codes "x") ∷ [])
-    × (after [] (lines_of (codes "put 7 x" ∷ codes "get 7" ∷ codes "put 7 " ∷ [])) 2 ≡ (7, codes "x") ∷ (7, []) ∷ [])
+-- what is refused outside a transaction, and within one
+refusals : answers usual (codes "put a 1 x" ∷ codes "begin" ∷ codes "begin" ∷ codes "put a 1 x" ∷ codes "commit" ∷ codes "commit" ∷ [])
+    ≡ lines_of (codes "refused transaction" ∷ codes "ok" ∷ codes "refused transaction" ∷ codes "refused table" ∷ codes "committed 1" ∷ codes "refused transaction" ∷ [])
 unfolding digits
-rows_after = (refl, refl, refl)
-
--- a log takes 256 rows
-abbrev full : Rows
-full = replicate 255 (7, codes "x")
-
-last_row : text (replies full (lines_of (codes "put 1 a" ∷ codes "put 2 b" ∷ codes "put 7 c" ∷ codes "get 1" ∷ codes "get 7" ∷ [])))
-    ≡ lines_of (codes "committed 1" ∷ codes "refused full" ∷ codes "refused full" ∷ codes "value a" ∷ codes "value x" ∷ [])
-unfolding digits
-last_row = refl
-
--- so 257 puts make 256 commits
-most_puts : commits [] (lines_of (times 257 (codes "put 7 x"))) ≡ 256
-unfolding digits
-most_puts = refl
-
--- and a later run, over those rows, makes none
-no_more : (text (replies (replicate 256 (7, codes "x")) (lines_of (codes "put 8 y" ∷ codes "get 8" ∷ []))) ≡ lines_of (codes "refused full" ∷ codes "none" ∷ []))
-    × (commits (replicate 256 (7, codes "x")) (lines_of (codes "put 8 y" ∷ [])) ≡ 0)
-unfolding digits
-no_more = (refl, refl)
+refusals = refl
 
 -- values of 480 and 481 bytes
-long_values : answers ((codes "put 7 " ++ replicate 480 118) ∷ (codes "put 7 " ++ replicate 481 118) ∷ codes "get 7" ∷ [])
-    ≡ lines_of (codes "committed 1" ∷ codes "refused line" ∷ (codes "value " ++ replicate 480 118) ∷ [])
+long_values : answers usual (codes "begin" ∷ codes "create a" ∷ (codes "put a 1 " ++ replicate 480 118) ∷ (codes "put a 1 " ++ replicate 481 118) ∷ [])
+    ≡ lines_of (codes "ok" ∷ codes "ok" ∷ codes "ok" ∷ codes "refused line" ∷ [])
 unfolding digits
 long_values = refl
 
--- what is no form
-no_forms : (answers (codes "put 007 x" ∷ []) ≡ refused)
-    × (answers (codes "get 18446744073709551616" ∷ []) ≡ refused)
-    × (answers (codes "get" ∷ []) ≡ refused)
-    × (answers (codes "get " ∷ []) ≡ refused)
-    × (answers (codes "get  7" ∷ []) ≡ refused)
-    × (answers (codes "get 7 " ∷ []) ≡ refused)
-    × (answers (codes " get 7" ∷ []) ≡ refused)
-    × (answers (codes "put 7" ∷ []) ≡ refused)
-    × (answers (codes "puts 7 x" ∷ []) ≡ refused)
-    × (answers (codes "PUT 7 x" ∷ []) ≡ refused)
-    × (answers (replicate 1025 118 ∷ []) ≡ refused)
-unfolding digits
-no_forms = (refl, refl, refl, refl, refl, refl, refl, refl, refl, refl, refl)
-
--- the whole range of keys, and a value with spaces
-edges : answers (codes "put 18446744073709551615 q" ∷ codes "put 0 b c " ∷ codes "get 18446744073709551615" ∷ codes "get 0" ∷ [])
-    ≡ lines_of (codes "committed 1" ∷ codes "committed 2" ∷ codes "value q" ∷ codes "value b c " ∷ [])
+-- an empty value, and what is no form
+edges : answers usual (codes "begin" ∷ codes "create a" ∷ codes "put a 1 " ∷ codes "get a 1" ∷ codes "put a 1" ∷ codes "put a 007 x" ∷ replicate 1025 118 ∷ (35 ∷ replicate 2000 118) ∷ codes "" ∷ codes "put a 1 b c " ∷ codes "get a 1" ∷ codes "get  a 1" ∷ codes "get a 1 " ∷ codes " get a 1" ∷ codes "begin " ∷ codes "get A 1" ∷ codes "clean 0" ∷ codes "clean 65536" ∷ codes "clean 65537" ∷ (codes "drain" ++ 13 ∷ []) ∷ [])
+    ≡ lines_of (codes "ok" ∷ codes "ok" ∷ codes "ok" ∷ codes "value " ∷ codes "refused line" ∷ codes "refused line" ∷ codes "refused line" ∷ codes "ok" ∷ codes "value b c " ∷ codes "refused line" ∷ codes "refused line" ∷ codes "refused line" ∷ codes "refused line" ∷ codes "refused line" ∷ codes "refused line" ∷ codes "ok" ∷ codes "refused line" ∷ codes "refused line" ∷ [])
 unfolding digits
 edges = refl
 
--- a comment of any length and an empty line give no reply, and stand for no command
-silent : (answers ((35 ∷ replicate 2000 118) ∷ codes "" ∷ codes "#" ∷ []) ≡ [])
-    × (answers ((35 ∷ replicate 2000 118) ∷ codes "get 7" ∷ []) ≡ lines_of (codes "none" ∷ []))
-silent = (refl, refl)
+-- the whole range of keys, and one beyond it
+whole_range : answers usual (codes "begin" ∷ codes "create a" ∷ codes "put a 18446744073709551615 q" ∷ codes "put a 0 p" ∷ codes "scan a 0 18446744073709551615" ∷ codes "scan a 5 4" ∷ codes "get a 18446744073709551616" ∷ [])
+    ≡ lines_of (codes "ok" ∷ codes "ok" ∷ codes "ok" ∷ codes "ok" ∷ codes "row 0 p" ∷ codes "row 18446744073709551615 q" ∷ codes "end 2" ∷ codes "end 0" ∷ codes "refused line" ∷ [])
+unfolding digits
+whole_range = refl
+
+-- a table of three rows at most
+three_rows : answers (record { tables = 4; rows = 3; writes = 32 }) (codes "begin" ∷ codes "create a" ∷ codes "put a 1 x" ∷ codes "put a 2 x" ∷ codes "put a 3 x" ∷ codes "put a 4 x" ∷ codes "put a 2 y" ∷ codes "del a 1" ∷ codes "put a 4 x" ∷ [])
+    ≡ lines_of (codes "ok" ∷ codes "ok" ∷ codes "ok" ∷ codes "ok" ∷ codes "ok" ∷ codes "refused full" ∷ codes "ok" ∷ codes "ok" ∷ codes "ok" ∷ [])
+unfolding digits
+three_rows = refl
+
+-- a transaction of four writes at most
+four_writes : answers (record { tables = 4; rows = 20000; writes = 4 }) (codes "begin" ∷ codes "create a" ∷ codes "put a 1 x" ∷ codes "put a 2 x" ∷ codes "put a 3 x" ∷ codes "put a 4 x" ∷ codes "del a 9" ∷ codes "commit" ∷ codes "scan a 0 9" ∷ [])
+    ≡ lines_of (codes "ok" ∷ codes "ok" ∷ codes "ok" ∷ codes "ok" ∷ codes "ok" ∷ codes "refused writes" ∷ codes "refused writes" ∷ codes "committed 1" ∷ codes "row 1 x" ∷ codes "row 2 x" ∷ codes "row 3 x" ∷ codes "end 3" ∷ [])
+unfolding digits
+four_writes = refl
+
+-- one table at most
+one_table : answers (record { tables = 1; rows = 20000; writes = 32 }) (codes "begin" ∷ codes "create a" ∷ codes "create a" ∷ codes "create b" ∷ [])
+    ≡ lines_of (codes "ok" ∷ codes "ok" ∷ codes "refused table" ∷ codes "refused tables" ∷ [])
+unfolding digits
+one_table = refl
+
+abbrev nine_rows : List (List ℕ)
+nine_rows = codes "begin" ∷ codes "create a" ∷ codes "put a 1 v" ∷ codes "put a 2 v" ∷ codes "put a 3 v" ∷ codes "put a 4 v" ∷ codes "put a 5 v" ∷ codes "put a 6 v" ∷ codes "put a 7 v" ∷ codes "put a 8 v" ∷ codes "put a 9 v" ∷ codes "commit" ∷ []
+
+abbrev nine_tables : List Table
+nine_tables = after usual [] (lines_of nine_rows) 1
+
+nine_are : nine_tables ≡ (codes "a", (1, codes "v") ∷ (2, codes "v") ∷ (3, codes "v") ∷ (4, codes "v") ∷ (5, codes "v") ∷ (6, codes "v") ∷ (7, codes "v") ∷ (8, codes "v") ∷ (9, codes "v") ∷ []) ∷ []
+unfolding digits
+nine_are = refl
+
+-- a later run changes three of nine rows, and removes one
+after_nine : text (replies usual nine_tables (lines_of (codes "begin" ∷ codes "put a 1 y" ∷ codes "put a 2 y" ∷ codes "put a 3 y" ∷ codes "del a 9" ∷ codes "del a 9" ∷ codes "commit" ∷ codes "scan a 2 4" ∷ codes "get a 9" ∷ [])))
+    ≡ lines_of (codes "ok" ∷ codes "ok" ∷ codes "ok" ∷ codes "ok" ∷ codes "ok" ∷ codes "none" ∷ codes "committed 1" ∷ codes "row 2 y" ∷ codes "row 3 y" ∷ codes "row 4 v" ∷ codes "end 3" ∷ codes "none" ∷ [])
+unfolding digits
+after_nine = refl
+
+-- an open transaction at the end of the input is no commit, nor is an aborted one
+unfinished : (answers usual (codes "begin" ∷ codes "create a" ∷ codes "put a 1 x" ∷ []) ≡ lines_of (codes "ok" ∷ codes "ok" ∷ codes "ok" ∷ []))
+    × (commits usual [] (lines_of (codes "begin" ∷ codes "create a" ∷ codes "put a 1 x" ∷ [])) ≡ 0)
+    × (after usual [] (lines_of (codes "begin" ∷ codes "create a" ∷ codes "put a 1 x" ∷ [])) 0 ≡ [])
+    × (answers usual (codes "get a 1" ∷ codes "begin" ∷ codes "checkpoint" ∷ codes "drain" ∷ codes "clean 7" ∷ codes "create b" ∷ codes "abort" ∷ codes "get b 1" ∷ codes "checkpoint" ∷ [])
+    ≡ lines_of (codes "refused table" ∷ codes "ok" ∷ codes "refused transaction" ∷ codes "ok" ∷ codes "ok" ∷ codes "ok" ∷ codes "aborted" ∷ codes "refused table" ∷ codes "ok" ∷ []))
+unfolding digits
+unfinished = (refl, refl, refl, refl)
 
 -- a last line without a line feed counts where it is not empty
-last_line : (text (replies [] (codes "put 7 x" ++ 10 ∷ codes "get 7")) ≡ lines_of (codes "committed 1" ∷ codes "value x" ∷ []))
-    × (text (replies [] (codes "put 7 x" ++ 10 ∷ [])) ≡ lines_of (codes "committed 1" ∷ []))
-    × (text (replies [] []) ≡ [])
+last_line : (text (replies usual [] (codes "begin" ++ 10 ∷ codes "abort")) ≡ lines_of (codes "ok" ∷ codes "aborted" ∷ []))
+    × (text (replies usual [] (codes "begin" ++ 10 ∷ 10 ∷ [])) ≡ lines_of (codes "ok" ∷ []))
+    × (text (replies usual [] []) ≡ [])
 unfolding digits
 last_line = (refl, refl, refl)
 
--- a carriage return is a byte like any other: of no number, and of no value
-carriage_return : (answers ((codes "get 7" ++ 13 ∷ []) ∷ []) ≡ refused)
-    × (answers ((codes "put 7 x" ++ 13 ∷ []) ∷ []) ≡ refused)
-    × (answers ((13 ∷ []) ∷ []) ≡ refused)
-carriage_return = (refl, refl, refl)
+-- what stands aside of the replies is left out, an unfinished line too
+stripped : (strip (lines_of (codes "+ read 0 0" ∷ codes "refused table" ∷ codes "# dram_hits 0" ∷ codes "! page 1" ∷ [])) ≡ lines_of (codes "refused table" ∷ []))
+    × (strip (codes "ok" ++ 10 ∷ codes "# dra") ≡ lines_of (codes "ok" ∷ []))
+    × (strip (codes "ok" ++ 10 ∷ codes "commi") ≡ codes "ok" ++ 10 ∷ codes "commi")
+    × (strip (10 ∷ codes "ok") ≡ 10 ∷ codes "ok")
+stripped = (refl, refl, refl, refl)
 
 -- whole lines alone acknowledge
-acknowledged : (acked (lines_of (codes "none" ∷ codes "committed 1" ∷ codes "value committed 1" ∷ codes "committed 2" ∷ [])) ≡ 2)
-    × (acked (codes "none" ++ 10 ∷ codes "committed 1") ≡ 0)
-    × (acked (codes "none" ++ 10 ∷ codes "committed 1" ++ 10 ∷ []) ≡ 1)
+acknowledged : (acked (lines_of (codes "ok" ∷ codes "committed 1" ∷ codes "value committed 1" ∷ codes "committed 2" ∷ [])) ≡ 2)
+    × (acked (codes "ok" ++ 10 ∷ codes "committed 1") ≡ 0)
+    × (acked (codes "ok" ++ 10 ∷ codes "committed 1" ++ 10 ∷ []) ≡ 1)
 acknowledged = (refl, refl, refl)
-
--- what stands aside of the replies is left out, an unfinished line too
-stripped : (strip (lines_of (codes "+ read 0 0" ∷ codes "refused line" ∷ codes "# dram_hits 0" ∷ codes "! page 1" ∷ [])) ≡ lines_of (codes "refused line" ∷ []))
-    × (strip (codes "none" ++ 10 ∷ codes "# dra") ≡ lines_of (codes "none" ∷ []))
-    × (strip (codes "none" ++ 10 ∷ codes "commi") ≡ codes "none" ++ 10 ∷ codes "commi")
-stripped = (refl, refl, refl)

@@ -1,12 +1,15 @@
 -- Laws of the definitions, as statements that contracts name.
-use Rattle.std.specs.Prelude.{◌≡◌, ◌≤◌, List, [], ◌∷◌, ◌++◌, ℕ, length, Some}
-use Rattle.script.specs.Lines.{line_feed}
-use Rattle.script.specs.Forms.{longest_line}
+use Rattle.std.specs.Prelude.{◌≡◌, ℕ, ◌+◌, ◌≤◌, List, [], ◌∷◌, ◌++◌, length, Option, Some}
+use Rattle.texts.specs.Lines.{line_feed}
+use Rattle.texts.specs.Forms.{longest_line}
 use Rattle.script.specs.Grammar.{command_of, commands, IsCommand, spelling}
 use Rattle.script.specs.Replies.{text}
-use Rattle.script.specs.Output.{strip, acked}
-use Rattle.script.specs.Machine.{Rows, AreRows}
-use Rattle.script.specs.Script.{replies, commits}
+use Rattle.texts.specs.Output.{strip, acked, IsPrefix}
+use Rattle.table_store.specs.Catalog.{Table}
+use Rattle.script.specs.Tables.{AreTables}
+use Rattle.texts.specs.Runs as run
+use Rattle.script.specs.Machine.{Bounds, State, Open}
+use Rattle.script.specs.Script.{machine, replies, commits, after}
 use Rattle.script.specs.declared.command.Command.{Command}
 
 -- a line that is a command is the command's spelling, and the command is one that can be written
@@ -23,16 +26,38 @@ CommandsAppend = (xs ys : List ℕ) → commands ((xs ++ line_feed ∷ []) ++ ys
 
 -- no reply looks like a line that stands aside
 abbrev pub RepliesStay : Type 0
-RepliesStay = (rows : Rows) (script : List ℕ) → AreRows rows → strip (text (replies rows script)) ≡ text (replies rows script)
+RepliesStay = (bounds : Bounds) (tables : List Table) (script : List ℕ) → AreTables tables → strip (text (replies bounds tables script)) ≡ text (replies bounds tables script)
 
--- the whole text acknowledges every put that is accepted
+-- the whole text acknowledges every commit
 abbrev pub CommitsAreAcknowledged : Type 0
-CommitsAreAcknowledged = (rows : Rows) (script : List ℕ) → AreRows rows → acked (text (replies rows script)) ≡ commits rows script
+CommitsAreAcknowledged = (bounds : Bounds) (tables : List Table) (script : List ℕ) → AreTables tables → acked (text (replies bounds tables script)) ≡ commits bounds tables script
 
--- a beginning of the output acknowledges no more than the whole
+-- a beginning of the output acknowledges no more than the whole, and what strip leaves of it is a beginning
 abbrev pub OutputGrows : Type 0
-OutputGrows = (xs ys : List ℕ) → acked xs ≤ acked (xs ++ ys)
+OutputGrows = (xs ys : List ℕ) → (acked xs ≤ acked (xs ++ ys)) × IsPrefix (strip xs) (strip (xs ++ ys))
 
 -- lines that stand aside acknowledge nothing
 abbrev pub AsideIsSilent : Type 0
 AsideIsSilent = (xs : List ℕ) → acked (strip xs) ≡ acked xs
+
+-- how many commits there are depends on the script alone
+abbrev pub CommitsByScript : Type 0
+CommitsByScript = (bounds others : Bounds) (tables more : List Table) (script : List ℕ) → commits bounds tables script ≡ commits others more script
+
+-- a transaction that has just begun over some tables
+abbrev pub begun : List Table → ℕ → State
+begun tables count = record { tables = tables; transaction = Some (record { tables = tables; writes = 0 }); commits = count }
+
+-- The tables `new` are what one transaction made of `old`: from its begin on, these commands led to a copy
+-- that is `new`.
+pub record IsTransaction (bounds : Bounds) (old new : List Table) : Type 0 where
+  pub count : ℕ
+  pub body : List (Option Command)
+  pub copy : Open
+  pub led : (run.state_after (machine bounds) (begun old count) body).transaction ≡ Some copy
+  pub made : copy.tables ≡ new
+
+-- each commit makes the tables before it into those after it by one whole transaction
+abbrev pub CommitsAreTransactions : Type 0
+CommitsAreTransactions = (bounds : Bounds) (tables : List Table) (script : List ℕ) (k : ℕ) → k + 1 ≤ commits bounds tables script →
+    IsTransaction bounds (after bounds tables script k) (after bounds tables script (k + 1))

@@ -1,13 +1,7 @@
-pub mod Names
-pub mod Numbers
-pub mod Lines
-pub mod Fields
 pub mod Shapes
-pub mod Forms
 pub mod Grammar
 pub mod Replies
-pub mod Runs
+pub mod Tables
 pub mod Machine
 pub mod Script
-pub mod Output
 pub mod Laws

@@ -1,24 +1,25 @@
--- What a script is replied to, and what stands after its commits.
-use Rattle.std.specs.Prelude.{ℕ, List, [], ◌∷◌, Option, if◌then◌else◌}
-use Rattle.script.specs.Lines.{is_silent}
-use Rattle.script.specs.Grammar.{command_of, commands}
-use Rattle.script.specs.Machine.{Rows, machine, opening}
-use Rattle.script.specs.Runs as run
+-- A script of bytes, run on the plain machine.
+use Rattle.std.specs.Prelude.{ℕ, List, Option}
+use Rattle.table_store.specs.Catalog.{Table}
+use Rattle.texts.specs.Runs as run
+use Rattle.script.specs.Grammar.{commands}
+use Rattle.script.specs.Replies.{is_committed}
+use Rattle.script.specs.Machine.{Bounds, State, opening, step}
 use Rattle.script.specs.declared.command.Command.{Command}
 use Rattle.script.specs.declared.command.Reply.{Reply}
 
--- the commands of one line: none where it is silent
-abbrev pub command_in : List ℕ → List (Option Command)
-command_in line = if is_silent line then [] else command_of line ∷ []
+-- the plain machine within some bounds
+abbrev pub machine : Bounds → run.Machine State (Option Command) Reply (List Table)
+machine bounds = record { step = step bounds; tables = λ s. s.tables; tells_commit = is_committed }
 
--- all replies to a script, in order
-abbrev pub replies : Rows → List ℕ → List Reply
-replies rows script = run.replies machine (opening rows) (commands script)
+-- the replies to a script, from some tables
+abbrev pub replies : Bounds → List Table → List ℕ → List Reply
+replies bounds tables script = run.replies (machine bounds) (opening tables) (commands script)
 
--- how many puts of a script are accepted
-abbrev pub commits : Rows → List ℕ → ℕ
-commits rows script = run.commits machine (opening rows) (commands script)
+-- how many of its commits are accepted
+abbrev pub commits : Bounds → List Table → List ℕ → ℕ
+commits bounds tables script = run.commits (machine bounds) (opening tables) (commands script)
 
--- the rows after the first k of them
-abbrev pub after : Rows → List ℕ → ℕ → Rows
-after rows script k = run.after machine (opening rows) (commands script) k
+-- the tables after the first k of these
+abbrev pub after : Bounds → List Table → List ℕ → ℕ → List Table
+after bounds tables script k = run.after (machine bounds) (opening tables) (commands script) k

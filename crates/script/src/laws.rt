@@ -1,5 +1,5 @@
 //! Laws of the definitions, as contracts of functions that do nothing.
-ghost use Rattle.script.specs.Laws.{LinesAreSpelled, SpellingsAreRead, CommandsAppend, RepliesStay, CommitsAreAcknowledged, OutputGrows, AsideIsSilent};
+ghost use Rattle.script.specs.Laws.{LinesAreSpelled, SpellingsAreRead, CommandsAppend, RepliesStay, CommitsAreAcknowledged, OutputGrows, AsideIsSilent, CommitsByScript, CommitsAreTransactions};
 
 /// The grammar, read both ways: a line is a command exactly where it is that command's spelling, has at most 1,024
 /// bytes, and the command can be written.
@@ -13,10 +13,16 @@ pub fn scripts_append()
     ensures { CommandsAppend }
 {}
 
-/// What the output acknowledges: of all replies each put that is accepted, of a beginning no more.
+/// What the output acknowledges: of all replies each commit, of a beginning no more.
 pub fn output_grows()
     ensures stay { RepliesStay }
     ensures all { CommitsAreAcknowledged }
     ensures grows { OutputGrows }
     ensures aside { AsideIsSilent }
+{}
+
+/// The commits of a script: how many there are is told by the script alone, and each is one whole transaction.
+pub fn whole_transactions()
+    ensures number { CommitsByScript }
+    ensures whole { CommitsAreTransactions }
 {}

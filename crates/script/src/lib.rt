@@ -3,15 +3,13 @@
 
 mod command;
 mod laws;
-mod numbers;
 mod read;
 mod reply;
 #[cfg(test)]
 mod tests;
-mod value;
 
 pub use command::{Command, Reason, Reply};
-pub use laws::{one_grammar, output_grows, scripts_append};
-pub use read::{is_silent, read_line};
+pub use laws::{one_grammar, output_grows, scripts_append, whole_transactions};
+pub use read::read_line;
 pub use reply::reply_text;
-pub use value::Value;
+pub use texts::is_silent;

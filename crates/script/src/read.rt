@@ -1,14 +1,14 @@
 //! Lines of a script, read as commands.
-ghost use Rattle.std.specs.Prelude.{◌≡◌, bytes_eq, option_copied, option_map};
-ghost use Rattle.script.specs.Numbers.{key_of};
-ghost use Rattle.script.specs.Fields.{field};
-ghost use Rattle.script.specs.Shapes.{key_value, one_key};
-ghost use Rattle.script.specs.Lines.{is_silent as silent};
+ghost use Rattle.std.specs.Prelude.{◌≡◌, option_copied, option_map};
+ghost use Rattle.table_store.specs.Names.{name_of};
+ghost use Rattle.texts.specs.Fields.{field};
+ghost use Rattle.script.specs.Shapes.{one_name, name_key, name_two_keys, name_key_value, one_count, count_up_to, bare};
 ghost use Rattle.script.specs.Grammar.{command_of};
 
 use crate::command::Command;
-use crate::numbers::{cut, key};
-use crate::value::Value;
+use slotted_page::Value;
+use table_store::Name;
+use texts::{cut, is_word, key, key_field};
 
 /// The command that a line is, given without its line feed; `None` exactly where the line has more than 1,024 bytes or
 /// is of no form.
@@ -19,51 +19,107 @@ pub fn read_line(line: &[u8]) -> Option<Command>
         return None;
     }
     let (word, left) = cut(line);
-    if is(word, b"put") {
+    if is_word(word, b"create") {
+        create(left)
+    } else if is_word(word, b"begin") {
+        alone(Command::Begin, left)
+    } else if is_word(word, b"put") {
         put(left)
-    } else if is(word, b"get") {
+    } else if is_word(word, b"del") {
+        del(left)
+    } else if is_word(word, b"get") {
         get(left)
+    } else if is_word(word, b"scan") {
+        scan(left)
+    } else if is_word(word, b"commit") {
+        alone(Command::Commit, left)
+    } else if is_word(word, b"abort") {
+        alone(Command::Abort, left)
+    } else if is_word(word, b"checkpoint") {
+        alone(Command::Checkpoint, left)
+    } else if is_word(word, b"drain") {
+        alone(Command::Drain, left)
+    } else if is_word(word, b"clean") {
+        clean(left)
     } else {
         None
     }
 }
 
-/// Whether a line gives no reply: it is empty, or begins with `#`. It may have any length.
-pub fn is_silent(line: &[u8]) -> bool
-    ensures { result ≡ silent line.now }
+fn alone(command: Command, left: Option<&[u8]>) -> Option<Command>
+    ensures { result ≡ bare command (option_copied left.entry) }
 {
-    line.is_empty() || line[0] == b'#'
-}
-
-fn is(word: &[u8], text: &[u8]) -> bool
-    ensures { result ≡ bytes_eq word.now text.now }
-{
-    word == text
-}
-
-fn put(left: Option<&[u8]>) -> Option<Command>
-    ensures { result ≡ key_value Command.Put (option_copied left.entry) }
-{
-    let (key, left) = key_field(left)?;
-    let value = Value::from_bytes(left?)?;
-    Some(Command::Put(key, value))
-}
-
-fn get(left: Option<&[u8]>) -> Option<Command>
-    ensures { result ≡ one_key Command.Get (option_copied left.entry) }
-{
-    let (key, left) = key_field(left)?;
     match left {
-        None => Some(Command::Get(key)),
+        None => Some(command),
         Some(_) => None,
     }
 }
 
-/// A key, and what is left behind it.
-fn key_field(left: Option<&[u8]>) -> Option<(u64, Option<&[u8]>)>
-    ensures { option_map (λ p. (p.0, option_copied p.1)) result ≡ field key_of (option_copied left.entry) }
+fn create(left: Option<&[u8]>) -> Option<Command>
+    ensures { result ≡ one_name Command.Create (option_copied left.entry) }
+{
+    let (name, left) = name_field(left)?;
+    alone(Command::Create(name), left)
+}
+
+fn put(left: Option<&[u8]>) -> Option<Command>
+    ensures { result ≡ name_key_value Command.Put (option_copied left.entry) }
+{
+    let (name, left) = name_field(left)?;
+    let (key, left) = key_field(left)?;
+    let value = Value::from_bytes(left?)?;
+    Some(Command::Put(name, key, value))
+}
+
+fn del(left: Option<&[u8]>) -> Option<Command>
+    ensures { result ≡ name_key Command.Del (option_copied left.entry) }
+{
+    let (name, left) = name_field(left)?;
+    let (key, left) = key_field(left)?;
+    alone(Command::Del(name, key), left)
+}
+
+fn get(left: Option<&[u8]>) -> Option<Command>
+    ensures { result ≡ name_key Command.Get (option_copied left.entry) }
+{
+    let (name, left) = name_field(left)?;
+    let (key, left) = key_field(left)?;
+    alone(Command::Get(name, key), left)
+}
+
+fn scan(left: Option<&[u8]>) -> Option<Command>
+    ensures { result ≡ name_two_keys Command.Scan (option_copied left.entry) }
+{
+    let (name, left) = name_field(left)?;
+    let (low, left) = key_field(left)?;
+    let (high, left) = key_field(left)?;
+    alone(Command::Scan(name, low, high), left)
+}
+
+fn clean(left: Option<&[u8]>) -> Option<Command>
+    ensures { result ≡ one_count 65536 Command.Clean (option_copied left.entry) }
+{
+    let (count, left) = count_field(left)?;
+    alone(Command::Clean(count), left)
+}
+
+/// A name, and what is left behind it.
+fn name_field(left: Option<&[u8]>) -> Option<(Name, Option<&[u8]>)>
+    ensures { option_map (λ p. (p.0, option_copied p.1)) result ≡ field name_of (option_copied left.entry) }
 {
     let (word, left) = cut(left?);
-    let key = key(word)?;
-    Some((key, left))
+    let name = Name::from_bytes(word)?;
+    Some((name, left))
+}
+
+/// A count of pages from 1 to 65,536, and what is left behind it.
+fn count_field(left: Option<&[u8]>) -> Option<(u32, Option<&[u8]>)>
+    ensures { option_map (λ p. (p.0, option_copied p.1)) result ≡ field (count_up_to 65536) (option_copied left.entry) }
+{
+    let (word, left) = cut(left?);
+    let count = key(word)?;
+    if count < 1 || count > 65536 {
+        return None;
+    }
+    Some((count as u32, left))
 }

@@ -1,63 +1,164 @@
 //! Worked lines and replies.
 use super::*;
+use slotted_page::Value;
 use std::test::*;
+use table_store::Name;
 
-/// Whether the line puts this value at this key.
+/// Whether a name has these bytes.
+fn is_name(name: &Name, bytes: &[u8]) -> bool {
+    name.bytes() == bytes
+}
+
+/// Whether the line puts this value at this key of table `a`.
 fn puts(line: &[u8], key: u64, value: &[u8]) -> bool {
     match read_line(line) {
-        Some(Command::Put(k, v)) => k == key && v.bytes() == value,
+        Some(Command::Put(name, k, v)) => is_name(&name, b"a") && k == key && v.bytes() == value,
         _ => false,
     }
 }
 
-/// Whether the line gets this key.
-fn gets(line: &[u8], key: u64) -> bool {
+/// Whether the line gets this key of a table.
+fn gets(line: &[u8], table: &[u8], key: u64) -> bool {
     match read_line(line) {
-        Some(Command::Get(k)) => k == key,
+        Some(Command::Get(name, k)) => is_name(&name, table) && k == key,
         _ => false,
+    }
+}
+
+/// Whether the line deletes this key of table `a`.
+fn deletes(line: &[u8], key: u64) -> bool {
+    match read_line(line) {
+        Some(Command::Del(name, k)) => is_name(&name, b"a") && k == key,
+        _ => false,
+    }
+}
+
+/// Whether the line scans table `a` between these keys.
+fn scans(line: &[u8], low: u64, high: u64) -> bool {
+    match read_line(line) {
+        Some(Command::Scan(name, from, to)) => is_name(&name, b"a") && from == low && to == high,
+        _ => false,
+    }
+}
+
+/// Whether the line creates this table.
+fn creates(line: &[u8], table: &[u8]) -> bool {
+    match read_line(line) {
+        Some(Command::Create(name)) => is_name(&name, table),
+        _ => false,
+    }
+}
+
+/// Whether the line cleans this many frames.
+fn cleans(line: &[u8], frames: u32) -> bool {
+    match read_line(line) {
+        Some(Command::Clean(n)) => n == frames,
+        _ => false,
+    }
+}
+
+/// A form of one word, by its number.
+fn bare(line: &[u8]) -> u32 {
+    match read_line(line) {
+        Some(Command::Begin) => 1,
+        Some(Command::Commit) => 2,
+        Some(Command::Abort) => 3,
+        Some(Command::Checkpoint) => 4,
+        Some(Command::Drain) => 5,
+        _ => 0,
     }
 }
 
 #[test]
 fn reads_lines(rt: HostRuntime) {
-    assert!(rt; puts(b"put 7 x", 7, b"x"));
-    assert!(rt; puts(b"put 7 ", 7, b""));
-    assert!(rt; puts(b"put 0 a b  c ", 0, b"a b  c "));
-    assert!(rt; puts(b"put 18446744073709551615 ~", 18446744073709551615, b"~"));
-    assert!(rt; gets(b"get 7", 7));
-    assert!(rt; gets(b"get 18446744073709551615", 18446744073709551615));
+    assert!(rt; creates(b"create a", b"a"));
+    assert!(rt; creates(b"create orders_2026", b"orders_2026"));
+    assert!(rt;
+        creates(
+            b"create aaaaaaaaaaaaaaaaaaaaaaaaaaaaaaa",
+            b"aaaaaaaaaaaaaaaaaaaaaaaaaaaaaaa"
+        )
+    );
+    assert!(rt; puts(b"put a 7 x", 7, b"x"));
+    assert!(rt; puts(b"put a 7 ", 7, b""));
+    assert!(rt; puts(b"put a 0 a b  c ", 0, b"a b  c "));
+    assert!(rt; deletes(b"del a 7", 7));
+    assert!(rt; gets(b"get a 18446744073709551615", b"a", 18446744073709551615));
+    assert!(rt; scans(b"scan a 3 9", 3, 9));
+    assert!(rt; scans(b"scan a 9 3", 9, 3));
+    assert!(rt; cleans(b"clean 1", 1));
+    assert!(rt; cleans(b"clean 65536", 65536));
+    for (line, form) in [
+        (&b"begin"[..], 1),
+        (b"commit", 2),
+        (b"abort", 3),
+        (b"checkpoint", 4),
+        (b"drain", 5),
+    ] {
+        assert!(rt; bare(line) == form);
+    }
 }
 
 #[test]
 fn refuses_lines(rt: HostRuntime) {
-    assert!(rt; read_line(&[b'v'; 1025]).is_none());
     for line in [
         &b"get"[..],
-        b"get ",
-        b"get  7",
-        b"get 7 ",
-        b" get 7",
-        b"get 7\r",
-        b"get 007",
-        b"get -1",
-        b"get 18446744073709551616",
-        b"put 7",
-        b"put 7 x\r",
-        b"PUT 7 x",
-        b"del 7",
+        b"get a",
+        b"get a ",
+        b"get  a 7",
+        b"get a  7",
+        b"get a 7 ",
+        b" get a 7",
+        b"get a 7\r",
+        b"get A 7",
+        b"get a- 7",
+        b"get a 007",
+        b"get a -1",
+        b"get a 18446744073709551616",
+        b"put a 7",
+        b"put a x y",
+        b"put a 7 x\r",
+        b"PUT a 7 x",
+        b"create",
+        b"create ",
+        b"create a b",
+        b"create aaaaaaaaaaaaaaaaaaaaaaaaaaaaaaaa",
+        b"begin ",
+        b"commit 1",
+        b"abort now",
+        b"drain\r",
+        b"checkpoint ",
+        b"clean",
+        b"clean 0",
+        b"clean 01",
+        b"clean 65537",
+        b"scan a 1",
+        b"scan a 1 2 3",
+        b"del a",
+        b"del a 7 x",
     ] {
         assert!(rt; read_line(line).is_none());
     }
 }
 
+/// Whether a line that puts so many letters is a form.
+fn takes_letters(start: &[u8], letters: usize) -> bool {
+    let mut line = [b'v'; 600];
+    let end = start.len() + letters;
+    if end > 600 || start.len() > 600 {
+        return false;
+    }
+    line[..start.len()].copy_from_slice(start);
+    read_line(&line[..end]).is_some()
+}
+
 #[test]
-fn passes_over_silent_lines(rt: HostRuntime) {
-    assert!(rt; is_silent(b""));
-    assert!(rt; is_silent(b"# put 7 x"));
-    assert!(rt; is_silent(&[b'#'; 2000]));
-    assert!(rt; !is_silent(b" # put 7 x"));
-    assert!(rt; !is_silent(b"get 7"));
-    assert!(rt; !is_silent(&[b'v'; 2000]));
+fn bounds_lines(rt: HostRuntime) {
+    assert!(rt; takes_letters(b"put a 1 ", 480));
+    assert!(rt; !takes_letters(b"put a 1 ", 481));
+    assert!(rt; read_line(&[b'v'; 1024]).is_none());
+    assert!(rt; read_line(&[b'v'; 1025]).is_none());
+    assert!(rt; is_silent(&[b'#'; 2000]) && !is_silent(&[b'v'; 2000]) && is_silent(b""));
 }
 
 /// Whether the text of a reply is this.
@@ -67,7 +168,9 @@ fn is_text(reply: &Reply, text: &[u8]) -> bool {
 
 #[test]
 fn writes_replies(rt: HostRuntime) {
+    assert!(rt; is_text(&Reply::Fine, b"ok\n"));
     assert!(rt; is_text(&Reply::Absent, b"none\n"));
+    assert!(rt; is_text(&Reply::Finish(0), b"end 0\n"));
     assert!(rt; is_text(&Reply::Committed(1), b"committed 1\n"));
     assert!(rt;
         is_text(
@@ -75,29 +178,38 @@ fn writes_replies(rt: HostRuntime) {
             b"committed 18446744073709551615\n"
         )
     );
-    assert!(rt; is_text(&Reply::Refused(Reason::Form), b"refused line\n"));
-    assert!(rt; is_text(&Reply::Refused(Reason::Full), b"refused full\n"));
-    match Value::from_bytes(b"x ") {
-        Some(value) => assert!(rt; is_text(&Reply::Found(value), b"value x \n")),
-        None => assert!(rt; false),
-    }
-}
-
-/// Whether the bytes are a value, which has them.
-fn is_value(bytes: &[u8]) -> bool {
-    match Value::from_bytes(bytes) {
-        Some(value) => value.bytes() == bytes && value.copy().bytes() == bytes,
-        None => false,
+    assert!(rt; is_text(&Reply::Aborted, b"aborted\n"));
+    for (reason, text) in [
+        (Reason::Form, &b"refused line\n"[..]),
+        (Reason::Transaction, b"refused transaction\n"),
+        (Reason::Table, b"refused table\n"),
+        (Reason::Writes, b"refused writes\n"),
+        (Reason::Tables, b"refused tables\n"),
+        (Reason::Full, b"refused full\n"),
+    ] {
+        assert!(rt; is_text(&Reply::Refused(reason), text));
     }
 }
 
 #[test]
-fn keeps_values(rt: HostRuntime) {
-    assert!(rt; is_value(b""));
-    assert!(rt; is_value(b" ~"));
-    assert!(rt; is_value(&[b'v'; 480]));
-    assert!(rt; !is_value(&[b'v'; 481]));
-    assert!(rt; !is_value(b"\x1F"));
-    assert!(rt; !is_value(b"\x7F"));
-    assert!(rt; !is_value(b"x\n"));
+fn writes_values(rt: HostRuntime) {
+    match (Value::from_bytes(b"x "), Value::from_bytes(b"")) {
+        (Some(value), Some(empty)) => {
+            assert!(rt;
+                is_text(
+                    &Reply::Row(18446744073709551615, value.copy()),
+                    b"row 18446744073709551615 x \n"
+                )
+            );
+            assert!(rt; is_text(&Reply::Found(value), b"value x \n"));
+            assert!(rt; is_text(&Reply::Found(empty), b"value \n"));
+        }
+        _ => assert!(rt; false),
+    }
+    match Value::from_bytes(&[b'v'; 480]) {
+        Some(value) => assert!(rt;
+            reply_text(&Reply::Row(18446744073709551615, value)).len() == 506
+        ),
+        None => assert!(rt; false),
+    }
 }

@@ -3,12 +3,13 @@ use Rattle.std.proofs.Common.{◌≡◌, ◌≢◌, ℕ, ◌≤◌, List, [], �
 use Rattle.std.proofs.lemmas.List.{append-nil}
 use Rattle.std.proofs.lemmas.Result.{IfOk-from_err}
 use Rattle.devices.specs.World.{Standing, WorldCall, IsTimed, sent, sent_at, sent_by}
-use Rattle.script.specs.declared.command.Command.{Command}
-use Rattle.script.specs.Lines.{IsOneLine}
-use Rattle.script.specs.Grammar.{commands}
-use Rattle.script.specs.Script.{command_in}
-use Rattle.script.specs.Machine.{State}
-use Rattle.script.proofs.LinesLaws.{commands_first, commands_dropped, commands_line}
+use Rattle.row_script.specs.declared.command.Command.{Command}
+use Rattle.texts.specs.Lines.{IsOneLine}
+use Rattle.row_script.specs.Grammar.{commands}
+use Rattle.row_script.specs.Script.{command_in}
+use Rattle.row_script.specs.Machine.{State}
+use Rattle.row_script.specs.Grammar.{forms}
+use Rattle.texts.proofs.LinesLaws.{commands_first, commands_dropped, commands_line}
 use Rattle.spitfire_app.specs.Run.{Aim, Owes, AreSafe, Proceeds}
 use Rattle.spitfire_app.proofs.RunLaws.{still_safe, owes_still, idle_safe}
 
@@ -18,7 +19,7 @@ owes_same {aim} {s} {bytes} {xs} {ys} {w} same owes = subst (λ (l : List (Optio
 
 -- a line feed ends the line
 pub line_ends : (kept more : List ℕ) (b : ℕ) → IsOneLine kept → b ≡ 10 → commands (kept ++ b ∷ more) ≡ command_in kept ++ commands more
-line_ends kept more b one is = ap (λ (x : ℕ). commands (kept ++ x ∷ more)) is ∙ commands_first kept more one
+line_ends kept more b one is = ap (λ (x : ℕ). commands (kept ++ x ∷ more)) is ∙ commands_first forms kept more one
 
 -- another byte is one of the line
 pub line_grows : (kept more : List ℕ) (b : ℕ) → commands (kept ++ b ∷ more) ≡ commands ((kept ++ b ∷ []) ++ more)
@@ -26,11 +27,11 @@ line_grows kept more b = ap commands (sym (append_assoc kept (b ∷ []) more))
 
 -- and is left out where the line is too long already
 pub line_full : (kept more : List ℕ) (b : ℕ) → 1025 ≤ length kept → IsOneLine kept → b ≢ 10 → commands (kept ++ b ∷ more) ≡ commands (kept ++ more)
-line_full kept more b full one other = commands_dropped kept b more full one other
+line_full kept more b full one other = commands_dropped forms kept b more full one other
 
 -- at the end what is kept is the last line
 pub line_last : (kept rest : List ℕ) → IsOneLine kept → rest ≡ [] → commands (kept ++ rest) ≡ command_in kept ++ []
-line_last kept rest one none = ap (λ (l : List ℕ). commands (kept ++ l)) none ∙ ap commands (append-nil kept) ∙ commands_line kept one ∙ sym (append-nil (command_in kept))
+line_last kept rest one none = ap (λ (l : List ℕ). commands (kept ++ l)) none ∙ ap commands (append-nil kept) ∙ commands_line forms kept one ∙ sym (append-nil (command_in kept))
 
 -- a call that does nothing
 pub idle : {T E : Type 0} {aim : Aim} {s : State} {bytes : List ℕ} {xs ys : List (Option Command)} {w : Standing} {v : T} → xs ≡ ys → Owes aim s bytes xs w → Proceeds {T = T} {E = E} aim s bytes ys w w (Ok v)

@@ -2,13 +2,13 @@
 use Rattle.std.proofs.Common.{◌≡◌, ℕ, ◌≤◌, true, false, List, length, Result, OnOk, Ok, Err, Some, None, inl, refl, subst, sym}
 use Rattle.devices.specs.World.{Standing, now}
 use Rattle.devices.proofs.JoinLaws.{Moments-at}
-use Rattle.script.specs.Lines.{is_silent}
-use Rattle.script.specs.Grammar.{command_of}
-use Rattle.script.specs.Machine.{Rows, State, step, machine, most_rows}
-use Rattle.script.specs.Runs as run
-use Rattle.script.specs.Script.{command_in}
-use Rattle.script.specs.declared.command.Command.TheVariants.{Put, Get}
-use Rattle.script.proofs.MachineLaws.{step_full}
+use Rattle.texts.specs.Lines.{is_silent}
+use Rattle.row_script.specs.Grammar.{command_of}
+use Rattle.row_script.specs.Machine.{Rows, State, step, machine, most_rows}
+use Rattle.texts.specs.Runs as run
+use Rattle.row_script.specs.Script.{command_in}
+use Rattle.row_script.specs.declared.command.Command.TheVariants.{Put, Get}
+use Rattle.row_script.proofs.MachineLaws.{step_full}
 use Rattle.row_log.specs.InOrder.{InOrder}
 use Rattle.row_log.proofs.OrderLaws.{image_in_order}
 use Rattle.spitfire_app.specs.Engine.{Steps}

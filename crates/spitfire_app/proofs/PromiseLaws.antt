@@ -5,11 +5,11 @@ use Rattle.std.proofs.Math.Seq.{get_or-append_seam}
 use Rattle.devices.specs.State.{Image, fresh, current}
 use Rattle.devices.specs.World.{Standing, Outside, Goes, GoesOn, Stays, IsTimed, now, sent}
 use Rattle.devices.proofs.MomentLaws.{Goes-sent}
-use Rattle.script.specs.Grammar.{commands}
-use Rattle.script.specs.Machine.{Rows, AreRows, State, machine, opening}
-use Rattle.script.specs.Replies.{text}
-use Rattle.script.specs.Runs as run
-use Rattle.script.proofs.OutputLaws.{IsWhole-empty}
+use Rattle.row_script.specs.Grammar.{commands}
+use Rattle.row_script.specs.Machine.{Rows, AreRows, State, machine, opening}
+use Rattle.row_script.specs.Replies.{text}
+use Rattle.texts.specs.Runs as run
+use Rattle.texts.proofs.OutputLaws.{IsWhole-empty}
 use Rattle.row_log.specs.Layout.{Words, rows_of}
 use Rattle.row_log.specs.InOrder.{Holds, InOrder}
 use Rattle.row_log.proofs.OrderLaws.{holds_of}

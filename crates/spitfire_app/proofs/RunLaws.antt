@@ -7,18 +7,18 @@ use Rattle.std.proofs.lemmas.Result.{IfOk-at_ok}
 use Rattle.devices.specs.State.{State as Devices}
 use Rattle.devices.specs.World.{Standing, Goes, GoesOn, WorldCall, IsTimed, now, sent, sent_at}
 use Rattle.devices.proofs.MomentLaws.{Goes-sent}
-use Rattle.script.specs.declared.command.Command.{Command}
-use Rattle.script.specs.Lines.{is_silent}
-use Rattle.script.specs.Machine.{Rows, AreRows, State, step, machine}
-use Rattle.script.specs.Replies.{reply_text, text}
-use Rattle.script.specs.Runs as run
-use Rattle.script.specs.Script.{command_in}
-use Rattle.script.specs.Grammar.{command_of}
-use Rattle.script.specs.Output.{acked}
-use Rattle.script.proofs.OutputLaws.{IsWhole-empty, IsWhole-append, acked-whole, acked-take}
-use Rattle.script.proofs.RepliesLaws.{IsWhole-text}
-use Rattle.script.proofs.RunsLaws.{replies-append}
-use Rattle.script.proofs.MachineLaws.{tells, step_keeps, acked-step, AreRows-line}
+use Rattle.row_script.specs.declared.command.Command.{Command}
+use Rattle.texts.specs.Lines.{is_silent}
+use Rattle.row_script.specs.Machine.{Rows, AreRows, State, step, machine}
+use Rattle.row_script.specs.Replies.{reply_text, text}
+use Rattle.texts.specs.Runs as run
+use Rattle.row_script.specs.Script.{command_in}
+use Rattle.row_script.specs.Grammar.{command_of}
+use Rattle.texts.specs.Output.{acked}
+use Rattle.texts.proofs.OutputLaws.{IsWhole-empty, IsWhole-append, acked-whole, acked-take}
+use Rattle.row_script.proofs.RepliesLaws.{IsWhole-text}
+use Rattle.texts.proofs.RunsLaws.{replies-append}
+use Rattle.row_script.proofs.MachineLaws.{tells, step_keeps, acked-step, AreRows-line}
 use Rattle.row_log.specs.InOrder.{Holds, InOrder}
 use Rattle.spitfire_app.specs.Sent.{Writes}
 use Rattle.spitfire_app.specs.Engine.{Steps}

@@ -2,8 +2,8 @@
 use Rattle.std.specs.Prelude.{◌⊎◌, List, [], ◌∷◌, Option, Some, None, Result, OnOk}
 use Rattle.devices.specs.State.{State as Devices, Image, Leaves, fresh}
 use Rattle.devices.specs.World.{Standing, Moments, now}
-use Rattle.script.specs.Machine.{Rows, State}
-use Rattle.script.specs.declared.command.Reply.{Reply}
+use Rattle.row_script.specs.Machine.{Rows, State}
+use Rattle.row_script.specs.declared.command.Reply.{Reply}
 use Rattle.row_log.specs.InOrder.{InOrder}
 use Rattle.spitfire_app.specs.declared.engine.Engine.{Engine}
 

@@ -3,12 +3,12 @@ use Rattle.std.specs.Prelude.{◌≡◌, codes, ℕ, ◌+◌, ◌^◌, ◌<◌, 
 use Rattle.std.specs.List.{list_any}
 use Rattle.devices.specs.State.{Image, Leaves, fresh, current}
 use Rattle.devices.specs.World.{Standing, Moments, Rose, NoFault, last_count, now, sent, sent_at}
-use Rattle.script.specs.Lines.{ended}
-use Rattle.script.specs.Machine.{machine, State as Machine}
-use Rattle.script.specs.Replies.{text}
-use Rattle.script.specs.Grammar.{commands}
-use Rattle.script.specs.Runs as run
-use Rattle.script.specs.Output.{acked}
+use Rattle.texts.specs.Lines.{ended}
+use Rattle.row_script.specs.Machine.{machine, State as Machine}
+use Rattle.row_script.specs.Replies.{text}
+use Rattle.row_script.specs.Grammar.{commands}
+use Rattle.texts.specs.Runs as run
+use Rattle.texts.specs.Output.{acked}
 use Rattle.row_log.specs.Layout.{least_lines, rows_of}
 use Rattle.row_log.specs.InOrder.{Holds, InOrder, MayFormat}
 use Rattle.spitfire_app.specs.declared.words.Task.TheVariants.{Format, Run}

@@ -2,11 +2,11 @@
 use Rattle.std.specs.Prelude.{◌≡◌, ℕ, ◌+◌, ◌<◌, ◌≤◌, Bool, List, [], ◌∷◌, ◌++◌, length, Option, Result, OnOk, IsTrue}
 use Rattle.devices.specs.State.{State as Devices, Image, Leaves, fresh}
 use Rattle.devices.specs.World.{Standing, now, sent, sent_at}
-use Rattle.script.specs.declared.command.Command.{Command}
-use Rattle.script.specs.Machine.{Rows, AreRows, State, machine}
-use Rattle.script.specs.Replies.{text}
-use Rattle.script.specs.Runs as run
-use Rattle.script.specs.Output.{acked, IsWhole}
+use Rattle.row_script.specs.declared.command.Command.{Command}
+use Rattle.row_script.specs.Machine.{Rows, AreRows, State, machine}
+use Rattle.row_script.specs.Replies.{text}
+use Rattle.texts.specs.Runs as run
+use Rattle.texts.specs.Output.{acked, IsWhole}
 use Rattle.row_log.specs.InOrder.{Holds, InOrder}
 use Rattle.spitfire_app.specs.declared.stop.Ending.{Ending}
 use Rattle.spitfire_app.specs.declared.stop.Ending.TheVariants.{End, Limit}

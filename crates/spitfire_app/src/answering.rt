@@ -1,8 +1,8 @@
 //! The answer to a line.
 ghost use Rattle.std.specs.Prelude.{◌≡◌, ◌≤◌, ℕ, List, [], ◌++◌, Option, IsTrue};
 ghost use Rattle.devices.specs.World.{Standing, GoesOn};
-ghost use Rattle.script.specs.declared.command.Command.{Command};
-ghost use Rattle.script.specs.Script.{command_in};
+ghost use Rattle.row_script.specs.declared.command.Command.{Command};
+ghost use Rattle.row_script.specs.Script.{command_in};
 ghost use Rattle.row_log.specs.Layout.{least_lines};
 ghost use Rattle.spitfire_app.specs.Cause.{HasCause};
 ghost use Rattle.spitfire_app.specs.Engine.{state_of};
@@ -12,7 +12,7 @@ use crate::engine::Engine;
 use crate::sending::say;
 use crate::stop::Stop;
 use devices::{Devices, World};
-use script::reply_text;
+use row_script::reply_text;
 
 /// Answers one line: what it puts is durable before its reply is sent.
 pub fn answer<W: World>(engine: &mut Engine, world: &mut W, line: &[u8]) -> Result<(), Stop>

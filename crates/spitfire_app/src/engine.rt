@@ -5,8 +5,10 @@ use crate::stop::Stop;
 use devices::{Devices, World};
 pub use row_log::OpenError;
 use row_log::RowLog;
-use script::{Command, Reason, Reply, Value, is_silent, read_line};
+use row_script::{Command, Reason, Reply, read_line};
+use slotted_page::Value;
 use std::alloc::Global;
+use texts::is_silent;
 
 /// A store that stands open: its rows, and how many puts were committed since.
 #[derive(Drop)]
@@ -19,9 +21,9 @@ pub struct Engine {
 impl Engine {
     ghost use Rattle.std.specs.Prelude.{ℕ, [], Some, Err, IsTrue, IfOk, OnOk, ◌↔◌, ◌<◌};
     ghost use Rattle.devices.specs.World.{Standing, Goes, Stays, now};
-    ghost use Rattle.script.specs.Machine.{AreRows, State, machine, opening};
-    ghost use Rattle.script.specs.Script.{command_in};
-    ghost use Rattle.script.specs.Runs as run;
+    ghost use Rattle.row_script.specs.Machine.{AreRows, State, machine, opening};
+    ghost use Rattle.row_script.specs.Script.{command_in};
+    ghost use Rattle.texts.specs.Runs as run;
     ghost use Rattle.row_log.specs.Layout.{least_lines, rows_of};
     ghost use Rattle.row_log.specs.InOrder.{Holds, InOrder};
     ghost use Rattle.row_log.specs.Causes.{OpenCause, words_now};
@@ -66,7 +68,7 @@ impl Engine {
     }
 
     ghost use Rattle.std.specs.Prelude.{Ok, ◌∷◌};
-    ghost use Rattle.script.specs.declared.command.Command.TheVariants.{Put, Get};
+    ghost use Rattle.row_script.specs.declared.command.Command.TheVariants.{Put, Get};
 
     /// The value of the last row with the key.
     fn get(&self, key: u64) -> Reply

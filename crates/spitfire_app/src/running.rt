@@ -2,8 +2,8 @@
 ghost use Rattle.std.specs.Prelude.{◌≡◌, ◌+◌, ◌<◌, ◌≤◌, ℕ, List, [], ◌∷◌, ◌++◌, IsTrue, OnOk, IfOk, length};
 ghost use Rattle.devices.specs.World.{Standing, GoesOn, WorldCall, OnlyChanges, ReadsNext};
 ghost use Rattle.std.specs.Prelude.{true, false};
-ghost use Rattle.script.specs.Lines.{IsOneLine};
-ghost use Rattle.script.specs.Grammar.{commands};
+ghost use Rattle.texts.specs.Lines.{IsOneLine};
+ghost use Rattle.row_script.specs.Grammar.{commands};
 ghost use Rattle.row_log.specs.Layout.{least_lines};
 ghost use Rattle.spitfire_app.specs.Cause.{HasCause};
 ghost use Rattle.spitfire_app.specs.Engine.{state_of};

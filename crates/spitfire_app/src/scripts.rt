@@ -1,7 +1,7 @@
 //! A script's run, by its status.
 ghost use Rattle.std.specs.Prelude.{◌≡◌, ◌≤◌, ℕ, [], IsTrue};
 ghost use Rattle.devices.specs.World.{Standing, GoesOn, WorldCall, OnlyChanges, NoFault, Rose};
-ghost use Rattle.script.specs.Grammar.{commands};
+ghost use Rattle.row_script.specs.Grammar.{commands};
 ghost use Rattle.row_log.specs.Layout.{least_lines};
 ghost use Rattle.spitfire_app.specs.Engine.{state_of};
 ghost use Rattle.spitfire_app.specs.Run.{Aim, Owes, AreSafe};

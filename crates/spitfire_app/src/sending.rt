@@ -1,8 +1,8 @@
 //! Sending bytes whole.
 ghost use Rattle.std.specs.Prelude.{◌≡◌, ℕ, List, [], true, false, IsTrue, IfOk, OnOk};
 ghost use Rattle.devices.specs.World.{Standing, WorldCall, OwnCause, OnlyChanges, GoesOn, Stays};
-ghost use Rattle.script.specs.declared.command.Command.{Command};
-ghost use Rattle.script.specs.Machine.{State};
+ghost use Rattle.row_script.specs.declared.command.Command.{Command};
+ghost use Rattle.row_script.specs.Machine.{State};
 ghost use Rattle.spitfire_app.specs.Sent.{Writes};
 ghost use Rattle.spitfire_app.specs.Cause.{HasCause};
 ghost use Rattle.spitfire_app.specs.Run.{Aim, Owes, Proceeds};

@@ -1,7 +1,7 @@
 //! The top call, and all that the program does.
 ghost use Rattle.std.specs.Prelude.{◌≡◌, ◌<◌, ◌≤◌, ◌⊎◌, ◌^◌, [], Some, IsTrue, length};
 ghost use Rattle.devices.specs.World.{Standing, GoesOn, IsHonest, now};
-ghost use Rattle.script.specs.Machine.{Rows, AreRows, opening};
+ghost use Rattle.row_script.specs.Machine.{Rows, AreRows, opening};
 ghost use Rattle.row_log.specs.Layout.{least_lines};
 ghost use Rattle.row_log.specs.InOrder.{Holds, InOrder};
 ghost use Rattle.spitfire_app.specs.CommandLine.{task_of};

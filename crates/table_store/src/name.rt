@@ -38,6 +38,15 @@ impl Name {
         }
     }
 
+    /// The same name once more.
+    pub fn copy(&self) -> Name
+        ensures { result ≡ self.now }
+    {
+        let mut kept = ArrayVec::new();
+        let _fits = kept.try_extend_from_slice(self.bytes.as_slice());
+        Name { bytes: kept }
+    }
+
     /// Its bytes.
     pub fn bytes(&self) -> &[u8]
         ensures value { result.now ≡ self.now }

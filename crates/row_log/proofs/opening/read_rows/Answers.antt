@@ -3,7 +3,7 @@ use Rattle.std.proofs.Common.{refl, IsTrue, subst, sym, ap, true, Err, ◌≡◌
 use Rattle.std.proofs.lemmas.Result.{err_from_is_err_and}
 use Rattle.std.proofs.lemmas.List.{length_push}
 use Rattle.devices.proofs.MomentLaws.{Goes-refl, Goes-trans}
-use Rattle.script.specs.Machine.{Rows, AreRows}
+use Rattle.row_script.specs.Machine.{Rows, AreRows}
 use Rattle.row_log.specs.declared.errors.OpenError.{OpenError}
 use Rattle.row_log.specs.Layout.{Words, is_row}
 use Rattle.row_log.specs.Causes.{words_now}

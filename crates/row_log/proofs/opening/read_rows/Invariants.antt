@@ -1,6 +1,6 @@
 use Rattle.std.proofs.Common.{◌≡◌, ◌≤◌, true, length, vec_capacity, IsTrue}
 use Rattle.devices.specs.World.{Goes, Stays}
-use Rattle.script.specs.Machine.{AreRows}
+use Rattle.row_script.specs.Machine.{AreRows}
 use Rattle.row_log.specs.Layout.{are_rows, rows_below}
 use Rattle.row_log.specs.Causes.{NoFault, words_now}
 use Rattle.row_log.proofs.opening.read_rows.Given as goal

@@ -2,8 +2,8 @@
 use Rattle.std.proofs.Common.{◌≡◌, IsTrue, subst, sym, ap, ◌∙◌, []}
 use Rattle.std.proofs.lemmas.Result.{IfOk-from_err}
 use Rattle.devices.proofs.MomentLaws.{Goes-sent}
-use Rattle.script.specs.Replies.{text}
-use Rattle.script.proofs.RepliesLaws.{text_one}
+use Rattle.row_script.specs.Replies.{text}
+use Rattle.row_script.proofs.RepliesLaws.{text_one}
 use Rattle.spitfire_app.specs.Engine.{state_of, replied}
 use Rattle.spitfire_app.proofs.RunLaws.{step_safe, answered, safe_then}
 use Rattle.spitfire_app.proofs.answering.answer.Goals as goal

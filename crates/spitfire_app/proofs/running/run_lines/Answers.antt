@@ -1,10 +1,10 @@
 -- One piece after the other, and then the last line.
 use Rattle.std.proofs.Common.{rules, arith, ◌≡◌, ◌≤◌, ℕ, List, [], ◌++◌, IsTrue, subst, sym, refl, ◌∙◌, ap}
 use Rattle.std.proofs.lemmas.Grind.{common_steps}
-use Rattle.script.specs.Lines.{IsOneLine}
-use Rattle.script.specs.Grammar.{commands}
-use Rattle.script.specs.Script.{command_in}
-use Rattle.script.proofs.LinesLaws.{IsOneLine-empty}
+use Rattle.texts.specs.Lines.{IsOneLine}
+use Rattle.row_script.specs.Grammar.{commands}
+use Rattle.row_script.specs.Script.{command_in}
+use Rattle.texts.proofs.LinesLaws.{IsOneLine-empty}
 use Rattle.devices.proofs.JoinLaws.{GoesOn-refl, NoFault-refl, NoFault-trans}
 use Rattle.devices.proofs.MomentLaws.{GoesOn-trans}
 use Rattle.spitfire_app.specs.Engine.{state_of}

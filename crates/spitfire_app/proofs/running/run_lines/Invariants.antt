@@ -1,8 +1,8 @@
 -- What was read so far was answered, but for the line that is kept.
 use Rattle.std.proofs.Common.{◌≡◌, ◌+◌, ◌≤◌, IsTrue, [], ◌++◌, length}
 use Rattle.devices.specs.World.{GoesOn, NoFault}
-use Rattle.script.specs.Lines.{IsOneLine}
-use Rattle.script.specs.Grammar.{commands}
+use Rattle.texts.specs.Lines.{IsOneLine}
+use Rattle.row_script.specs.Grammar.{commands}
 use Rattle.spitfire_app.specs.Engine.{state_of}
 use Rattle.spitfire_app.specs.Run.{Aim, Owes, AreSafe}
 use Rattle.spitfire_app.proofs.running.run_lines.Given as goal

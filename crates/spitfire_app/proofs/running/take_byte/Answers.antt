@@ -1,10 +1,10 @@
 -- A line feed has the line answered; another byte is kept where there is room.
 use Rattle.std.proofs.Common.{rules, arith, ◌≡◌, ◌≤◌, [], ◌++◌, length, subst, sym, ◌∙◌, ap}
 use Rattle.std.proofs.lemmas.Bool.Decides.{nat_tests}
-use Rattle.script.specs.Grammar.{commands}
-use Rattle.script.specs.Script.{command_in}
-use Rattle.script.specs.Lines.{IsOneLine}
-use Rattle.script.proofs.LinesLaws.{IsOneLine-empty, IsOneLine-push}
+use Rattle.row_script.specs.Grammar.{commands}
+use Rattle.row_script.specs.Script.{command_in}
+use Rattle.texts.specs.Lines.{IsOneLine}
+use Rattle.texts.proofs.LinesLaws.{IsOneLine-empty, IsOneLine-push}
 use Rattle.spitfire_app.proofs.ByteLaws.{owes_same, line_ends, line_grows, line_full, idle, fails}
 use Rattle.spitfire_app.proofs.running.take_byte.Goals as goal
 

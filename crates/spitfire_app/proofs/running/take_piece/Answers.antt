@@ -4,7 +4,7 @@ use Rattle.std.proofs.lemmas.Grind.{common_steps}
 use Rattle.std.proofs.lemmas.List.{drop_more}
 use Rattle.devices.proofs.MomentLaws.{GoesOn-trans}
 use Rattle.devices.proofs.JoinLaws.{GoesOn-refl, NoFault-refl, NoFault-trans}
-use Rattle.script.specs.Grammar.{commands}
+use Rattle.row_script.specs.Grammar.{commands}
 use Rattle.spitfire_app.specs.Engine.{state_of}
 use Rattle.spitfire_app.specs.Run.{Aim, Owes, Proceeds}
 use Rattle.spitfire_app.proofs.RunLaws.{idle_safe, proceeds_then, proceeds_ok}

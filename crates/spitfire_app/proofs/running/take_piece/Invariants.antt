@@ -1,8 +1,8 @@
 -- The bytes so far were taken.
 use Rattle.std.proofs.Common.{◌≡◌, IsTrue, ℕ, List, [], ◌++◌, drop}
 use Rattle.devices.specs.World.{GoesOn, NoFault}
-use Rattle.script.specs.Lines.{IsOneLine}
-use Rattle.script.specs.Grammar.{commands}
+use Rattle.texts.specs.Lines.{IsOneLine}
+use Rattle.row_script.specs.Grammar.{commands}
 use Rattle.spitfire_app.specs.Engine.{state_of}
 use Rattle.spitfire_app.specs.Run.{Aim, Owes, AreSafe}
 use Rattle.spitfire_app.proofs.running.take_piece.Given as goal

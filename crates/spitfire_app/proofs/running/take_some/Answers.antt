@@ -1,6 +1,6 @@
 -- What was read is taken.
 use Rattle.std.proofs.Common.{rules, ℕ, List, [], ◌++◌, IsTrue, subst, sym, refl, ap}
-use Rattle.script.specs.Grammar.{commands}
+use Rattle.row_script.specs.Grammar.{commands}
 use Rattle.spitfire_app.specs.Engine.{state_of}
 use Rattle.spitfire_app.specs.Run.{Aim, Owes, Proceeds, AreSafe}
 use Rattle.spitfire_app.proofs.RunLaws.{proceeds_then, proceeds_ok}

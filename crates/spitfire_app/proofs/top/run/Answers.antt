@@ -1,6 +1,6 @@
 -- The opening, and then the script.
 use Rattle.std.proofs.Common.{◌≡◌, IsTrue, subst, sym, ap, ◌∙◌, arith}
-use Rattle.script.specs.Machine.{opening}
+use Rattle.row_script.specs.Machine.{opening}
 use Rattle.spitfire_app.specs.Engine.{state_of}
 use Rattle.spitfire_app.proofs.PromiseLaws.{same_rows, refused_replies, refused_survives, run_replies, run_survives}
 use Rattle.spitfire_app.proofs.top.run.Goals as goal

@@ -1,6 +1,6 @@
 use Rattle.std.proofs.Common.{◌≤◌, length, sym, ap, ◌∙◌, arith, List, ℕ, Some}
 use Rattle.row_log.proofs.GetLaws.{none_behind, one_before, found_before, none_all}
-use Rattle.script.specs.Machine.{last_value}
+use Rattle.row_script.specs.Machine.{last_value}
 use Rattle.row_log.proofs.rows.RowLog.get.Goals as goal
 
 pub loop-i-init : goal.loop-i-init

@@ -1,6 +1,6 @@
 -- The head, and then the records, with memory for them or without.
 use Rattle.std.proofs.Common.{IsTrue, subst, sym, ap, ◌∙◌, Some}
-use Rattle.script.specs.Machine.{Rows}
+use Rattle.row_script.specs.Machine.{Rows}
 use Rattle.row_log.specs.Layout.{Words, rows_below}
 use Rattle.row_log.proofs.OpenLaws.{words_kept, head_stops, records_stop, records_found, no_memory}
 use Rattle.row_log.proofs.rows.RowLog.open.Goals as goal

@@ -1,6 +1,6 @@
 -- Where there is no room nothing changes.
 use Rattle.std.proofs.Common.{◌≤◌, arith, length}
-use Rattle.script.specs.Machine.{most_rows}
+use Rattle.row_script.specs.Machine.{most_rows}
 use Rattle.spitfire_app.specs.Engine.{state_of}
 use Rattle.spitfire_app.proofs.EngineLaws.{steps_still, rows_full}
 use Rattle.spitfire_app.proofs.engine.Engine.put.Goals as goal

@@ -1,0 +1,5 @@
+pub mod ShapesLaws
+pub mod GrammarLaws
+pub mod RepliesLaws
+pub mod MachineLaws
+pub mod Worked

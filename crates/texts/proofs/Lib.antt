@@ -1,0 +1,7 @@
+pub mod NumbersLaws
+pub mod FieldsLaws
+pub mod ReadersLaws
+pub mod FormsLaws
+pub mod LinesLaws
+pub mod RunsLaws
+pub mod OutputLaws
