@@ -18,15 +18,12 @@ use Rattle.table_store.specs.declared.entry.Place.{Place}
 use Rattle.table_store.specs.declared.answer.Got.{Got}
 use Rattle.table_store.specs.declared.answer.Got.TheVariants.{NoTable}
 use Rattle.table_store.specs.Catalog.{entries, tables, place_of, entry_rows, entry_pages, FitsEntry}
+use Rattle.table_store.specs.Changed.{root_at}
 use Rattle.table_store.specs.Stored.{is_no_table, IsStore, IsLookup, rows_of, place_levels, place_path, found_value, got_of}
 use Rattle.table_store.proofs.TableLaws.{rooted, rows_by}
 
 pub no_table : (key : ℕ) (name : List ℕ) (lines : Lines) → place_of name 0 (entries lines) ≡ None → NoTable ≡ got_of key (rows_of name (tables lines))
 no_table key name lines none = ap (got_of key) (sym (rows_by name lines 0 (entries lines) None none))
-
--- the root of an entry's tree
-abbrev pub root_at : Place → Root
-root_at place = record { page = place.entry.root; levels = place.entry.levels }
 
 -- a tree that was found in pages that are the same
 rooted_now : (limits : Limits) (n0 n1 : ℕ) (old now : Lines) (name : List ℕ) (place : Place) → n1 ≡ n0 → now ≡ old → IsStore limits n0 old → place_of name 0 (entries old) ≡ Some place → FitsEntry limits n0 place.entry
