@@ -1,5 +1,5 @@
 -- A row that is put into a table, or taken out.
-use Rattle.std.proofs.Common.{◌≡◌, ◌≢◌, ℕ, suc, ◌+◌, ◌-◌, ◌<◌, ◌≤◌, inl, inr, Bool, true, false, cond, List, [], ◌∷◌, ◌++◌, length, None, Some, Option, Result, Ok, Err, OnOk, refl, sym, ap, subst, ◌∙◌, arith, nat_eq, nat_lt, nat_le}
+use Rattle.std.proofs.Common.{◌≡◌, ◌≢◌, ℕ, suc, ◌+◌, ◌-◌, ◌<◌, ◌≤◌, inl, inr, Bool, true, false, cond, List, [], ◌∷◌, ◌++◌, length, None, Some, Option, Result, Ok, Err, OnOk, IfOk, not, refl, sym, ap, subst, ◌∙◌, arith, nat_eq, nat_lt, nat_le}
 use Rattle.std.specs.Prelude.{is_some}
 use Rattle.std.proofs.lemmas.Bool.{cases_Bool, and_parts, leb-true, ltb-true, lt-ltb, le-ltb, ne_eqb, cases_lt}
 use Rattle.line_pages.specs.declared.stop.Stop.{Stop}
@@ -7,7 +7,7 @@ use Rattle.line_pages.specs.Lines.{Lines}
 use Rattle.slotted_page.specs.Rows.{Row, keys, last_key, row_get, row_put, row_delete, Ascends}
 use Rattle.bplus_tree.specs.declared.root.Root.{Root}
 use Rattle.bplus_tree.specs.Space.{high_of}
-use Rattle.bplus_tree.specs.Tree.{times}
+use Rattle.bplus_tree.specs.Tree.{times, IsRooted}
 use Rattle.bplus_tree.specs.Moves.{below, ArePart, Changes, ChangesRows}
 use Rattle.bplus_tree.proofs.TreeLaws.{times-append}
 use Rattle.bplus_tree.proofs.RowLaws.{above_bound, row_get-none_above}
@@ -17,6 +17,10 @@ use Rattle.table_store.specs.declared.entry.Place.{Place}
 use Rattle.table_store.specs.Catalog.{entries, tables, place_of, catalog_checks, entry_rows, entry_pages, FitsRoot}
 use Rattle.table_store.specs.Stored.{all_pages, rows_of, with_rows, IsStore}
 use Rattle.table_store.specs.Changed.{root_at, Enters, ChangesTable}
+use Rattle.table_store.specs.Putting.{stored_of}
+use Rattle.table_store.specs.Deleting.{deleted_of}
+use Rattle.table_store.specs.declared.answer.Stored.TheVariants.{Done as Put, TableFull}
+use Rattle.table_store.specs.declared.answer.Deleted.TheVariants.{Done as Gone, Absent}
 use Rattle.table_store.proofs.CatalogLaws.{AllHold, all_hold}
 use Rattle.table_store.proofs.TableLaws.{tree_of_place, pages_of_place, rooted, rows_by}
 use Rattle.table_store.proofs.FrameLaws.{not_zero}
@@ -62,6 +66,9 @@ module _ (limits : Limits) (count : ℕ) (old : Lines) (store : IsStore limits c
   pub rows_ascend : Ascends 0 last_key (keys (entry_rows old place.entry))
   rows_ascend = tree_rows-ascend count old (place.entry.levels - 1) place.entry.root 0 last_key true (tree_of_place count old name 0 (entries old) place found store.trees).0
 
+  pub place_rooted : FitsRoot limits count place → IsRooted count old (root_at place) (entry_rows old place.entry) (entry_pages old place.entry)
+  place_rooted fits = rooted limits count count old name place (root_at place) store found fits.entry refl
+
   pub high_within : (1 ≤ high_of old) × (high_of old ≤ count)
   high_within =
       let held : AllHold (catalog_checks limits count old) = all_hold (catalog_checks limits count old) store.catalog in
@@ -79,7 +86,7 @@ module _ (limits : Limits) (count : ℕ) (old : Lines) (store : IsStore limits c
   table_stepped mid new root rows step fits changes enters rows_are few =
       let used = entry_pages old place.entry in
       let change : Changes count old mid (root_at place) root used store.free (step (entry_rows old place.entry)) =
-      changes (entry_rows old place.entry) used store.free (rooted limits count count old name place (root_at place) store found fits.entry refl) store.is_free are_part high_within.1 in
+      changes (entry_rows old place.entry) used store.free (place_rooted fits) store.is_free are_part high_within.1 in
       let after = step (entry_rows old place.entry) in
       let entry = enters.entry ∙ ap (λ (n : ℕ). record { field = place.entry.field; root = root.page; levels = root.levels; rows = n }) rows_are in
       let few_after : length after ≤ limits.rows = omega (arith, rows_are, few) in
@@ -121,3 +128,35 @@ rows_deleted limits count old store name place is key rows found rows_is =
 pub few_after : (most rows before : ℕ) (found : Bool) → rows ≡ cond found before (before + 1) → before ≤ most → (found ≡ false → before + 1 ≤ most) → rows ≤ most
 few_after most rows before true is few left = omega (arith, is, few)
 few_after most rows before false is few left = omega (arith, is, left refl)
+
+-- what was said of the pages as they are now, the pages being as they were
+pub as_before : (P : ℕ → Lines → Type 0) (n0 n1 : ℕ) (old now : Lines) → n1 ≡ n0 → now ≡ old → P n1 now → P n0 old
+as_before P n0 n1 old now count same is = subst (λ (n : ℕ). P n old) count (subst (λ (all : Lines). P n1 all) same is)
+
+-- the answers of a put and of a deletion at a known name
+pub is_full : (limits : Limits) (count : ℕ) (old : Lines) (store : IsStore limits count old) (name : List ℕ) (place : Place) (is : place_of name 0 (entries old) ≡ Some place) (key : ℕ)
+    → false ≡ is_some (row_get key (entry_rows old place.entry)) → limits.rows ≤ place.entry.rows → TableFull ≡ stored_of limits key (rows_of name (tables old))
+is_full limits count old store name place is key absent full =
+    let out = le-ltb (length (entry_rows old place.entry)) limits.rows (omega (arith, full, rows_counted limits count old store name place is)) in
+    sym (ap (stored_of limits key) (rows_by name old 0 (entries old) (Some place) is) ∙ rw (sym absent, out) refl)
+
+pub is_stored : (limits : Limits) (count : ℕ) (old : Lines) (store : IsStore limits count old) (name : List ℕ) (place : Place) (is : place_of name 0 (entries old) ≡ Some place) (key : ℕ) (found : Bool)
+    → found ≡ is_some (row_get key (entry_rows old place.entry)) → (found ≡ false → place.entry.rows + 1 ≤ limits.rows) → Put ≡ stored_of limits key (rows_of name (tables old))
+is_stored limits count old store name place is key true found left = sym (ap (stored_of limits key) (rows_by name old 0 (entries old) (Some place) is) ∙ rw (sym found) refl)
+is_stored limits count old store name place is key false found left =
+    let inside = lt-ltb (length (entry_rows old place.entry)) limits.rows (omega (arith, left refl, rows_counted limits count old store name place is)) in
+    sym (ap (stored_of limits key) (rows_by name old 0 (entries old) (Some place) is) ∙ rw (sym found, inside) refl)
+
+pub is_deleted : (old : Lines) (name : List ℕ) (place : Place) (is : place_of name 0 (entries old) ≡ Some place) (key : ℕ) → true ≡ is_some (row_get key (entry_rows old place.entry)) → Gone ≡ deleted_of key (rows_of name (tables old))
+is_deleted old name place is key found = sym (ap (deleted_of key) (rows_by name old 0 (entries old) (Some place) is) ∙ rw (sym found) refl)
+
+pub is_absent : (old : Lines) (name : List ℕ) (place : Place) (is : place_of name 0 (entries old) ≡ Some place) (key : ℕ) → false ≡ is_some (row_get key (entry_rows old place.entry)) → Absent ≡ deleted_of key (rows_of name (tables old))
+is_absent old name place is key absent = sym (ap (deleted_of key) (rows_by name old 0 (entries old) (Some place) is) ∙ rw (sym absent) refl)
+
+-- the answers at a name that no table has, and at one that a table has
+pub named_none : {N : Type 0} (no_table : N) (of : Option (List Row) → N) (name : List ℕ) (lines : Lines) → no_table ≡ of None → place_of name 0 (entries lines) ≡ None → no_table ≡ of (rows_of name (tables lines))
+named_none no_table of name lines is none = is ∙ ap of (sym (rows_by name lines 0 (entries lines) None none))
+
+pub known_some : {N E : Type 0} (is_no_table : N → Bool) (known : Bool) (result : Result N E) → known ≡ true → IfOk result (λ answer. is_no_table answer ≡ false) → IfOk result (λ answer. is_no_table answer ≡ not known)
+known_some is_no_table known (Ok answer) is named = named ∙ sym (ap not is)
+known_some is_no_table known (Err e) is named = tt

@@ -65,7 +65,8 @@ fn delete_at<P: Pages>(
     ensures ready { OnOk result (P.is_ready pages.new) }
     ensures steady { P.is_steady pages.old → OnOk result (P.is_steady pages.new) }
 {
-    if !has_row(pages, limits, place, key, work)? {
+    let found = has_row(pages, limits, place, key, work)?;
+    if !found {
         return Ok(Deleted::Absent);
     }
     remove_row(pages, limits, place, key, work)?;
