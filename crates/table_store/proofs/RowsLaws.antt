@@ -1,5 +1,5 @@
 -- A row that is put into a table, or taken out.
-use Rattle.std.proofs.Common.{◌≡◌, ◌≢◌, ℕ, suc, ◌+◌, ◌-◌, ◌<◌, ◌≤◌, inl, inr, Bool, true, false, cond, List, [], ◌∷◌, ◌++◌, length, None, Some, Option, Result, Ok, Err, OnOk, IfOk, not, refl, sym, ap, subst, ◌∙◌, arith, nat_eq, nat_lt, nat_le}
+use Rattle.std.proofs.Common.{◌≡◌, ◌≢◌, ℕ, suc, ◌+◌, ◌-◌, ◌<◌, ◌≤◌, inl, inr, Bool, true, false, cond, List, [], ◌∷◌, ◌++◌, length, None, Some, Option, Result, Ok, Err, OnOk, refl, sym, ap, subst, ◌∙◌, arith, nat_eq, nat_lt, nat_le}
 use Rattle.std.specs.Prelude.{is_some}
 use Rattle.std.proofs.lemmas.Bool.{cases_Bool, and_parts, leb-true, ltb-true, lt-ltb, le-ltb, ne_eqb, cases_lt}
 use Rattle.line_pages.specs.declared.stop.Stop.{Stop}
@@ -152,11 +152,3 @@ is_deleted old name place is key found = sym (ap (deleted_of key) (rows_by name 
 
 pub is_absent : (old : Lines) (name : List ℕ) (place : Place) (is : place_of name 0 (entries old) ≡ Some place) (key : ℕ) → false ≡ is_some (row_get key (entry_rows old place.entry)) → Absent ≡ deleted_of key (rows_of name (tables old))
 is_absent old name place is key absent = sym (ap (deleted_of key) (rows_by name old 0 (entries old) (Some place) is) ∙ rw (sym absent) refl)
-
--- the answers at a name that no table has, and at one that a table has
-pub named_none : {N : Type 0} (no_table : N) (of : Option (List Row) → N) (name : List ℕ) (lines : Lines) → no_table ≡ of None → place_of name 0 (entries lines) ≡ None → no_table ≡ of (rows_of name (tables lines))
-named_none no_table of name lines is none = is ∙ ap of (sym (rows_by name lines 0 (entries lines) None none))
-
-pub known_some : {N E : Type 0} (is_no_table : N → Bool) (known : Bool) (result : Result N E) → known ≡ true → IfOk result (λ answer. is_no_table answer ≡ false) → IfOk result (λ answer. is_no_table answer ≡ not known)
-known_some is_no_table known (Ok answer) is named = named ∙ sym (ap not is)
-known_some is_no_table known (Err e) is named = tt

@@ -3,7 +3,7 @@ use Rattle.table_store.specs.Catalog.{tables}
 use Rattle.table_store.specs.Stored.{is_known}
 use Rattle.table_store.specs.Putting.{stored_of, is_no_table}
 use Rattle.table_store.proofs.CreateLaws.{unknown_by, present_is}
-use Rattle.table_store.proofs.RowsLaws.{named_none, known_some}
+use Rattle.table_store.proofs.LookupLaws.{named_none, known_some}
 use Rattle.table_store.proofs.storing.put.Goals as goal
 
 pub returns-in-None-clause-answer : goal.returns-in-None-clause-answer
