@@ -23,4 +23,4 @@ pub use lookup::get;
 pub use next::next_from;
 pub use root::Root;
 pub use space::{give_page, take_page};
-pub use tree::{delete, put};
+pub use tree::{delete, delete_row, put, put_row};

@@ -17,8 +17,8 @@ use crate::root::{Root, root_expect};
 use line_pages::{Pages, Stop};
 use slotted_page::{Value, Work};
 
-/// Puts a value at a key of a tree, whether or not the key is there.
-fn put_row<P: Pages>(
+/// Puts a value at a key, whether or not the key is there. Its callers know that already: it is `put` without the look-up.
+pub fn put_row<P: Pages>(
     pages: &mut P,
     root: &mut Root,
     key: u64,
@@ -74,8 +74,8 @@ fn put_row<P: Pages>(
     }
 }
 
-/// Takes a key out of a tree, if it is there.
-fn delete_row<P: Pages>(
+/// Takes a key out, if it is there. Its callers know that already: it is `delete` without the look-up.
+pub fn delete_row<P: Pages>(
     pages: &mut P,
     root: &mut Root,
     key: u64,

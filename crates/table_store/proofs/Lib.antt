@@ -8,3 +8,4 @@ pub mod CreateLaws
 pub mod RoomLaws
 pub mod TouchesLaws
 pub mod ChangeLaws
+pub mod RowsLaws

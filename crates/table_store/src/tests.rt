@@ -1,13 +1,16 @@
 //! Each public call once with ample memory, worked examples, and each check of the catalog in turn.
-use crate::answer::{Created, Got};
+use crate::answer::{Created, Deleted, Got, Next, Stored};
 use crate::catalog::has_table;
 use crate::creation::create;
+use crate::deletion::delete;
 use crate::limits::Limits;
 use crate::lookup::get;
 use crate::name::Name;
+use crate::scan::scan_next;
+use crate::storing::put;
 use line_pages::{Evidence, Pages, Stop, VecPages};
 use nvm_model::{Line, NoMemory};
-use slotted_page::Work;
+use slotted_page::{Value, Work};
 use std::alloc::Global;
 
 /// Why a test ended early.
@@ -16,6 +19,7 @@ enum Early {
     Memory,
     Stopped(Stop),
     NoName,
+    NoValue,
 }
 
 impl From<NoMemory> for Early {
@@ -191,4 +195,27 @@ fn names_the_check_that_fails(rt: HostRuntime) -> Result<(), Early> {
         35
     );
     Ok(())
+}
+
+/// A value of one byte, or of many.
+fn value_of(byte: u8, size: usize) -> Result<Value, Early> {
+    if size > 480 {
+        return Err(Early::NoValue);
+    }
+    let bytes = [byte; 480];
+    match Value::from_bytes(&bytes[..size]) {
+        Some(value) => Ok(value),
+        None => Err(Early::NoValue),
+    }
+}
+
+/// A fresh store with the tables `cat` and `cow`.
+fn two_tables(alloc: Global, limits: &Limits, work: &mut Work) -> Result<VecPages, Early>
+    ensures room { IfOk result (λ pages. 1000000000 ≤ (VecPages.standing pages).room) }
+{
+    let mut pages = VecPages::new(alloc, 200, 1_000_001_000)?;
+    pages.write_line(0, 0, &line([4, 0, 1, 0, 0, 0, 0, 0]))?;
+    create(&mut pages, limits, &named(b"cat")?, work)?;
+    create(&mut pages, limits, &named(b"cow")?, work)?;
+    Ok(pages)
 }
