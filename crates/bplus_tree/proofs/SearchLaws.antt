@@ -3,7 +3,7 @@ use Rattle.std.proofs.Common.{◌≡◌, ◌≢◌, ℕ, zero, suc, ◌+◌, ◌
 use Rattle.std.proofs.lemmas.Bool.{eq-eqb, ne_eqb, and_left}
 use Rattle.line_pages.specs.declared.stop.Stop.{Stop}
 use Rattle.slotted_page.specs.declared.root.Expect.{Expect}
-use Rattle.slotted_page.specs.declared.lookup.Spot.TheVariants.{Row, Gap, Child}
+use Rattle.slotted_page.specs.declared.spot.Spot.TheVariants.{Row, Gap, Child}
 use Rattle.line_pages.specs.Touch.{Access, begins, begun_from, last_from}
 use Rattle.line_pages.proofs.StandingLaws.{page_adds, AddsReads-trans, ReadsPage-trans}
 use Rattle.line_pages.proofs.TouchLaws.{accesses_from-begun}

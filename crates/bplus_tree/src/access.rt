@@ -14,7 +14,8 @@ use crate::outcome::{Fit, Outcome};
 use crate::space::{give_page, take_page};
 use crate::write::write_changes;
 use line_pages::{Pages, Stop, copy_page};
-use slotted_page::{Expect, Spot, Work, find, read_page};
+use page_search::{find, read_page};
+use slotted_page::{Expect, Spot, Work};
 use ssd_model::PageBuf;
 
 /// Looks a key up in a page.

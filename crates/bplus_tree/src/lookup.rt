@@ -5,7 +5,8 @@ ghost use Rattle.line_pages.specs.Touch.{begins};
 ghost use Rattle.line_pages.specs.Standing.{Continues, HasCause, ReadsPage, KeepsLines, AddsReads};
 ghost use Rattle.slotted_page.specs.Rows.{Row, row_get, last_key};
 ghost use Rattle.slotted_page.specs.Node.{IsWellFormed, leaf_rows, page_level};
-ghost use Rattle.slotted_page.specs.Search.{is_root_span, IsNodeDamage, ShowsDamage};
+ghost use Rattle.slotted_page.specs.Search.{is_root_span, IsNodeDamage};
+ghost use Rattle.page_search.specs.Answers.{ShowsDamage};
 ghost use Rattle.bplus_tree.specs.Tree.{IsTree, IsRooted, tree_rows};
 ghost use Rattle.bplus_tree.specs.Damage.{IsFault};
 ghost use Rattle.bplus_tree.specs.Way.{IsWay, IsPath};
@@ -13,7 +14,8 @@ ghost use Rattle.bplus_tree.specs.Way.{IsWay, IsPath};
 use crate::root::{Root, child_expect, root_expect};
 use crate::row::row_at;
 use line_pages::{Pages, Stop};
-use slotted_page::{Expect, Spot, Value, Work, find};
+use page_search::find;
+use slotted_page::{Expect, Spot, Value, Work};
 
 /// The value of the row at a place of a leaf, whose access is open.
 fn value_at<P: Pages>(

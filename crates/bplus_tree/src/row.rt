@@ -7,11 +7,13 @@ ghost use Rattle.line_pages.specs.Touch.{begins};
 ghost use Rattle.slotted_page.specs.Rows.{Row};
 ghost use Rattle.slotted_page.specs.Node.{IsWellFormed, leaf_rows};
 ghost use Rattle.slotted_page.specs.Sound.{slot_of};
-ghost use Rattle.slotted_page.specs.Search.{is_root_span, IsNodeDamage, ShowsDamage};
+ghost use Rattle.slotted_page.specs.Search.{is_root_span, IsNodeDamage};
+ghost use Rattle.page_search.specs.Answers.{ShowsDamage};
 ghost use Rattle.bplus_tree.specs.Record.{row_found};
 
 use line_pages::{Pages, Stop, page_word, read_half, set_page_line};
-use slotted_page::{Expect, Value, Work, read_page};
+use page_search::read_page;
+use slotted_page::{Expect, Value, Work};
 use ssd_model::PageBuf;
 
 /// Reads lines of a page whose access is open to their places in a buffer.

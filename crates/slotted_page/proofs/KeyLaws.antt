@@ -4,7 +4,7 @@ use Rattle.std.proofs.lemmas.Bool.{cases_eq}
 use Rattle.std.proofs.lemmas.List.{length-map, get_or-map}
 use Rattle.line_pages.specs.Bytes.{u16_at, u64_at}
 use Rattle.slotted_page.specs.declared.root.Expect.{Expect}
-use Rattle.slotted_page.specs.declared.lookup.Spot.TheVariants.{Row as Row_at, Gap}
+use Rattle.slotted_page.specs.declared.spot.Spot.TheVariants.{Row as Row_at, Gap}
 use Rattle.slotted_page.specs.Search.{IsSpot}
 use Rattle.slotted_page.specs.Rows.{Row, keys, key_of, Ascends, AllBelow, AllAbove}
 use Rattle.slotted_page.specs.Node.{leaf_rows, entry_count, heap_start, slots, IsWellFormed}

@@ -12,6 +12,4 @@ pub mod SetLemmas
 pub mod PageFacts
 pub mod KeyLaws
 pub mod ChildLaws
-pub mod DamageLaws
-pub mod OpenLaws
 pub mod OrderLaws

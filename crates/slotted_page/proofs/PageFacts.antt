@@ -1,10 +1,8 @@
 -- What the checks of a page give, by name.
-use Rattle.std.proofs.Common.{◌≡◌, ◌≢◌, ℕ, ◌+◌, ◌*◌, ◌≤◌, inl, inr, Bool, true, false, List, refl, sym, ◌∙◌, arith, nat_le, ◌==◌, ◌&&◌, ◌||◌, length}
+use Rattle.std.proofs.Common.{◌≡◌, ◌≢◌, ℕ, ◌+◌, ◌*◌, ◌≤◌, inl, inr, Bool, true, false, List, sym, ◌∙◌, arith, nat_le, ◌||◌, length}
 use Rattle.std.specs.List.{list_all}
-use Rattle.std.proofs.lemmas.Bool.{leb-true, le-leb, eqb-true, eq-eqb, ne_eqb, and_parts, cases_eq}
+use Rattle.std.proofs.lemmas.Bool.{leb-true, eqb-true, eq-eqb, ne_eqb, and_parts, cases_eq}
 use Rattle.slotted_page.specs.declared.root.Expect.{Expect}
-use Rattle.slotted_page.specs.declared.probe.Header.{Header}
-use Rattle.slotted_page.specs.Search.{IsHeader}
 use Rattle.slotted_page.specs.Rows.{keys, Ascends, ascends}
 use Rattle.slotted_page.specs.Node.{slots, leaf_rows, children, bytes_used, is_in_heap, all_apart, begins_at, first_keys, is_page_below, has_printable_value, leaf_checks, inner_checks, entry_count, heap_start, page_kind, page_level, first_failing, IsWellFormed}
 use Rattle.slotted_page.specs.Sound.{IsSound}
@@ -85,17 +83,6 @@ level_of bytes expect well =
       | inl e ↦ (leaf_facts bytes expect e well).level
       | inr ne ↦ (inner_facts bytes expect ne well).level
     ]
-
--- what its first words are
-pub leaf_header : (bytes : List ℕ) (expect : Expect) (header : Header) → IsHeader bytes header → expect.level ≡ 0 → IsWellFormed bytes expect → (header.kind == 1 && nat_le header.count 1008) ≡ true
-leaf_header bytes expect header is zero_level well =
-    let facts = leaf_facts bytes expect zero_level well in
-    rw (is.kind ∙ facts.kind, le-leb header.count 1008 (omega (arith, is.count, facts.below_heap, facts.heap))) refl
-
-pub inner_header : (bytes : List ℕ) (expect : Expect) (header : Header) → IsHeader bytes header → expect.level ≢ 0 → IsWellFormed bytes expect → (header.kind == 2 && nat_le 2 header.count && nat_le header.count 240) ≡ true
-inner_header bytes expect header is above well =
-    let facts = inner_facts bytes expect above well in
-    rw (is.kind ∙ facts.kind, le-leb 2 header.count (omega (arith, is.count, facts.some)), le-leb header.count 240 (omega (arith, is.count, facts.room))) refl
 
 -- the structure of a well-formed page
 pub sound_of_well : (bytes : List ℕ) (expect : Expect) → length bytes ≡ 4096 → expect.level ≡ 0 → IsWellFormed bytes expect → IsSound bytes

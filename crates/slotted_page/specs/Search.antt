@@ -1,17 +1,14 @@
 -- What a search in one page answers, and what damage of a page is.
-use Rattle.std.specs.Prelude.{◌≡◌, ℕ, ◌<◌, ◌≤◌, Bool, false, List, length, take, drop, Option, Some, None, slice_get, ◌==◌, ◌&&◌}
+use Rattle.std.specs.Prelude.{◌≡◌, ℕ, ◌<◌, ◌≤◌, Bool, false, List, length, take, drop, Some, slice_get, ◌==◌, ◌&&◌}
 use Rattle.line_pages.specs.declared.stop.Evidence.{Evidence}
 use Rattle.line_pages.specs.declared.stop.Evidence.TheVariants.{Super, Frames, Log, Page, Walk}
-use Rattle.line_pages.specs.declared.stop.Stop.{Stop}
-use Rattle.line_pages.specs.declared.stop.Stop.TheVariants.{Nvm, Ssd, Damaged}
 use Rattle.line_pages.specs.Lines.{Lines}
 use Rattle.line_pages.specs.Bytes.{bytes_of}
 use Rattle.slotted_page.specs.declared.root.Expect.{Expect}
-use Rattle.slotted_page.specs.declared.lookup.Spot.{Spot}
-use Rattle.slotted_page.specs.declared.lookup.Spot.TheVariants.{Row, Gap, Child}
-use Rattle.slotted_page.specs.declared.probe.Header.{Header}
+use Rattle.slotted_page.specs.declared.spot.Spot.{Spot}
+use Rattle.slotted_page.specs.declared.spot.Spot.TheVariants.{Row, Gap, Child}
 use Rattle.slotted_page.specs.Rows.{keys, AllBelow, AllAbove, last_key}
-use Rattle.slotted_page.specs.Node.{leaf_rows, children, page_kind, page_level, entry_count, first_failing}
+use Rattle.slotted_page.specs.Node.{leaf_rows, children, first_failing}
 use Rattle.slotted_page.specs.Spans.{spans}
 
 -- a page is taken as a root exactly where its bounds are those of all keys
@@ -33,26 +30,6 @@ IsSafeSpot expect key (Child at page low high) =
     (1 ≤ expect.level) × (1 ≤ page) × (page < expect.pages) × (expect.low ≤ low) × (low ≤ key) × (key ≤ high) × (high ≤ expect.high)
     × (is_root_span low high ≡ false)
 
--- The same of a search that answers nothing where something looks odd, which it does not on a well-formed page.
-abbrev pub IsRightSpot : List ℕ → Expect → ℕ → Option Spot → Type 0
-IsRightSpot bytes expect key None = ⊥
-IsRightSpot bytes expect key (Some spot) = IsSpot bytes expect key spot
-
-abbrev pub IsSafeAnswer : Expect → ℕ → Option Spot → Type 0
-IsSafeAnswer expect key None = Unit {0}
-IsSafeAnswer expect key (Some spot) = IsSafeSpot expect key spot
-
--- an answer is given only where the page has the level that is expected
-abbrev pub IsOfLevel : List ℕ → Expect → Option Spot → Type 0
-IsOfLevel bytes expect None = Unit {0}
-IsOfLevel bytes expect (Some spot) = page_level bytes ≡ expect.level
-
--- the first words of a page
-pub record IsHeader (bytes : List ℕ) (header : Header) : Type 0 where
-  pub kind : header.kind ≡ page_kind bytes
-  pub count : header.count ≡ entry_count bytes
-  pub level : header.level ≡ page_level bytes
-
 -- The evidence names the first check that a page fails, and the buffer has the page's bytes. A page is a root exactly
 -- where its bounds are those of all keys.
 abbrev pub IsNodeDamage : ℕ → Lines → List ℕ → Evidence → Type 0
@@ -63,18 +40,3 @@ IsNodeDamage count lines buffer (Super words check) = ⊥
 IsNodeDamage count lines buffer (Frames first second entry check) = ⊥
 IsNodeDamage count lines buffer (Log offset line tail check) = ⊥
 IsNodeDamage count lines buffer (Walk page kept found check) = ⊥
-
--- The evidence names this page, what was expected of it, and the first check that it fails.
-abbrev pub IsShownDamage : ℕ → Expect → List ℕ → Evidence → Type 0
-IsShownDamage number expect bytes (Page page level low high check) =
-    (page ≡ number) × (level ≡ expect.level) × (low ≡ expect.low) × (high ≡ expect.high) × (first_failing bytes expect ≡ Some check)
-IsShownDamage number expect bytes (Super words check) = ⊥
-IsShownDamage number expect bytes (Frames first second entry check) = ⊥
-IsShownDamage number expect bytes (Log offset line tail check) = ⊥
-IsShownDamage number expect bytes (Walk page kept found check) = ⊥
-
--- a stop for damage shows it of this page
-abbrev pub ShowsDamage : ℕ → Expect → List ℕ → Stop → Type 0
-ShowsDamage number expect bytes Nvm = Unit {0}
-ShowsDamage number expect bytes Ssd = Unit {0}
-ShowsDamage number expect bytes (Damaged evidence) = IsShownDamage number expect bytes evidence

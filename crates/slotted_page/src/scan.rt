@@ -8,13 +8,13 @@ ghost use Rattle.slotted_page.specs.Search.{IsSpot, IsSafeSpot};
 
 use crate::entries::{child, child_key};
 use crate::leaf::leaf_key;
-use crate::lookup::Spot;
 use crate::root::Expect;
+use crate::spot::Spot;
 use line_pages::page_word;
 use ssd_model::PageBuf;
 
-/// Looks a key up in a well-formed page.
-pub fn scan(page: &PageBuf, expect: &Expect, key: u64) -> Spot
+/// Looks a key up in a well-formed page, whose bounds have it between them.
+pub fn locate(page: &PageBuf, expect: &Expect, key: u64) -> Spot
     requires well { IsWellFormed page.now expect.now }
     requires above { expect.now.low ≤ key }
     requires within { key ≤ expect.now.high }

@@ -1,5 +1,4 @@
-//! Worked examples: rows and children put, cut and joined, against bytes written by hand, each check violated once,
-//! and a search over pages in memory.
+//! Worked examples: rows and children put, cut and joined, against bytes written by hand, and each check violated once.
 //!
 //! The check on the bytes used comes first nowhere: where slots end before the heap and no two records share a byte,
 //! these bytes are at most 4,032.
@@ -18,10 +17,9 @@ use crate::inner::{inner_cut, inner_insert, inner_join, inner_remove};
 use crate::insert::{leaf_insert, leaf_remove, leaf_set, open_leaf};
 use crate::join::leaf_join;
 use crate::leaf::{leaf_key, leaf_rows, leaf_value};
-use crate::lookup::{Spot, find};
-use crate::read::read_page;
 use crate::root::Expect;
-use crate::scan::scan;
+use crate::scan::locate;
+use crate::spot::Spot;
 use crate::value::Value;
 use crate::work::Work;
 use line_pages::{
@@ -81,7 +79,7 @@ fn place(page: &PageBuf, key: u64) -> Spot
         root: true,
         pages: 0,
     };
-    scan(page, &expect, key)
+    locate(page, &expect, key)
 }
 
 /// A leaf of two rows, byte by byte: key 0 with no value, and the last key with the value `ab`.
@@ -579,125 +577,4 @@ fn children_of_241_are_cut_into_121_and_120(rt: HostRuntime) {
     assert_eq!(rt; join_inners(&mut left, &mut right), Some(true));
     assert_eq!(rt; last_child(&left), (240, 6000, 8));
     assert!(rt; join_inners(&mut left, &mut right).is_none());
-}
-
-/// Why a test ended early.
-#[derive(Debug, Drop)]
-enum Early {
-    Memory,
-    Stopped(Stop),
-}
-
-impl From<NoMemory> for Early {
-    ghost from_gives = { λ error made. made ≡ Memory };
-
-    ghost use Rattle.std.specs.Prelude.{◌≡◌};
-    ghost use Rattle.slotted_page.specs.declared.tests.Early.TheVariants.{Memory};
-
-    fn from(_error: NoMemory) -> Early {
-        Early::Memory
-    }
-}
-
-impl From<Stop> for Early {
-    ghost from_gives = { λ error made. made ≡ Stopped error };
-
-    ghost use Rattle.std.specs.Prelude.{◌≡◌};
-    ghost use Rattle.slotted_page.specs.declared.tests.Early.TheVariants.{Stopped};
-
-    fn from(error: Stop) -> Early {
-        Early::Stopped(error)
-    }
-}
-
-/// Writes a page into a store.
-fn store<P: Pages>(pages: &mut P, page: u64, from: &PageBuf) -> Result<(), Stop>
-    requires ready { P.is_ready pages.old }
-    requires page { page < (P.standing pages.old).count }
-    requires room { 64 ≤ (P.standing pages.old).room }
-    ensures count { (P.standing pages.new).count ≡ (P.standing pages.old).count }
-    ensures room { OnOk result ((P.standing pages.new).room + 64 ≡ (P.standing pages.old).room) }
-    ensures ready { OnOk result (P.is_ready pages.new) }
-{
-    for line in 0..64 {
-        let value = page_line(from, line);
-        pages.write_line(page, line, &value)?;
-    }
-    Ok(())
-}
-
-#[test]
-fn keys_are_found_through_lines(rt: HostRuntime) -> Result<(), Early> {
-    let mut pages = VecPages::new(rt.alloc(), 10, 192)?;
-    let mut work = Work::new();
-    let leaf = Expect {
-        level: 0,
-        low: 0,
-        high: u64::MAX,
-        root: true,
-        pages: 10,
-    };
-    let inner = Expect {
-        level: 1,
-        low: 0,
-        high: u64::MAX,
-        root: true,
-        pages: 10,
-    };
-    store(&mut pages, 1, &leaf_by_hand())?;
-    store(&mut pages, 2, &inner_by_hand())?;
-    assert_eq!(rt; find(&mut pages, 1, &leaf, 0, &mut work)?, Spot::Row(0));
-    assert_eq!(rt; find(&mut pages, 1, &leaf, 5, &mut work)?, Spot::Gap(1));
-    assert_eq!(rt;
-        find(&mut pages, 1, &leaf, u64::MAX, &mut work)?,
-        Spot::Row(1)
-    );
-    assert_eq!(rt;
-        find(&mut pages, 2, &inner, 49, &mut work)?,
-        Spot::Child(0, 7, 0, 49)
-    );
-    assert_eq!(rt;
-        find(&mut pages, 2, &inner, 50, &mut work)?,
-        Spot::Child(1, 9, 50, u64::MAX)
-    );
-    read_page(&mut pages, 2, &inner, &mut work)?;
-    assert!(rt; work.page().bytes() == inner_by_hand().bytes());
-    Ok(())
-}
-
-/// The check that a search finds to fail, in a store whose page 1 is this one.
-fn damage<P: Pages>(pages: &mut P, work: &mut Work) -> Option<Evidence>
-    requires ready { P.is_ready pages.old }
-    requires count { (P.standing pages.old).count ≡ 10 }
-{
-    let leaf = Expect {
-        level: 0,
-        low: 0,
-        high: u64::MAX,
-        root: true,
-        pages: 10,
-    };
-    match find(pages, 1, &leaf, 7, work) {
-        Err(Stop::Damaged(evidence)) => Some(evidence),
-        _ => None,
-    }
-}
-
-#[test]
-fn damage_is_shown_by_the_first_check_that_fails(rt: HostRuntime) -> Result<(), Early> {
-    let mut pages = VecPages::new(rt.alloc(), 10, 192)?;
-    let mut work = Work::new();
-    let mut page = leaf_by_hand();
-    set_page_half(&mut page, 68, 4095);
-    store(&mut pages, 1, &page)?;
-    let shown = Evidence::Page {
-        page: 1,
-        level: 0,
-        low: 0,
-        high: u64::MAX,
-        check: 14,
-    };
-    assert_eq!(rt; damage(&mut pages, &mut work), Some(shown));
-    assert!(rt; work.page().bytes() == page.bytes());
-    Ok(())
 }

@@ -5,7 +5,7 @@ use Rattle.line_pages.specs.Bytes.{bytes_of}
 use Rattle.slotted_page.specs.Rows.{Row}
 use Rattle.slotted_page.specs.Node.{leaf_rows, IsWellFormed}
 use Rattle.slotted_page.proofs.SlotLemmas.{length_rows}
-use Rattle.slotted_page.proofs.OpenLaws.{then_reads}
+use Rattle.page_search.proofs.OpenLaws.{then_reads}
 use Rattle.bplus_tree.proofs.NextLaws.{none_at}
 use Rattle.bplus_tree.proofs.next.row_from.Goals as goal
 

@@ -1,4 +1,4 @@
-use Rattle.slotted_page.proofs.OpenLaws.{then_reads}
+use Rattle.page_search.proofs.OpenLaws.{then_reads}
 use Rattle.line_pages.proofs.StandingLaws.{ReadsPage-trans}
 use Rattle.bplus_tree.proofs.row.read_row.Goals as goal
 

@@ -1,5 +1,5 @@
 use Rattle.line_pages.specs.Bytes.{bytes_of}
-use Rattle.slotted_page.proofs.OpenLaws.{then_reads}
+use Rattle.page_search.proofs.OpenLaws.{then_reads}
 use Rattle.bplus_tree.proofs.RecordLaws.{found_row}
 use Rattle.bplus_tree.proofs.row.row_at.Goals as goal
 

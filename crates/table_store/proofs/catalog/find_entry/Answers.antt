@@ -1,5 +1,5 @@
 use Rattle.line_pages.proofs.StandingLaws.{Continues-trans}
-use Rattle.slotted_page.proofs.OpenLaws.{then_reads}
+use Rattle.page_search.proofs.OpenLaws.{then_reads}
 use Rattle.std.proofs.Common.{◌≡◌, ap, IsTrue, IfOk, subst, sym}
 use Rattle.line_pages.specs.Lines.{Lines}
 use Rattle.table_store.specs.Catalog.{entries, place_of}

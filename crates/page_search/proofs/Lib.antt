@@ -1,0 +1,3 @@
+pub mod DamageLaws
+pub mod HeaderLaws
+pub mod OpenLaws

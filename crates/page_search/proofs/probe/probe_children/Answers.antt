@@ -1,0 +1,137 @@
+-- The search ends at the child, and in a well-formed page nothing looks odd.
+use Rattle.std.proofs.Common.{◌≡◌, ◌≢◌, ◌+◌, ◌-◌, ◌*◌, ◌/◌, ◌<◌, ℕ, refl, arith, sym, ap, subst, ◌∙◌, IsTrue}
+use Rattle.line_pages.specs.Bytes.{bytes_of, u64_at}
+use Rattle.line_pages.proofs.StandingLaws.{ReadsPage-refl, Continues-refl, Continues-trans, ReadsPage-trans, still_open}
+use Rattle.slotted_page.specs.Node.{entry_count, children, Child, is_page_below}
+use Rattle.slotted_page.specs.Spans.{Reaches}
+use Rattle.slotted_page.proofs.PageFacts.{clash}
+use Rattle.slotted_page.proofs.InnerLemmas.{length_children}
+use Rattle.slotted_page.proofs.ChildLaws.{narrow_whole, narrow_right, narrow_left, bounds_whole, probed_key, probed_page, key_inside, child_below, inside_is, inside_of, span_is}
+use Rattle.page_search.proofs.probe.probe_children.Goals as goal
+
+none : Child
+none = (0, 0)
+
+pub loop-low-init : goal.loop-low-init
+loop-low-init g c =
+    let old = g.P.Pages.standing c.args.pages.now in
+    record {
+      ready = c.requires.ready;
+      steady = λ s. s;
+      continues = Continues-refl (g.P.Pages.may_leave c.args.pages.now) (g.P.Pages.is_steady c.args.pages.now) old;
+      reads = ReadsPage-refl c.args.page old c.requires.open;
+      again = omega arith;
+      nvm_kept = refl;
+      ssd_kept = refl;
+      narrow = narrow_whole c.args.expect.now c.args.key c.args.count c.requires.some c.requires.above c.requires.within;
+      bounds = λ told well. bounds_whole (bytes_of old.current c.args.page) c.args.expect.now c.args.count (λ e. omega (arith, e, c.requires.inner)) well (c.requires.known told);
+    }
+
+pub returns-then-not-is_inside-clause-reads : goal.returns-then-not-is_inside-clause-reads
+returns-then-not-is_inside-clause-reads g c = ReadsPage-trans c.loop-low.invariant.reads c.in_ok-found.ensures.reads
+
+pub returns-then-not-is_inside-clause-spot : goal.returns-then-not-is_inside-clause-spot
+returns-then-not-is_inside-clause-spot g c = λ told well.
+    let before = c.loop-low.invariant in
+    let expect = c.args.expect.now in
+    let bytes = bytes_of (g.P.Pages.standing c.args.pages.now).current c.args.page in
+    let middle = c.loop-low.low + (c.loop-low.high - c.loop-low.low) / 2 in
+    let above : expect.level ≢ 0 = (λ e. omega (arith, e, c.requires.inner)) in
+    let told_on = subst IsTrue (sym before.continues.told) told in
+    let found : c.in_ok-found.found ≡ u64_at bytes (64 + 16 * middle) = c.in_ok-found.ensures.value told_on ∙ ap (λ all. u64_at (bytes_of all c.args.page) (64 + 16 * middle)) (before.reads.current told) in
+    let inside : middle < entry_count bytes = omega (arith, before.narrow.within, before.narrow.ordered, c.requires.known told, c.loop-low-test.true) in
+    let key = probed_key bytes middle c.in_ok-found.found none inside found in
+    let is = key_inside bytes expect middle none above well (omega (arith, c.loop-low-test.true)) (omega (arith, inside, length_children bytes)) in
+    let yes_it = inside_is expect c.in_ok-found.found (record { low = omega (arith, key, is.low); high = omega (arith, key, is.high) }) in
+    clash yes_it (sym c.is_inside.ensures ∙ c.if-not-is_inside.true)
+
+pub loop-low-preserved-then-found-key : goal.loop-low-preserved-then-found-key
+loop-low-preserved-then-found-key g c =
+    let before = c.loop-low.invariant in
+    let expect = c.args.expect.now in
+    let bytes = bytes_of (g.P.Pages.standing c.args.pages.now).current c.args.page in
+    let middle = c.loop-low.low + (c.loop-low.high - c.loop-low.low) / 2 in
+    let above : expect.level ≢ 0 = (λ e. omega (arith, e, c.requires.inner)) in
+    let is = inside_of expect c.in_ok-found.found (sym c.is_inside.ensures ∙ c.if-not-is_inside.false) in
+    record {
+      ready = c.in_ok-found.ensures.ready;
+      steady = λ s. c.in_ok-found.ensures.steady (before.steady s);
+      continues = Continues-trans before.continues before.steady c.in_ok-found.ensures.continues;
+      reads = ReadsPage-trans before.reads c.in_ok-found.ensures.reads;
+      again = omega (arith, before.again, c.in_ok-found.ensures.again (still_open before.reads));
+      nvm_kept = c.in_ok-found.ensures.cause.kept.0 ∙ before.nvm_kept;
+      ssd_kept = c.in_ok-found.ensures.cause.kept.1 ∙ before.ssd_kept;
+      narrow = narrow_right expect c.args.key c.args.count c.loop-low.low c.loop-low.high c.loop-low.least c.loop-low.most middle c.in_ok-found.found before.narrow
+          (omega (arith, c.loop-low-test.true)) (omega (arith, c.loop-low-test.true)) is.low c.if-found-key.true;
+      bounds = λ told well.
+          let told_on = subst IsTrue (sym before.continues.told) told in
+          let found : c.in_ok-found.found ≡ u64_at bytes (64 + 16 * middle) = c.in_ok-found.ensures.value told_on ∙ ap (λ all. u64_at (bytes_of all c.args.page) (64 + 16 * middle)) (before.reads.current told) in
+          let inside : middle < entry_count bytes = omega (arith, before.narrow.within, before.narrow.ordered, c.requires.known told, c.loop-low-test.true) in
+          record { least_is = λ d. probed_key bytes middle c.in_ok-found.found d inside found; most_is = (before.bounds told well).most_is };
+    }
+
+pub loop-low-preserved : goal.loop-low-preserved
+loop-low-preserved g c =
+    let before = c.loop-low.invariant in
+    let expect = c.args.expect.now in
+    let bytes = bytes_of (g.P.Pages.standing c.args.pages.now).current c.args.page in
+    let middle = c.loop-low.low + (c.loop-low.high - c.loop-low.low) / 2 in
+    let above : expect.level ≢ 0 = (λ e. omega (arith, e, c.requires.inner)) in
+    let is = inside_of expect c.in_ok-found.found (sym c.is_inside.ensures ∙ c.if-not-is_inside.false) in
+    record {
+      ready = c.in_ok-found.ensures.ready;
+      steady = λ s. c.in_ok-found.ensures.steady (before.steady s);
+      continues = Continues-trans before.continues before.steady c.in_ok-found.ensures.continues;
+      reads = ReadsPage-trans before.reads c.in_ok-found.ensures.reads;
+      again = omega (arith, before.again, c.in_ok-found.ensures.again (still_open before.reads));
+      nvm_kept = c.in_ok-found.ensures.cause.kept.0 ∙ before.nvm_kept;
+      ssd_kept = c.in_ok-found.ensures.cause.kept.1 ∙ before.ssd_kept;
+      narrow = narrow_left expect c.args.key c.args.count c.loop-low.low c.loop-low.high c.loop-low.least c.loop-low.most middle c.in_ok-found.found before.narrow
+          (omega (arith, c.loop-low-test.true)) (omega (arith, c.loop-low-test.true)) is.high c.if-found-key.false;
+      bounds = λ told well.
+          let told_on = subst IsTrue (sym before.continues.told) told in
+          let found : c.in_ok-found.found ≡ u64_at bytes (64 + 16 * middle) = c.in_ok-found.ensures.value told_on ∙ ap (λ all. u64_at (bytes_of all c.args.page) (64 + 16 * middle)) (before.reads.current told) in
+          let inside : middle < entry_count bytes = omega (arith, before.narrow.within, before.narrow.ordered, c.requires.known told, c.loop-low-test.true) in
+          record {
+            least_is = (before.bounds told well).least_is;
+            most_is = record {
+              next_is = λ less d. ap (λ (n : ℕ). n - 1) (probed_key bytes middle c.in_ok-found.found d inside found);
+              last_is = λ past. absurd (omega (arith, past, inside, length_children bytes));
+            };
+          };
+    }
+
+pub returns-then-not-is_page-clause-reads : goal.returns-then-not-is_page-clause-reads
+returns-then-not-is_page-clause-reads g c = ReadsPage-trans c.loop-low.invariant.reads c.in_ok-child.ensures.reads
+
+pub returns-then-not-is_page-clause-spot : goal.returns-then-not-is_page-clause-spot
+returns-then-not-is_page-clause-spot g c = λ told well.
+    let before = c.loop-low.invariant in
+    let expect = c.args.expect.now in
+    let bytes = bytes_of (g.P.Pages.standing c.args.pages.now).current c.args.page in
+    let low = c.loop-low.low in
+    let above : expect.level ≢ 0 = (λ e. omega (arith, e, c.requires.inner)) in
+    let told_on = subst IsTrue (sym before.continues.told) told in
+    let page : c.in_ok-child.child ≡ u64_at bytes (72 + 16 * low) = c.in_ok-child.ensures.value told_on ∙ ap (λ all. u64_at (bytes_of all c.args.page) (72 + 16 * low)) (before.reads.current told) in
+    let inside : low < entry_count bytes = omega (arith, before.narrow.within, before.narrow.ordered, c.requires.known told) in
+    let is = probed_page bytes low c.in_ok-child.child none inside page in
+    let yes_it = ap (λ (n : ℕ). is_page_below expect.pages (0, n)) is ∙ child_below bytes expect low none above well (omega (arith, inside, length_children bytes)) in
+    clash yes_it (sym c.is_page.ensures ∙ c.if-not-is_page.true)
+
+pub returns-clause-reads : goal.returns-clause-reads
+returns-clause-reads g c = ReadsPage-trans c.loop-low.invariant.reads c.in_ok-child.ensures.reads
+
+pub returns-clause-spot : goal.returns-clause-spot
+returns-clause-spot g c = λ told well.
+    let before = c.loop-low.invariant in
+    let expect = c.args.expect.now in
+    let bytes = bytes_of (g.P.Pages.standing c.args.pages.now).current c.args.page in
+    let low = c.loop-low.low in
+    let above : expect.level ≢ 0 = (λ e. omega (arith, e, c.requires.inner)) in
+    let told_on = subst IsTrue (sym before.continues.told) told in
+    let page : c.in_ok-child.child ≡ u64_at bytes (72 + 16 * low) = c.in_ok-child.ensures.value told_on ∙ ap (λ all. u64_at (bytes_of all c.args.page) (72 + 16 * low)) (before.reads.current told) in
+    let inside : low < entry_count bytes = omega (arith, before.narrow.within, before.narrow.ordered, c.requires.known told) in
+    let bounds = before.bounds told well in
+    let end : c.loop-low.high ≡ low + 1 = omega (arith, c.loop-low-test.false, before.narrow.ordered) in
+    span_is (children bytes) low expect.high c.in_ok-child.child c.loop-low.least c.loop-low.most none (omega (arith, inside, length_children bytes))
+    (subst (λ (n : ℕ). Reaches (children bytes) n expect.high c.loop-low.most) end bounds.most_is) (probed_page bytes low c.in_ok-child.child none inside page) (bounds.least_is none)

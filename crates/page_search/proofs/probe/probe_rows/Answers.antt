@@ -1,0 +1,105 @@
+-- The search ends at the row or in the gap, and in a well-formed leaf nothing looks odd.
+use Rattle.std.proofs.Common.{◌≡◌, ◌≢◌, ◌+◌, ◌-◌, ◌*◌, ◌/◌, ◌<◌, arith, sym, ap, subst, ◌∙◌, IsTrue}
+use Rattle.line_pages.specs.Bytes.{bytes_of, u16_at, u64_at}
+use Rattle.line_pages.proofs.StandingLaws.{Continues-trans, ReadsPage-trans, still_open}
+use Rattle.slotted_page.specs.Node.{entry_count, leaf_rows}
+use Rattle.slotted_page.specs.Rows.{keys}
+use Rattle.slotted_page.proofs.SlotLemmas.{length_rows}
+use Rattle.slotted_page.proofs.KeyLaws.{probed, length-keys, place_inside, slice_get-is, below_to, above_to, goes_right, goes_left}
+use Rattle.page_search.proofs.probe.probe_rows.Goals as goal
+
+pub returns-then-place-gt4096-clause-reads : goal.returns-then-place-gt4096-clause-reads
+returns-then-place-gt4096-clause-reads g c = ReadsPage-trans c.loop-low.invariant.reads c.in_ok-place.ensures.reads
+
+pub returns-then-place-gt4096-clause-spot : goal.returns-then-place-gt4096-clause-spot
+returns-then-place-gt4096-clause-spot g c = λ told well.
+    let before = c.loop-low.invariant in
+    let bytes = bytes_of (g.P.Pages.standing c.args.pages.now).current c.args.page in
+    let middle = c.loop-low.low + (c.loop-low.high - c.loop-low.low) / 2 in
+    let place = c.in_ok-place.ensures.value (subst IsTrue (sym before.continues.told) told) ∙ ap (λ all. u16_at (bytes_of all c.args.page) (64 + 4 * middle)) (before.reads.current told) in
+    let inside : middle < entry_count bytes = omega (arith, before.within, c.requires.known told, c.loop-low-test.true) in
+    omega (arith, place, place_inside bytes c.args.expect.now middle c.requires.leaf well inside, c.if-place-gt4096.true)
+
+pub returns-then-found-key-clause-reads : goal.returns-then-found-key-clause-reads
+returns-then-found-key-clause-reads g c = ReadsPage-trans (ReadsPage-trans c.loop-low.invariant.reads c.in_ok-place.ensures.reads) c.in_ok-found.ensures.reads
+
+pub returns-then-found-key-clause-spot : goal.returns-then-found-key-clause-spot
+returns-then-found-key-clause-spot g c = λ told well.
+    let before = c.loop-low.invariant in
+    let bytes = bytes_of (g.P.Pages.standing c.args.pages.now).current c.args.page in
+    let middle = c.loop-low.low + (c.loop-low.high - c.loop-low.low) / 2 in
+    let told_on = subst IsTrue (sym before.continues.told) told in
+    let place : c.in_ok-place.place ≡ u16_at bytes (64 + 4 * middle) = c.in_ok-place.ensures.value told_on ∙ ap (λ all. u16_at (bytes_of all c.args.page) (64 + 4 * middle)) (before.reads.current told) in
+    let found : c.in_ok-found.found ≡ u64_at bytes c.in_ok-place.place =
+    c.in_ok-found.ensures.value (subst IsTrue (sym c.in_ok-place.ensures.continues.told) told_on)
+    ∙ ap (λ all. u64_at (bytes_of all c.args.page) c.in_ok-place.place) (c.in_ok-place.ensures.reads.current told_on ∙ before.reads.current told) in
+    let inside : middle < entry_count bytes = omega (arith, before.within, c.requires.known told, c.loop-low-test.true) in
+    let key = probed bytes middle c.in_ok-place.place c.in_ok-found.found inside place found in
+    (c.requires.leaf, slice_get-is (keys (leaf_rows bytes)) middle c.args.key (omega (arith, inside, length-keys bytes)) (sym key ∙ c.if-found-key.true))
+
+pub loop-low-preserved-then-found-key-2 : goal.loop-low-preserved-then-found-key-2
+loop-low-preserved-then-found-key-2 g c =
+    let before = c.loop-low.invariant in
+    let bytes = bytes_of (g.P.Pages.standing c.args.pages.now).current c.args.page in
+    let middle = c.loop-low.low + (c.loop-low.high - c.loop-low.low) / 2 in
+    record {
+      ready = c.in_ok-found.ensures.ready;
+      steady = λ s. c.in_ok-found.ensures.steady (c.in_ok-place.ensures.steady (before.steady s));
+      continues = Continues-trans (Continues-trans before.continues before.steady c.in_ok-place.ensures.continues) (λ s. c.in_ok-place.ensures.steady (before.steady s)) c.in_ok-found.ensures.continues;
+      reads = ReadsPage-trans (ReadsPage-trans before.reads c.in_ok-place.ensures.reads) c.in_ok-found.ensures.reads;
+      again = omega (arith, before.again, c.in_ok-place.ensures.again (still_open before.reads), c.in_ok-found.ensures.again (still_open c.in_ok-place.ensures.reads));
+      nvm_kept = c.in_ok-found.ensures.cause.kept.0 ∙ c.in_ok-place.ensures.cause.kept.0 ∙ before.nvm_kept;
+      ssd_kept = c.in_ok-found.ensures.cause.kept.1 ∙ c.in_ok-place.ensures.cause.kept.1 ∙ before.ssd_kept;
+      ordered = omega (arith, c.loop-low-test.true);
+      within = before.within;
+      between = λ told well.
+          let told_on = subst IsTrue (sym before.continues.told) told in
+          let place : c.in_ok-place.place ≡ u16_at bytes (64 + 4 * middle) = c.in_ok-place.ensures.value told_on ∙ ap (λ all. u16_at (bytes_of all c.args.page) (64 + 4 * middle)) (before.reads.current told) in
+          let found : c.in_ok-found.found ≡ u64_at bytes c.in_ok-place.place =
+          c.in_ok-found.ensures.value (subst IsTrue (sym c.in_ok-place.ensures.continues.told) told_on)
+          ∙ ap (λ all. u64_at (bytes_of all c.args.page) c.in_ok-place.place) (c.in_ok-place.ensures.reads.current told_on ∙ before.reads.current told) in
+          let inside : middle < entry_count bytes = omega (arith, before.within, c.requires.known told, c.loop-low-test.true) in
+          let key = probed bytes middle c.in_ok-place.place c.in_ok-found.found inside place found in
+          goes_right bytes c.args.expect.now c.args.key c.loop-low.low c.loop-low.high middle c.in_ok-found.found c.requires.leaf well inside key c.if-found-key-2.true (before.between told well);
+    }
+
+pub loop-low-preserved : goal.loop-low-preserved
+loop-low-preserved g c =
+    let before = c.loop-low.invariant in
+    let bytes = bytes_of (g.P.Pages.standing c.args.pages.now).current c.args.page in
+    let middle = c.loop-low.low + (c.loop-low.high - c.loop-low.low) / 2 in
+    record {
+      ready = c.in_ok-found.ensures.ready;
+      steady = λ s. c.in_ok-found.ensures.steady (c.in_ok-place.ensures.steady (before.steady s));
+      continues = Continues-trans (Continues-trans before.continues before.steady c.in_ok-place.ensures.continues) (λ s. c.in_ok-place.ensures.steady (before.steady s)) c.in_ok-found.ensures.continues;
+      reads = ReadsPage-trans (ReadsPage-trans before.reads c.in_ok-place.ensures.reads) c.in_ok-found.ensures.reads;
+      again = omega (arith, before.again, c.in_ok-place.ensures.again (still_open before.reads), c.in_ok-found.ensures.again (still_open c.in_ok-place.ensures.reads));
+      nvm_kept = c.in_ok-found.ensures.cause.kept.0 ∙ c.in_ok-place.ensures.cause.kept.0 ∙ before.nvm_kept;
+      ssd_kept = c.in_ok-found.ensures.cause.kept.1 ∙ c.in_ok-place.ensures.cause.kept.1 ∙ before.ssd_kept;
+      ordered = omega (arith, c.loop-low-test.true);
+      within = omega (arith, before.within, c.loop-low-test.true);
+      between = λ told well.
+          let told_on = subst IsTrue (sym before.continues.told) told in
+          let place : c.in_ok-place.place ≡ u16_at bytes (64 + 4 * middle) = c.in_ok-place.ensures.value told_on ∙ ap (λ all. u16_at (bytes_of all c.args.page) (64 + 4 * middle)) (before.reads.current told) in
+          let found : c.in_ok-found.found ≡ u64_at bytes c.in_ok-place.place =
+          c.in_ok-found.ensures.value (subst IsTrue (sym c.in_ok-place.ensures.continues.told) told_on)
+          ∙ ap (λ all. u64_at (bytes_of all c.args.page) c.in_ok-place.place) (c.in_ok-place.ensures.reads.current told_on ∙ before.reads.current told) in
+          let inside : middle < entry_count bytes = omega (arith, before.within, c.requires.known told, c.loop-low-test.true) in
+          let key = probed bytes middle c.in_ok-place.place c.in_ok-found.found inside place found in
+          let other : c.in_ok-found.found ≢ c.args.key = c.if-found-key.false in
+          goes_left bytes c.args.expect.now c.args.key c.loop-low.low c.loop-low.high middle c.in_ok-found.found c.requires.leaf well inside key (omega (arith, c.if-found-key-2.false, other)) (before.between told well);
+    }
+
+pub returns-clause-spot : goal.returns-clause-spot
+returns-clause-spot g c = λ told well.
+    let before = c.loop-low.invariant in
+    let bytes = bytes_of (g.P.Pages.standing c.args.pages.now).current c.args.page in
+    let all = before.between told well in
+    let size = length_rows bytes in
+    let known = c.requires.known told in
+    let end : c.loop-low.low ≡ c.loop-low.high = omega (arith, c.loop-low-test.false, before.ordered) in (
+      c.requires.leaf,
+      omega (arith, end, before.within, known, size),
+      below_to c.args.key c.loop-low.low (leaf_rows bytes) all.lower (omega (arith, end, before.within, known, size)),
+      above_to c.args.key c.loop-low.low (leaf_rows bytes) (λ k above within. all.upper k (omega (arith, end, above)) (omega (arith, within, size))),
+    )

@@ -1,0 +1,59 @@
+//! A whole page read and checked.
+ghost use Rattle.std.specs.Prelude.{false, ◌≡◌, ◌+◌, ◌<◌, ◌≤◌, true, length, IsTrue, OnOk, IfErr};
+ghost use Rattle.line_pages.specs.Bytes.{bytes_of};
+ghost use Rattle.line_pages.specs.Touch.{begins};
+ghost use Rattle.line_pages.specs.Standing.{Continues, HasCause, ReadsPage};
+ghost use Rattle.slotted_page.specs.Node.{IsWellFormed};
+ghost use Rattle.slotted_page.specs.Search.{is_root_span, IsNodeDamage};
+ghost use Rattle.page_search.specs.Answers.{IsShownDamage, ShowsDamage};
+ghost use Rattle.slotted_page.specs.Work.{KeepsOthers};
+
+use line_pages::{Evidence, Pages, Stop, copy_page};
+use slotted_page::{Expect, Work, well_formed};
+
+/// Reads a whole page, as one access, and makes its checks. `Damaged` comes exactly where one fails of the lines that
+/// were read, which then stand in the buffer of the page last checked.
+pub fn read_page<P: Pages>(
+    pages: &mut P,
+    page: u64,
+    expect: &Expect,
+    work: &mut Work,
+) -> Result<(), Stop>
+    requires ready { P.is_ready pages.old }
+    requires page { page < (P.standing pages.old).count }
+    requires pages { expect.now.pages ≡ (P.standing pages.old).count }
+    requires root { is_root_span expect.now.low expect.now.high ≡ true → expect.now.root ≡ true }
+    // what the page is
+    ensures well { OnOk result (IsWellFormed work.new.page expect.now) }
+    ensures size { OnOk result (length work.new.page ≡ 4096) }
+    ensures bytes { IsTrue (P.standing pages.old).told → OnOk result (work.new.page ≡ bytes_of (P.standing pages.old).current page) }
+    ensures damage { IsTrue (P.standing pages.old).told → IfErr result (ShowsDamage page expect.now (bytes_of (P.standing pages.old).current page)) }
+    ensures cause { HasCause (λ e. IsTrue (P.standing pages.old).told → IsNodeDamage (P.standing pages.old).count (P.standing pages.old).current work.new.page e) (P.standing pages.old) (P.standing pages.new) result }
+    // what stays
+    ensures continues { Continues (P.may_leave pages.old) (P.may_leave pages.new) (P.is_steady pages.old) (P.standing pages.old) (P.standing pages.new) }
+    ensures reads { OnOk result (ReadsPage page (P.standing pages.old) (P.standing pages.new)) }
+    ensures again { begins (P.standing pages.old).access page false ≡ false → (P.standing pages.new).visits ≤ (P.standing pages.old).visits }
+    ensures few { (P.standing pages.new).visits ≤ (P.standing pages.old).visits + 1 }
+    ensures others { KeepsOthers work.old work.new }
+    ensures ready { OnOk result (P.is_ready pages.new) }
+    ensures steady { P.is_steady pages.old → OnOk result (P.is_steady pages.new) }
+{
+    copy_page(pages, page, &mut work.page)?;
+    match well_formed(&work.page, expect) {
+        Ok(()) => Ok(()),
+        Err(check) => Err(Stop::Damaged(page_evidence(page, expect, check))),
+    }
+}
+
+/// The evidence that a page fails a check.
+fn page_evidence(page: u64, expect: &Expect, check: u8) -> Evidence
+    ensures { result ≡ Evidence.Page page expect.now.level expect.now.low expect.now.high check }
+{
+    Evidence::Page {
+        page,
+        level: expect.level,
+        low: expect.low,
+        high: expect.high,
+        check,
+    }
+}

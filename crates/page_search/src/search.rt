@@ -1,0 +1,79 @@
+//! The search for a key in one page.
+ghost use Rattle.std.specs.Prelude.{false, ◌≡◌, ◌+◌, ◌<◌, ◌≤◌, true, IsTrue, OnOk, IfOk, IfErr};
+ghost use Rattle.line_pages.specs.Bytes.{bytes_of};
+ghost use Rattle.line_pages.specs.Touch.{begins};
+ghost use Rattle.line_pages.specs.Standing.{Continues, HasCause, ReadsPage};
+ghost use Rattle.slotted_page.specs.Node.{IsWellFormed, page_level};
+ghost use Rattle.slotted_page.specs.Search.{is_root_span, IsSpot, IsSafeSpot, IsNodeDamage};
+ghost use Rattle.page_search.specs.Answers.{ShowsDamage};
+ghost use Rattle.slotted_page.specs.Work.{KeepsOthers};
+
+use crate::probe::probe;
+use crate::read::read_page;
+use line_pages::{Pages, Stop};
+use slotted_page::{Expect, Spot, Work, locate};
+
+/// Looks a key up in a page by line 0 and the slots and keys that a binary search probes, as one access. Where something
+/// that was read is odd, it reads all lines and answers `Damaged` exactly where a check of them fails, else by these lines.
+pub fn find<P: Pages>(
+    pages: &mut P,
+    page: u64,
+    expect: &Expect,
+    key: u64,
+    work: &mut Work,
+) -> Result<Spot, Stop>
+    requires ready { P.is_ready pages.old }
+    requires page { page < (P.standing pages.old).count }
+    requires pages { expect.now.pages ≡ (P.standing pages.old).count }
+    requires root { is_root_span expect.now.low expect.now.high ≡ true → expect.now.root ≡ true }
+    requires above { expect.now.low ≤ key }
+    requires within { key ≤ expect.now.high }
+    // what is found
+    ensures spot { IsTrue (P.standing pages.old).told → IsWellFormed (bytes_of (P.standing pages.old).current page) expect.now → IfOk result (IsSpot (bytes_of (P.standing pages.old).current page) expect.now key) }
+    ensures level { IsTrue (P.standing pages.old).told → OnOk result (page_level (bytes_of (P.standing pages.old).current page) ≡ expect.now.level) }
+    ensures safe { IfOk result (IsSafeSpot expect.now key) }
+    ensures damage { IsTrue (P.standing pages.old).told → IfErr result (ShowsDamage page expect.now (bytes_of (P.standing pages.old).current page)) }
+    ensures cause { HasCause (λ e. IsTrue (P.standing pages.old).told → IsNodeDamage (P.standing pages.old).count (P.standing pages.old).current work.new.page e) (P.standing pages.old) (P.standing pages.new) result }
+    // what stays
+    ensures continues { Continues (P.may_leave pages.old) (P.may_leave pages.new) (P.is_steady pages.old) (P.standing pages.old) (P.standing pages.new) }
+    ensures reads { OnOk result (ReadsPage page (P.standing pages.old) (P.standing pages.new)) }
+    ensures few { (P.standing pages.new).visits ≤ (P.standing pages.old).visits + 1 }
+    ensures others { KeepsOthers work.old work.new }
+    ensures ready { OnOk result (P.is_ready pages.new) }
+    ensures steady { P.is_steady pages.old → OnOk result (P.is_steady pages.new) }
+{
+    match probe(pages, page, expect, key)? {
+        Some(spot) => Ok(spot),
+        None => find_whole(pages, page, expect, key, work),
+    }
+}
+
+/// Looks a key up by all lines of the page, whose access is open.
+fn find_whole<P: Pages>(
+    pages: &mut P,
+    page: u64,
+    expect: &Expect,
+    key: u64,
+    work: &mut Work,
+) -> Result<Spot, Stop>
+    requires ready { P.is_ready pages.old }
+    requires page { page < (P.standing pages.old).count }
+    requires pages { expect.now.pages ≡ (P.standing pages.old).count }
+    requires root { is_root_span expect.now.low expect.now.high ≡ true → expect.now.root ≡ true }
+    requires above { expect.now.low ≤ key }
+    requires within { key ≤ expect.now.high }
+    ensures spot { IsTrue (P.standing pages.old).told → IfOk result (IsSpot (bytes_of (P.standing pages.old).current page) expect.now key) }
+    ensures level { IsTrue (P.standing pages.old).told → OnOk result (page_level (bytes_of (P.standing pages.old).current page) ≡ expect.now.level) }
+    ensures safe { IfOk result (IsSafeSpot expect.now key) }
+    ensures damage { IsTrue (P.standing pages.old).told → IfErr result (ShowsDamage page expect.now (bytes_of (P.standing pages.old).current page)) }
+    ensures cause { HasCause (λ e. IsTrue (P.standing pages.old).told → IsNodeDamage (P.standing pages.old).count (P.standing pages.old).current work.new.page e) (P.standing pages.old) (P.standing pages.new) result }
+    ensures continues { Continues (P.may_leave pages.old) (P.may_leave pages.new) (P.is_steady pages.old) (P.standing pages.old) (P.standing pages.new) }
+    ensures reads { OnOk result (ReadsPage page (P.standing pages.old) (P.standing pages.new)) }
+    ensures again { begins (P.standing pages.old).access page false ≡ false → (P.standing pages.new).visits ≤ (P.standing pages.old).visits }
+    ensures others { KeepsOthers work.old work.new }
+    ensures ready { OnOk result (P.is_ready pages.new) }
+    ensures steady { P.is_steady pages.old → OnOk result (P.is_steady pages.new) }
+{
+    read_page(pages, page, expect, work)?;
+    Ok(locate(&work.page, expect, key))
+}
