@@ -20,3 +20,4 @@ pub mod MergeLaws
 pub mod TreeDamageLaws
 pub mod Joined
 pub mod NextLaws
+pub mod SoundLaws
