@@ -5,9 +5,9 @@ ghost use Rattle.line_pages.specs.Standing.{Continues, HasCause, Never, KeepsLin
 ghost use Rattle.slotted_page.specs.Node.{IsWellFormed};
 ghost use Rattle.slotted_page.specs.Search.{is_root_span, IsSpot, IsSafeSpot};
 ghost use Rattle.slotted_page.specs.Work.{KeepsOthers};
-ghost use Rattle.bplus_tree.specs.Damage.{IsTreeDamage, IsFault};
+ghost use Rattle.bplus_tree.specs.Damage.{IsTreeDamage, IsFault, IsShort, spare_pages};
 ghost use Rattle.bplus_tree.specs.Moves.{Takes, Gives};
-ghost use Rattle.bplus_tree.specs.Space.{FitsHeader};
+ghost use Rattle.bplus_tree.specs.Space.{FitsHeader, IsFreeList};
 ghost use Rattle.bplus_tree.specs.Written.{Rewrites, lines_changed};
 ghost use Rattle.bplus_tree.specs.Edit.{IsOutcome, IsCutAt, Stores, spent};
 
@@ -80,6 +80,7 @@ pub fn take<P: Pages>(pages: &mut P, work: &mut Work) -> Result<u64, Stop>
     ensures in_range { IfOk result (λ page. (1 ≤ page) × (page < (P.standing pages.old).count)) }
     ensures room { OnOk result ((P.standing pages.new).room + 1 ≡ (P.standing pages.old).room) }
     ensures work { OnOk result (work.new ≡ work.old) }
+    ensures sound { IsTrue (P.standing pages.old).told → FitsHeader (P.standing pages.old).count ((P.standing pages.old).current 0 0) → (free : List ℕ) → IsFreeList (P.standing pages.old).current free → IfErr result (IsShort (spare_pages (P.standing pages.old).count (P.standing pages.old).current free) 0) }
     ensures cause { HasCause (IsTreeDamage (P.standing pages.old).told (P.standing pages.old).count work.new.page) (P.standing pages.old) (P.standing pages.new) result }
     ensures continues { Continues (P.may_leave pages.old) (P.may_leave pages.new) (P.is_steady pages.old) (P.standing pages.old) (P.standing pages.new) }
     ensures few { (P.standing pages.new).visits ≤ (P.standing pages.old).visits + 4 }
