@@ -1,18 +1,22 @@
 -- Calls on pages in order answer no damage.
-use Rattle.std.proofs.Common.{◌≡◌, ◌≢◌, ℕ, ◌+◌, ◌-◌, ◌≤◌, inl, inr, Bool, true, false, List, [], ◌∷◌, Some, None, Result, Ok, Err, IfErr, not, ◌==◌, ◌&&◌, ◌||◌, refl, sym, ap, subst, ◌∙◌, arith, nat_eq, nat_le, nat_lt}
+use Rattle.std.proofs.Common.{◌≡◌, ◌≢◌, ℕ, ◌+◌, ◌-◌, ◌≤◌, inl, inr, Bool, true, false, List, [], ◌∷◌, length, Some, None, Result, Ok, Err, IfErr, not, ◌==◌, ◌&&◌, ◌||◌, refl, sym, ap, subst, ◌∙◌, arith, nat_eq, nat_le, nat_lt}
 use Rattle.std.proofs.lemmas.Bool.{cases_eq, eq-eqb, ne_eqb, le-leb, lt-ltb, and_from}
 use Rattle.line_pages.specs.declared.stop.Stop.{Stop}
 use Rattle.line_pages.specs.declared.stop.Stop.TheVariants.{Nvm, Ssd, Damaged}
 use Rattle.line_pages.specs.declared.stop.Evidence.{Evidence}
 use Rattle.line_pages.specs.declared.stop.Evidence.TheVariants.{Super, Frames, Log, Page, Walk}
+use Rattle.nvm_model.specs.declared.line.Line.{Line}
 use Rattle.line_pages.specs.Lines.{Lines}
 use Rattle.line_pages.specs.Standing.{Standing, HasCause, Never}
 use Rattle.slotted_page.specs.declared.root.Expect.{Expect}
 use Rattle.slotted_page.specs.Checks.{first_failure}
 use Rattle.slotted_page.specs.Node.{IsWellFormed}
 use Rattle.slotted_page.specs.Search.{ShowsDamage}
-use Rattle.bplus_tree.specs.Space.{high_of, free_head, is_free_page, FitsHeader, IsFreeList, IsPageEvidence, IsSpaceDamage, header_checks, take_checks}
+use Rattle.bplus_tree.specs.Space.{word, high_of, free_head, is_free_page, FitsHeader, IsFreeList, IsPageEvidence, IsSpaceDamage, header_checks, take_checks}
 use Rattle.bplus_tree.specs.Damage.{IsFault, IsShort, spare_pages}
+use Rattle.bplus_tree.specs.Moves.{ArePart, Moves}
+use Rattle.bplus_tree.specs.Written.{Rewrites}
+use Rattle.bplus_tree.proofs.Places.{in_part, Moves-write}
 
 -- calls that answer no damage
 pub sound_never : {A T : Type 0} {old new : Standing A} (result : Result T Stop) → HasCause Never old new result → IfErr result IsFault
@@ -92,3 +96,29 @@ sound_take_on {told = told} {buffer = buffer} {old = old} {new = new} count mid_
     sound_take count lines free result t fits is_free
     (subst (λ (l : Lines). HasCause (λ e. told → IsSpaceDamage (take_checks count l) l buffer e) old new result) same
     (subst (λ (n : ℕ). HasCause (λ e. told → IsSpaceDamage (take_checks n mid) mid buffer e) old new result) is_count cause))
+
+-- a fault is one of the stops of a call that takes a page
+pub fault_short : {T : Type 0} (spare most : ℕ) (result : Result T Stop) → IfErr result IsFault → IfErr result (IsShort spare most)
+fault_short spare most (Ok v) is = tt
+fault_short spare most (Err Nvm) is = tt
+fault_short spare most (Err Ssd) is = tt
+fault_short spare most (Err (Damaged e)) is = absurd is
+
+-- a header in order stays so where another page is written, and so do the free pages
+pub written_header : (count : ℕ) (old new : Lines) (page : ℕ) (bytes : List ℕ) → Rewrites page bytes old new → 1 ≤ page → FitsHeader count (old 0 0) → FitsHeader count (new 0 0)
+written_header count old new page bytes wrote some fits =
+    subst (λ (f : ℕ → Line). FitsHeader count (f 0)) (sym (wrote.others 0 (λ e. omega (arith, some, e)))) fits
+
+one_or_more : (n : ℕ) → n ≢ 0 → 1 ≤ n
+one_or_more n some = omega (arith, some)
+
+pub sound_cut : {T : Type 0} (count mid_count : ℕ) (old mid : Lines) (page : ℕ) (bytes free : List ℕ) (result : Result T Stop) → mid_count ≡ count → Rewrites page bytes old mid → IsFreeList old free → ArePart old (page ∷ free) → FitsHeader count (old 0 0)
+    → (FitsHeader mid_count (mid 0 0) → (free : List ℕ) → IsFreeList mid free → IfErr result (IsShort (spare_pages mid_count mid free) 0)) → IfErr result (IsShort (spare_pages count old free) 0)
+sound_cut count mid_count old mid page bytes free result is_count wrote is_free part fits below =
+    let inside = in_part old (page ∷ free) page part (rw (eq-eqb page page refl) (omega arith)) in
+    let moves = Moves-write count old mid page bytes free wrote is_free part fits.within in
+    let some = one_or_more page inside.0 in
+    let header = written_header count old mid page bytes wrote some fits in
+    let high : high_of mid ≡ high_of old = ap (λ (f : ℕ → Line). word (f 0) 2) (wrote.others 0 (λ e. omega (arith, some, e))) in
+    let stops = below (subst (λ (n : ℕ). FitsHeader n (mid 0 0)) (sym is_count) header) free moves.moves.is_free in
+    subst (λ (n : ℕ). IfErr result (IsShort (length free + (count - n)) 0)) high (subst (λ (n : ℕ). IfErr result (IsShort (spare_pages n mid free) 0)) is_count stops)
