@@ -21,3 +21,4 @@ pub mod TreeDamageLaws
 pub mod Joined
 pub mod NextLaws
 pub mod SoundLaws
+pub mod NextReads
