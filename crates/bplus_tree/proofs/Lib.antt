@@ -20,5 +20,6 @@ pub mod MergeLaws
 pub mod TreeDamageLaws
 pub mod Joined
 pub mod NextLaws
+pub mod PathLaws
 pub mod SoundLaws
 pub mod NextReads

@@ -1,4 +1,4 @@
-//! Changes of the tree under a page, by recursion on its level.
+//! Changes of one page of a tree: of a leaf, and of the pages above one that was changed.
 ghost use Rattle.std.specs.Prelude.{◌≡◌, ◌≢◌, ◌+◌, ◌-◌, ◌*◌, ◌<◌, ◌≤◌, ◌==◌, ℕ, List, length, true, false, None, IsTrue, OnOk, IfOk, IfErr, Err};
 ghost use Rattle.std.specs.List.{list_all};
 ghost use Rattle.line_pages.specs.Bytes.{bytes_of};
@@ -10,20 +10,19 @@ ghost use Rattle.bplus_tree.specs.Damage.{IsTreeDamage, IsFullRoot};
 ghost use Rattle.bplus_tree.specs.Edit.{Edits, Mends, AddsChild, IsSafe, IsSpent, StaysBelow, IsPair, IsCutIn, Rewritten, after_fit};
 ghost use Rattle.bplus_tree.specs.Written.{Rewrites, lines_changed};
 
-use crate::access::{give, load, look, store};
+use crate::access::{give, load, store};
 use crate::inner_edit::{inner_put, mend_divided, mend_joined};
 use crate::joining::join;
 use crate::leaf_edit::{leaf_delete, leaf_put};
 use crate::outcome::{Fit, Outcome, Pair};
 use crate::pair::pair_of;
-use crate::root::child_expect;
 use crate::write::write_changes;
 use line_pages::{Evidence, Pages, Stop, page_word};
-use slotted_page::{Expect, Spot, Work};
+use slotted_page::{Expect, Work};
 use ssd_model::PageBuf;
 
 /// A put into a leaf.
-fn put_leaf<P: Pages>(
+pub fn put_leaf<P: Pages>(
     pages: &mut P,
     page: u64,
     expect: &Expect,
@@ -58,7 +57,7 @@ fn put_leaf<P: Pages>(
 }
 
 /// A delete in a leaf.
-fn delete_leaf<P: Pages>(
+pub fn delete_leaf<P: Pages>(
     pages: &mut P,
     page: u64,
     expect: &Expect,
@@ -98,7 +97,7 @@ fn is_full_root(page: &PageBuf, expect: &Expect) -> bool
 }
 
 /// One more child for an inner page. `Damaged` comes with check 39 where the page is a root at level 3 that has 240.
-fn add_child<P: Pages>(
+pub fn add_child<P: Pages>(
     pages: &mut P,
     page: u64,
     expect: &Expect,
@@ -150,95 +149,8 @@ fn full_root(page: u64, expect: &Expect) -> Stop
     })
 }
 
-/// A put into the tree under a page.
-pub fn put_in<P: Pages>(
-    pages: &mut P,
-    page: u64,
-    expect: &Expect,
-    key: u64,
-    value: &[u8],
-    work: &mut Work,
-) -> Result<Outcome, Stop>
-    requires ready { P.is_ready pages.old }
-    requires page { page < (P.standing pages.old).count }
-    requires pages { expect.now.pages ≡ (P.standing pages.old).count }
-    requires root { is_root_span expect.now.low expect.now.high ≡ true → expect.now.root ≡ true }
-    requires span { expect.now.root ≡ true → is_root_span expect.now.low expect.now.high ≡ true }
-    requires some { 1 ≤ page }
-    requires above { expect.now.low ≤ key }
-    requires within { key ≤ expect.now.high }
-    requires size { length value.now ≤ 480 }
-    requires printable { list_all is_printable value.now ≡ true }
-    requires cut_room { 129 * expect.now.level + 129 ≤ (P.standing pages.old).room }
-    requires join_room { 189 * expect.now.level + 33 ≤ (P.standing pages.old).room }
-    ensures safe { IfOk result (IsSafe (P.standing pages.old).count expect.now) }
-    ensures below { IfOk result (StaysBelow expect.now) }
-    ensures edits { IsTrue (P.standing pages.old).told → IfOk result (λ outcome. Edits (P.standing pages.old).current (P.standing pages.new).current page expect.now outcome (row_put key value.now)) }
-    ensures room { IfOk result (IsSpent expect.now.level (P.standing pages.old).room (P.standing pages.new).room) }
-    ensures cause { HasCause (IsTreeDamage (P.standing pages.old).told (P.standing pages.old).count work.new.page) (P.standing pages.old) (P.standing pages.new) result }
-    ensures continues { Continues (P.may_leave pages.old) (P.may_leave pages.new) (P.is_steady pages.old) (P.standing pages.old) (P.standing pages.new) }
-    ensures few { (P.standing pages.new).visits ≤ (P.standing pages.old).visits + 14 * expect.now.level + 10 }
-    ensures ready { OnOk result (P.is_ready pages.new) }
-    ensures steady { P.is_steady pages.old → OnOk result (P.is_steady pages.new) }
-{
-    match look(pages, page, expect, key, work)? {
-        Spot::Child(_, child, low, high) => {
-            let lower = child_expect(expect, low, high);
-            match put_in(pages, child, &lower, key, value, work)? {
-                Outcome::Whole => Ok(Outcome::Whole),
-                Outcome::Short => mend(pages, page, expect, low, work),
-                Outcome::Cut(separator, right) => {
-                    add_child(pages, page, expect, separator, right, work)
-                }
-                Outcome::Alone(_) => Ok(Outcome::Whole),
-            }
-        }
-        _ => put_leaf(pages, page, expect, key, value, work),
-    }
-}
-
-/// A delete in the tree under a page.
-pub fn delete_in<P: Pages>(
-    pages: &mut P,
-    page: u64,
-    expect: &Expect,
-    key: u64,
-    work: &mut Work,
-) -> Result<Outcome, Stop>
-    requires ready { P.is_ready pages.old }
-    requires page { page < (P.standing pages.old).count }
-    requires pages { expect.now.pages ≡ (P.standing pages.old).count }
-    requires root { is_root_span expect.now.low expect.now.high ≡ true → expect.now.root ≡ true }
-    requires some { 1 ≤ page }
-    requires above { expect.now.low ≤ key }
-    requires within { key ≤ expect.now.high }
-    requires room { 189 * expect.now.level + 33 ≤ (P.standing pages.old).room }
-    ensures safe { IfOk result (IsSafe (P.standing pages.old).count expect.now) }
-    ensures edits { IsTrue (P.standing pages.old).told → IfOk result (λ outcome. Edits (P.standing pages.old).current (P.standing pages.new).current page expect.now outcome (row_delete key)) }
-    ensures uncut { IfOk result (λ outcome. (k r : ℕ) → outcome ≢ Outcome.Cut k r) }
-    ensures room { IfOk result (IsSpent expect.now.level (P.standing pages.old).room (P.standing pages.new).room) }
-    ensures cause { HasCause (IsTreeDamage (P.standing pages.old).told (P.standing pages.old).count work.new.page) (P.standing pages.old) (P.standing pages.new) result }
-    ensures continues { Continues (P.may_leave pages.old) (P.may_leave pages.new) (P.is_steady pages.old) (P.standing pages.old) (P.standing pages.new) }
-    ensures few { (P.standing pages.new).visits ≤ (P.standing pages.old).visits + 14 * expect.now.level + 10 }
-    ensures ready { OnOk result (P.is_ready pages.new) }
-    ensures steady { P.is_steady pages.old → OnOk result (P.is_steady pages.new) }
-{
-    match look(pages, page, expect, key, work)? {
-        Spot::Child(_, child, low, high) => {
-            let lower = child_expect(expect, low, high);
-            match delete_in(pages, child, &lower, key, work)? {
-                Outcome::Whole => Ok(Outcome::Whole),
-                Outcome::Short => mend(pages, page, expect, low, work),
-                Outcome::Cut(_, _) => Ok(Outcome::Whole),
-                Outcome::Alone(_) => Ok(Outcome::Whole),
-            }
-        }
-        _ => delete_leaf(pages, page, expect, key, work),
-    }
-}
-
 /// Joins the child at a key with its right sibling, or else with its left one.
-fn mend<P: Pages>(
+pub fn mend<P: Pages>(
     pages: &mut P,
     page: u64,
     expect: &Expect,

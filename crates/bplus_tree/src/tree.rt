@@ -9,10 +9,10 @@ ghost use Rattle.bplus_tree.specs.Moves.{ChangesRows};
 ghost use Rattle.bplus_tree.specs.Damage.{IsTreeDamage};
 
 use crate::access::{take, write_new};
-use crate::change::{delete_in, put_in};
 use crate::lookup::get;
 use crate::outcome::Outcome;
 use crate::pair::root_of;
+use crate::path::{Place, delete_in, put_in};
 use crate::root::{Root, root_expect};
 use line_pages::{Pages, Stop};
 use slotted_page::{Value, Work};
@@ -47,12 +47,15 @@ fn put_row<P: Pages>(
     ensures steady { P.is_steady pages.old → OnOk result (P.is_steady pages.new) }
 {
     let count = pages.page_count();
-    let expect = root_expect(root, count);
-    match put_in(pages, root.page, &expect, key, value, work)? {
+    let top = Place {
+        page: root.page,
+        expect: root_expect(root, count),
+    };
+    match put_in(pages, top, key, value, work)? {
         Outcome::Whole => Ok(()),
         Outcome::Short => Ok(()),
         Outcome::Cut(separator, right) => {
-            let top = take(pages, work)?;
+            let page = take(pages, work)?;
             root_of(
                 &mut work.page,
                 root.levels,
@@ -61,8 +64,8 @@ fn put_row<P: Pages>(
                 right,
                 count,
             );
-            write_new(pages, top, &work.page, &mut work.spare)?;
-            root.page = top;
+            write_new(pages, page, &work.page, &mut work.spare)?;
+            root.page = page;
             root.levels += 1;
             Ok(())
         }
@@ -100,8 +103,11 @@ fn delete_row<P: Pages>(
     ensures ready { OnOk result (P.is_ready pages.new) }
     ensures steady { P.is_steady pages.old → OnOk result (P.is_steady pages.new) }
 {
-    let expect = root_expect(root, pages.page_count());
-    match delete_in(pages, root.page, &expect, key, work)? {
+    let top = Place {
+        page: root.page,
+        expect: root_expect(root, pages.page_count()),
+    };
+    match delete_in(pages, top, key, work)? {
         Outcome::Alone(child) => {
             root.page = child;
             root.levels -= 1;

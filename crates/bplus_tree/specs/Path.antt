@@ -1,0 +1,61 @@
+-- The way down to a key, and what becomes of the pages on it.
+use Rattle.std.specs.Prelude.{◌≡◌, ◌≢◌, ℕ, suc, ◌<◌, ◌≤◌, Bool, true, false, List, [], ◌∷◌, Some, slice_get, IsTrue}
+use Rattle.line_pages.specs.Lines.{Lines}
+use Rattle.line_pages.specs.Bytes.{bytes_of}
+use Rattle.slotted_page.specs.Search.{is_root_span}
+use Rattle.slotted_page.specs.Spans.{spans}
+use Rattle.slotted_page.specs.Node.{children, IsWellFormed}
+use Rattle.bplus_tree.specs.declared.outcome.Outcome.{Outcome}
+use Rattle.bplus_tree.specs.declared.outcome.Outcome.TheVariants.{Whole, Short, Cut, Alone}
+use Rattle.bplus_tree.specs.declared.path.Place.{Place}
+use Rattle.bplus_tree.specs.declared.path.Passed.{Passed}
+use Rattle.bplus_tree.specs.Edit.{Mends, AddsChild}
+
+-- A page of the store, which is a root exactly where its bounds are those of all keys.
+pub record IsPlace (count : ℕ) (place : Place) : Type 0 where
+  pub some : 1 ≤ place.page
+  pub page : place.page < count
+  pub pages : place.expect.pages ≡ count
+  pub root : is_root_span place.expect.low place.expect.high ≡ true → place.expect.root ≡ true
+  pub span : place.expect.root ≡ true → is_root_span place.expect.low place.expect.high ≡ true
+
+-- The way of a key goes from a page to this child of it, whose bounds have the key between them.
+pub record LeadsTo (told : Bool) (lines : Lines) (count key : ℕ) (from : Passed) (to : Place) : Type 0 where
+  pub place : IsPlace count from.place
+  pub level : from.place.expect.level ≡ suc to.expect.level
+  pub pages : to.expect.pages ≡ from.place.expect.pages
+  pub root : to.expect.root ≡ false
+  pub low : from.low ≡ to.expect.low
+  pub after : from.place.expect.low ≤ to.expect.low
+  pub above : to.expect.low ≤ key
+  pub within : key ≤ to.expect.high
+  pub before : to.expect.high ≤ from.place.expect.high
+  pub at : ℕ
+  pub found : IsTrue told → IsWellFormed (bytes_of lines from.place.page) from.place.expect
+      → slice_get (spans (children (bytes_of lines from.place.page)) from.place.expect.high) at ≡ Some (record { page = to.page; low = to.expect.low; high = to.expect.high })
+
+-- The way of a key goes from the top over these pages to the bottom.
+abbrev pub Leads : Bool → Lines → ℕ → ℕ → Place → List Passed → Place → Type 0
+Leads told lines count key top [] bottom = top ≡ bottom
+Leads told lines count key top (passed ∷ rest) bottom = (passed.place ≡ top) × (next : Place) × LeadsTo told lines count key passed next × Leads told lines count key next rest bottom
+
+-- what was done to a page above a child that became this
+abbrev pub Settles : Lines → Lines → Passed → Outcome → Outcome → Type 0
+Settles old new passed Whole outcome = new ≡ old
+Settles old new passed Short outcome = Mends old new passed.place.page passed.place.expect passed.low outcome
+Settles old new passed (Cut key right) outcome = AddsChild old new passed.place.page passed.place.expect key right outcome
+Settles old new passed (Alone child) outcome = new ≡ old
+
+-- Only a page whose child was cut is cut, and only one whose child fell short falls short.
+abbrev pub MayFollow : Outcome → Outcome → Type 0
+MayFollow Whole outcome = outcome ≡ Whole
+MayFollow Short outcome = (key right : ℕ) → outcome ≢ Cut key right
+MayFollow (Cut key right) outcome = outcome ≢ Short
+MayFollow (Alone child) outcome = outcome ≡ Whole
+
+-- the lines that are written for it
+abbrev pub room_above : Outcome → ℕ
+room_above Whole = 0
+room_above Short = 189
+room_above (Cut key right) = 129
+room_above (Alone child) = 0
