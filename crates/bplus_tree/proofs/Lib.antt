@@ -23,3 +23,4 @@ pub mod NextLaws
 pub mod PathLaws
 pub mod SoundLaws
 pub mod NextReads
+pub mod TouchedLaws
