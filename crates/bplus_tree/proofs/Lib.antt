@@ -22,3 +22,5 @@ pub mod Joined
 pub mod NextLaws
 pub mod PathLaws
 pub mod SoundLaws
+pub mod NextReads
+pub mod TouchedLaws

@@ -1,6 +1,6 @@
 -- Calls on pages in order answer no damage.
-use Rattle.std.proofs.Common.{◌≡◌, ◌≢◌, ℕ, ◌+◌, ◌-◌, ◌≤◌, inl, inr, Bool, true, false, List, [], ◌∷◌, length, Some, None, Result, Ok, Err, IfErr, not, ◌==◌, ◌&&◌, ◌||◌, refl, sym, ap, subst, ◌∙◌, arith, nat_eq, nat_le, nat_lt}
-use Rattle.std.proofs.lemmas.Bool.{cases_eq, eq-eqb, ne_eqb, le-leb, lt-ltb, and_from}
+use Rattle.std.proofs.Common.{◌≡◌, ◌≢◌, ℕ, ◌+◌, ◌-◌, ◌*◌, ◌<◌, ◌≤◌, inl, inr, Bool, true, false, List, [], ◌∷◌, ◌++◌, length, Some, None, Result, Ok, Err, IfErr, not, ◌==◌, ◌&&◌, ◌||◌, refl, sym, ap, subst, ◌∙◌, arith, nat_eq, nat_le, nat_lt}
+use Rattle.std.proofs.lemmas.Bool.{cases_Bool, cases_eq, eq-eqb, ne_eqb, le-leb, lt-ltb, and_from}
 use Rattle.line_pages.specs.declared.stop.Stop.{Stop}
 use Rattle.line_pages.specs.declared.stop.Stop.TheVariants.{Nvm, Ssd, Damaged}
 use Rattle.line_pages.specs.declared.stop.Evidence.{Evidence}
@@ -10,7 +10,14 @@ use Rattle.line_pages.specs.Lines.{Lines}
 use Rattle.line_pages.specs.Standing.{Standing, HasCause, Never}
 use Rattle.slotted_page.specs.declared.root.Expect.{Expect}
 use Rattle.slotted_page.specs.Checks.{first_failure}
-use Rattle.slotted_page.specs.Node.{IsWellFormed}
+use Rattle.std.specs.List.{list_all}
+use Rattle.line_pages.specs.Bytes.{bytes_of}
+use Rattle.slotted_page.specs.Rows.{keys, ascends}
+use Rattle.slotted_page.specs.Cut.{leaf_room, leaf_floor, inner_room, inner_floor}
+use Rattle.slotted_page.specs.Node.{page_kind, page_level, entry_count, heap_start, slots, bytes_used, is_in_heap, all_apart, has_printable_value, begins_at, first_keys, is_page_below, leaf_rows, children, first_failing, IsWellFormed}
+use Rattle.bplus_tree.specs.Edit.{loose}
+use Rattle.bplus_tree.specs.Tree.{IsTree}
+use Rattle.bplus_tree.proofs.SearchLaws.{well_formed_top}
 use Rattle.slotted_page.specs.Search.{ShowsDamage}
 use Rattle.bplus_tree.specs.Space.{word, high_of, free_head, is_free_page, FitsHeader, IsFreeList, IsPageEvidence, IsSpaceDamage, header_checks, take_checks}
 use Rattle.bplus_tree.specs.Damage.{IsFault, IsShort, spare_pages}
@@ -122,3 +129,56 @@ sound_cut count mid_count old mid page bytes free result is_count wrote is_free 
     let high : high_of mid ≡ high_of old = ap (λ (f : ℕ → Line). word (f 0) 2) (wrote.others 0 (λ e. omega (arith, some, e))) in
     let stops = below (subst (λ (n : ℕ). FitsHeader n (mid 0 0)) (sym is_count) header) free moves.moves.is_free in
     subst (λ (n : ℕ). IfErr result (IsShort (length free + (count - n)) 0)) high (subst (λ (n : ℕ). IfErr result (IsShort (spare_pages n mid free) 0)) is_count stops)
+
+-- calls that move pages leave the header in order
+pub moved_header : {count : ℕ} {old new : Lines} {used used' free free' : List ℕ} → Moves count old new used used' free free' → FitsHeader count (old 0 0) → FitsHeader count (new 0 0)
+moved_header {new = new} {free' = free'} m fits = record {
+  kind = m.kind ∙ fits.kind;
+  some = omega (arith, m.higher, fits.some);
+  within = m.within;
+  head = head_below new free' (omega (arith, m.higher, fits.some)) m.is_free;
+}
+  where
+    head_below : (lines : Lines) (free : List ℕ) → 1 ≤ high_of lines → IsFreeList lines free → free_head lines < high_of lines
+    head_below lines [] some is = omega (arith, is, some)
+    head_below lines (page ∷ rest) some is = omega (arith, is.0, is.2)
+
+-- what is expected of a page, but that it may be below the floor
+last_holds : (xs : List (ℕ × Bool)) (n : ℕ) (b : Bool) → first_failure (xs ++ (n, b) ∷ []) ≡ None → first_failure (xs ++ (n, true) ∷ []) ≡ None
+last_holds [] n b e = refl
+last_holds (x ∷ xs) n b e =
+    elim (cases_Bool x.1) [
+      | inl holds ↦ rw holds (last_holds xs n b (rw holds at e))
+      | inr fails ↦ let there = rw fails at e in absurd (cc)
+    ]
+
+abbrev leaf_front : List ℕ → Expect → List (ℕ × Bool)
+leaf_front bytes expect =
+    (11, page_kind bytes == 1)
+    ∷ (12, page_level bytes == expect.level)
+    ∷ (13, nat_le (64 + 4 * entry_count bytes) (heap_start bytes) && nat_le (heap_start bytes) 4096)
+    ∷ (14, list_all (is_in_heap (heap_start bytes)) (slots bytes) && all_apart (slots bytes))
+    ∷ (15, nat_le (bytes_used (slots bytes)) leaf_room)
+    ∷ (16, ascends expect.low expect.high (keys (leaf_rows bytes)))
+    ∷ (17, list_all has_printable_value (leaf_rows bytes)) ∷ []
+
+abbrev inner_front : List ℕ → Expect → List (ℕ × Bool)
+inner_front bytes expect =
+    (11, page_kind bytes == 2)
+    ∷ (12, page_level bytes == expect.level)
+    ∷ (18, nat_le 2 (entry_count bytes) && nat_le (entry_count bytes) inner_room)
+    ∷ (19, begins_at expect.low (children bytes) && ascends expect.low expect.high (first_keys (children bytes)))
+    ∷ (20, list_all (is_page_below expect.pages) (children bytes)) ∷ []
+
+pub loose_well : (bytes : List ℕ) (expect : Expect) → IsWellFormed bytes expect → IsWellFormed bytes (loose expect)
+unfolding first_failing
+loose_well bytes expect well =
+    elim (cases_eq expect.level 0) [
+      | inl leaf ↦ rw (eq-eqb expect.level 0 leaf) (last_holds (leaf_front bytes expect) 21 (expect.root || nat_le leaf_floor (bytes_used (slots bytes))) (rw (eq-eqb expect.level 0 leaf) at well))
+      | inr inner ↦ rw (ne_eqb expect.level 0 inner) (last_holds (inner_front bytes expect) 22 (expect.root || nat_le inner_floor (entry_count bytes)) (rw (ne_eqb expect.level 0 inner) at well))
+    ]
+
+-- the page that heads a tree
+pub loose_top : (count : ℕ) (lines : Lines) (level page low high : ℕ) (root : Bool) → IsTree count lines level page low high root
+    → IsWellFormed (bytes_of lines page) (record { level = level; low = low; high = high; root = true; pages = count })
+loose_top count lines level page low high root tree = loose_well (bytes_of lines page) _ (well_formed_top count lines level page low high root tree)

@@ -1,14 +1,14 @@
 //! The calls on pages that the changes of a tree are made of, with the damage that they show in the words of trees.
 ghost use Rattle.std.specs.Prelude.{◌≡◌, ◌≢◌, ◌∷◌, ◌+◌, ◌*◌, ◌<◌, ◌≤◌, ℕ, List, length, true, IsTrue, OnOk, IfOk, IfErr};
 ghost use Rattle.line_pages.specs.Bytes.{bytes_of};
-ghost use Rattle.line_pages.specs.Standing.{Continues, HasCause, Never, KeepsLines};
+ghost use Rattle.line_pages.specs.Standing.{Continues, HasCause, Never, KeepsLines, ReadsPage};
 ghost use Rattle.slotted_page.specs.Node.{IsWellFormed};
 ghost use Rattle.slotted_page.specs.Search.{is_root_span, IsSpot, IsSafeSpot};
 ghost use Rattle.slotted_page.specs.Work.{KeepsOthers};
 ghost use Rattle.bplus_tree.specs.Damage.{IsTreeDamage, IsFault, IsShort, spare_pages};
 ghost use Rattle.bplus_tree.specs.Moves.{ArePart, Takes, Gives};
 ghost use Rattle.bplus_tree.specs.Space.{FitsHeader, IsFreeList};
-ghost use Rattle.bplus_tree.specs.Written.{Rewrites, lines_changed};
+ghost use Rattle.bplus_tree.specs.Written.{Rewrites, Differs, WritesOnly, lines_changed};
 ghost use Rattle.bplus_tree.specs.declared.outcome.Fit.TheVariants as fits;
 ghost use Rattle.bplus_tree.specs.Edit.{IsOutcome, IsCutAt, Stores, spent};
 
@@ -36,6 +36,7 @@ pub fn look<P: Pages>(
     requires within { key ≤ expect.now.high }
     ensures spot { IsTrue (P.standing pages.old).told → IsWellFormed (bytes_of (P.standing pages.old).current page) expect.now → IfOk result (IsSpot (bytes_of (P.standing pages.old).current page) expect.now key) }
     ensures safe { IfOk result (IsSafeSpot expect.now key) }
+    ensures reads { OnOk result (ReadsPage page (P.standing pages.old) (P.standing pages.new)) }
     ensures keeps { OnOk result (KeepsLines (P.standing pages.old) (P.standing pages.new)) }
     ensures sound { IsTrue (P.standing pages.old).told → IsWellFormed (bytes_of (P.standing pages.old).current page) expect.now → IfErr result IsFault }
     ensures cause { HasCause (IsTreeDamage (P.standing pages.old).told (P.standing pages.old).count work.new.page) (P.standing pages.old) (P.standing pages.new) result }
@@ -62,6 +63,7 @@ pub fn load<P: Pages>(
     ensures well { OnOk result (IsWellFormed work.new.page expect.now) }
     ensures bytes { IsTrue (P.standing pages.old).told → OnOk result (work.new.page ≡ bytes_of (P.standing pages.old).current page) }
     ensures others { KeepsOthers work.old work.new }
+    ensures reads { OnOk result (ReadsPage page (P.standing pages.old) (P.standing pages.new)) }
     ensures keeps { OnOk result (KeepsLines (P.standing pages.old) (P.standing pages.new)) }
     ensures sound { IsTrue (P.standing pages.old).told → IsWellFormed (bytes_of (P.standing pages.old).current page) expect.now → IfErr result IsFault }
     ensures cause { HasCause (IsTreeDamage (P.standing pages.old).told (P.standing pages.old).count work.new.page) (P.standing pages.old) (P.standing pages.new) result }
@@ -167,6 +169,7 @@ pub fn store<P: Pages>(pages: &mut P, page: u64, fit: Fit, work: &mut Work) -> R
     ensures room { OnOk result ((P.standing pages.old).room ≤ (P.standing pages.new).room + spent (lines_changed work.old.spare work.old.page) fit) }
     ensures sound { IsTrue (P.standing pages.old).told → work.old.spare ≡ bytes_of (P.standing pages.old).current page → (free : List ℕ) → IsFreeList (P.standing pages.old).current free → ArePart (P.standing pages.old).current (page ∷ free) → FitsHeader (P.standing pages.old).count ((P.standing pages.old).current 0 0) → IfErr result (IsShort (spare_pages (P.standing pages.old).count (P.standing pages.old).current free) 0) }
     ensures plain { ((key : ℕ) → fit ≢ fits.Cut key) → IfErr result IsFault }
+    ensures touches { ((key : ℕ) → fit ≢ fits.Cut key) → OnOk result (WritesOnly page (Differs work.old.spare work.old.page) (P.standing pages.old) (P.standing pages.new)) }
     ensures cause { HasCause (IsTreeDamage (P.standing pages.old).told (P.standing pages.old).count work.new.page) (P.standing pages.old) (P.standing pages.new) result }
     ensures continues { Continues (P.may_leave pages.old) (P.may_leave pages.new) (P.is_steady pages.old) (P.standing pages.old) (P.standing pages.new) }
     ensures few { (P.standing pages.new).visits ≤ (P.standing pages.old).visits + 7 }
