@@ -360,7 +360,7 @@ reach_joined pair None ys high = refl
 reach_joined pair (Some key) ys high = refl
 
 -- the join, before the page above is written
-joins_over : (count : ℕ) (old mid : Lines) (level page high : ℕ) (pair : Pair) (cut : Option ℕ) (free : List ℕ) → (g : Segment count old level (children (bytes_of old page)) high pair) → Joins count old mid level pair cut
+pub joins_over : (count : ℕ) (old mid : Lines) (level page high : ℕ) (pair : Pair) (cut : Option ℕ) (free : List ℕ) → (g : Segment count old level (children (bytes_of old page)) high pair) → Joins count old mid level pair cut
     → IsFreeList old free → ArePart old (tree_pages old (suc level) page ++ free) → high_of old ≤ count
     → Beside count old mid level page g.front (joined pair cut) g.back (rows_of old level (both pair)) free × Each (IsChildTree count mid level) (spans (joined pair cut) pair.high)
 joins_over count old mid level page high pair cut free g joins is whole bound =
