@@ -6,9 +6,9 @@ use Rattle.line_pages.specs.declared.stop.Stop.TheVariants.{Nvm, Ssd, Damaged}
 use Rattle.line_pages.specs.declared.stop.Evidence.{Evidence}
 use Rattle.line_pages.specs.declared.stop.Evidence.TheVariants.{Super, Frames, Log, Page, Walk}
 use Rattle.line_pages.specs.Lines.{Lines}
-use Rattle.bplus_tree.specs.Space.{high_of}
+use Rattle.bplus_tree.specs.Space.{high_of, IsFreeList}
 use Rattle.bplus_tree.specs.Tree.{times}
-use Rattle.bplus_tree.specs.Moves.{below, Moves}
+use Rattle.bplus_tree.specs.Moves.{below, ArePart, Moves}
 use Rattle.bplus_tree.specs.Damage.{IsFault, StopsFor, IsShort, spare_pages, pages_at_hand}
 use Rattle.std.proofs.Common.{Option}
 use Rattle.line_pages.specs.Bytes.{bytes_of, page_bytes}
@@ -138,3 +138,12 @@ stays_above e old first mid page key level free pair cut buffer same are pairs m
       well = subst (λ (b : List ℕ). IsWellFormed b e) (sym (ap (λ p. page_bytes p) r.0.same)) m.well;
       header = moved_header r.0.moves fits;
     }
+
+-- a page that is stored after calls that changed no line
+pub stored_sound : {T : Type 0} (count n : ℕ) (old first : Lines) (page : ℕ) (spare free : List ℕ) (result : Result T Stop) → n ≡ count → first ≡ old → spare ≡ bytes_of first page
+    → IsFreeList old free → ArePart old (page ∷ free) → FitsHeader count (old 0 0)
+    → (spare ≡ bytes_of first page → (free : List ℕ) → IsFreeList first free → ArePart first (page ∷ free) → FitsHeader n (first 0 0) → IfErr result (IsShort (spare_pages n first free) 0))
+    → IfErr result (IsShort (spare_pages count old free) 0)
+stored_sound count n old first page spare free result is_count same are is_free part fits sound =
+    subst (λ (m : ℕ). FitsHeader m (old 0 0) → IfErr result (IsShort (spare_pages m old free) 0)) is_count
+    (subst (λ (lines : Lines). IsFreeList lines free → ArePart lines (page ∷ free) → FitsHeader n (lines 0 0) → IfErr result (IsShort (spare_pages n lines free) 0)) same (sound are free) is_free part) fits
