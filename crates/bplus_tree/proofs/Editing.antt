@@ -113,7 +113,7 @@ three_rows : (lines : Lines) (level : ℕ) (xs ss ys : List Child) → rows_of l
 three_rows lines level xs ss ys =
     flat_map-append (λ (child : Child). tree_rows lines level child.1) xs (ss ++ ys) ∙ ap (λ r. rows_of lines level xs ++ r) (flat_map-append (λ (child : Child). tree_rows lines level child.1) ss ys)
 
-three_pages : (lines : Lines) (level : ℕ) (xs ss ys : List Child) (n : ℕ)
+pub three_pages : (lines : Lines) (level : ℕ) (xs ss ys : List Child) (n : ℕ)
     → times n (pages_of lines level (xs ++ (ss ++ ys))) ≡ times n (pages_of lines level xs) + (times n (pages_of lines level ss) + times n (pages_of lines level ys))
 three_pages lines level xs ss ys n =
     let all = flat_map-append (λ (child : Child). tree_pages lines level child.1) xs (ss ++ ys) ∙ ap (λ r. pages_of lines level xs ++ r) (flat_map-append (λ (child : Child). tree_pages lines level child.1) ss ys) in

@@ -21,6 +21,7 @@ pub mod TreeDamageLaws
 pub mod Joined
 pub mod NextLaws
 pub mod LackLaws
+pub mod StandLaws
 pub mod PathLaws
 pub mod SoundLaws
 pub mod NextReads

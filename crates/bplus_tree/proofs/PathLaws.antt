@@ -15,8 +15,21 @@ use Rattle.bplus_tree.specs.declared.outcome.Outcome.{Outcome}
 use Rattle.bplus_tree.specs.declared.outcome.Outcome.TheVariants.{Whole, Short, Cut, Alone}
 use Rattle.bplus_tree.specs.Edit.{Edits, Mends, IsSafe, StaysBelow, IsSpent}
 use Rattle.bplus_tree.specs.declared.root.Root.{Root}
-use Rattle.bplus_tree.specs.Path.{IsPlace, LeadsTo, Leads, Settles, MayFollow, room_above, root_place}
-use Rattle.bplus_tree.proofs.Editing.{IsLocal, edits_kept, edits_short, edits_alone}
+use Rattle.bplus_tree.specs.Path.{IsPlace, LeadsTo, Leads, Settles, MayFollow, StandsAt, StandsAbove, StopsAbove, IsFullAt, TakesFor, room_above, root_place}
+use Rattle.std.proofs.Common.{Result, IfErr}
+use Rattle.line_pages.specs.Bytes.{page_bytes}
+use Rattle.line_pages.specs.declared.stop.Stop.{Stop}
+use Rattle.slotted_page.specs.Node.{entry_count}
+use Rattle.bplus_tree.specs.Space.{FitsHeader}
+use Rattle.bplus_tree.specs.Tree.{IsTree, tree_pages, tree_rows}
+use Rattle.bplus_tree.specs.Damage.{IsFault, StopsFor, spare_pages}
+use Rattle.bplus_tree.specs.Edit.{IsMendable}
+use Rattle.bplus_tree.proofs.SizeLaws.{full_root_rows}
+use Rattle.bplus_tree.proofs.SoundLaws.{moved_header}
+use Rattle.bplus_tree.proofs.SearchLaws.{well_formed_top}
+use Rattle.bplus_tree.proofs.LackLaws.{stops_wider, fault_stops}
+use Rattle.bplus_tree.proofs.StandLaws.{way_down, stands_child, leads_stands, above_child, takes_leaf, takes_above}
+use Rattle.bplus_tree.proofs.Editing.{IsLocal, at_level, short_below, edits_kept, edits_short, edits_alone}
 use Rattle.bplus_tree.proofs.Storing.{edits_cut}
 
 -- a page further
@@ -116,6 +129,7 @@ pub record Climbing (told : Bool) (count key : ℕ) (old now : Lines) (top : Pla
   pub safe : IsSafe count bottom.expect outcome
   pub below : StaysBelow bottom.expect outcome
   pub edits : IsTrue told → Edits old now bottom.page bottom.expect outcome step
+  pub takes : IsTrue told → TakesFor count old now bottom.page bottom.expect outcome
   pub spent : IsSpent bottom.expect.level old_room room outcome
   pub height : bottom.expect.level + length path ≡ top.expect.level
   pub few : visits ≤ old_visits + top.expect.level + 9 + 13 * bottom.expect.level
@@ -188,6 +202,7 @@ climb_on told count key old mid new top path passed before outcome step old_room
       safe = safe;
       below = below;
       edits = λ t. settled told count key old mid new passed c.bottom before outcome step local t back.1 c.safe (c.edits t) (settles t) follows;
+      takes = λ t. takes_above told count key old mid new passed c.bottom before outcome step t back.1.place.pages back.1 (c.edits t) (c.takes t) (settles t) follows;
       spent = subst (λ (l : ℕ). IsSpent l old_room room outcome) (sym back.1.level) (spent_above c.bottom.expect.level old_room mid_room room before outcome c.spent follows spent);
       height = omega (arith, c.height, more, back.1.level);
       few = omega (arith, c.few, few, back.1.level);
@@ -227,32 +242,39 @@ can_settle told count key old mid top path passed outcome step old_room room old
 
 -- at the leaf
 pub climb_start : (told : Bool) (count key : ℕ) (old mid new : Lines) (top leaf : Place) (path : List Passed) (outcome : Outcome) (step : List Row → List Row) (old_room mid_room room old_visits mid_visits visits : ℕ)
-    → leaf.expect.level ≡ 0 → Leads told old count key top path leaf → (IsTrue told → mid ≡ old) → mid_room ≡ old_room → mid_visits ≤ old_visits + top.expect.level + 1
+    → leaf.expect.level ≡ 0 → leaf.expect.pages ≡ count → Leads told old count key top path leaf → (IsTrue told → mid ≡ old) → mid_room ≡ old_room → mid_visits ≤ old_visits + top.expect.level + 1
     → IsSafe count leaf.expect outcome → StaysBelow leaf.expect outcome → (IsTrue told → Edits mid new leaf.page leaf.expect outcome step) → IsSpent 0 mid_room room outcome → visits ≤ mid_visits + 8
     → Climbing told count key old new top path outcome step old_room room old_visits visits
-climb_start told count key old mid new top leaf path outcome step old_room mid_room room old_visits mid_visits visits level leads same same_room few_down safe below edits spent few = record {
+climb_start told count key old mid new top leaf path outcome step old_room mid_room room old_visits mid_visits visits level is_count leads same same_room few_down safe below edits spent few = record {
   bottom = leaf;
   leads = leads;
   safe = safe;
   below = below;
   edits = λ t. subst (λ (lines : Lines). Edits lines new leaf.page leaf.expect outcome step) (same t) (edits t);
+  takes = λ t. takes_leaf count old new leaf outcome step level is_count (subst (λ (lines : Lines). Edits lines new leaf.page leaf.expect outcome step) (same t) (edits t));
   spent = subst (λ (l : ℕ). IsSpent l old_room room outcome) (sym level) (subst (λ (n : ℕ). IsSpent 0 n room outcome) same_room spent);
   height = leads-height told old count key top leaf path leads;
   few = omega (arith, few_down, few);
 }
+
+-- a path with no page left
+pub emptied : (path : List Passed) → (0 < length path → ⊥) → path ≡ []
+emptied [] none = refl
+emptied (passed ∷ path) none = absurd (none (omega arith))
 
 -- at the top
 pub record Climbed (told : Bool) (count : ℕ) (old now : Lines) (top : Place) (outcome : Outcome) (step : List Row → List Row) (old_room room : ℕ) : Type 0 where
   pub safe : IsSafe count top.expect outcome
   pub below : StaysBelow top.expect outcome
   pub edits : IsTrue told → Edits old now top.page top.expect outcome step
+  pub takes : IsTrue told → TakesFor count old now top.page top.expect outcome
   pub spent : IsSpent top.expect.level old_room room outcome
 
 pub climb_end : (told : Bool) (count key : ℕ) (old now : Lines) (top : Place) (path : List Passed) (outcome : Outcome) (step : List Row → List Row) (old_room room old_visits visits : ℕ) → path ≡ []
     → Climbing told count key old now top path outcome step old_room room old_visits visits → Climbed told count old now top outcome step old_room room
 climb_end told count key old now top path outcome step old_room room old_visits visits none c =
     let is : top ≡ c.bottom = subst (λ (p : List Passed). Leads told old count key top p c.bottom) none c.leads in
-    subst (λ (p : Place). Climbed told count old now p outcome step old_room room) (sym is) (record { safe = c.safe; below = c.below; edits = c.edits; spent = c.spent })
+    subst (λ (p : Place). Climbed told count old now p outcome step old_room room) (sym is) (record { safe = c.safe; below = c.below; edits = c.edits; takes = c.takes; spent = c.spent })
 
 pub uncut_below : (e : Expect) (outcome : Outcome) → ((k r : ℕ) → outcome ≢ Cut k r) → StaysBelow e outcome
 uncut_below e Whole uncut = tt
@@ -271,3 +293,88 @@ pub at_root : (count n : ℕ) (old new : Lines) (root : Root) (top : Place) (out
     → Edits old new root.page (root_place root count).expect outcome step
 at_root count n old new root top outcome step is_count is edits =
     subst (λ (m : ℕ). Edits old new root.page (root_place root m).expect outcome step) is_count (subst (λ (p : Place). Edits old new p.page p.expect outcome step) is edits)
+
+-- a page above a child that was not cut stops by faults alone
+faults_at : {T : Type 0} (told : Bool) (count key : ℕ) (old mid : Lines) (passed : Passed) (child : Place) (before : Outcome) (step : List Row → List Row) (free : List ℕ) (result : Result T Stop) → IsLocal key step → IsTrue told
+    → LeadsTo told old count key passed child → Edits old mid child.page child.expect before step → StandsAt old passed.place.page passed.place.expect free → FitsHeader count (mid 0 0)
+    → ((k r : ℕ) → before ≢ Cut k r) → ((rest : List ℕ) → StandsAbove mid passed before rest → FitsHeader count (mid 0 0) → IfErr result (StopsAbove count mid passed before rest)) → IfErr result IsFault
+faults_at told count key old mid passed child Whole step free result local t way edits stands fits uncut sound = sound [] tt fits
+faults_at told count key old mid passed child (Alone other) step free result local t way edits stands fits uncut sound = sound [] tt fits
+faults_at told count key old mid passed child (Cut k r) step free result local t way edits stands fits uncut sound = absurd (uncut k r refl)
+faults_at told count key old mid passed child Short step free result local t way edits stands fits uncut sound =
+    let e = passed.place.expect in
+    let page = passed.place.page in
+    let level = child.expect.level in
+    let d = way_down told old count key passed child free t way stands in
+    let spot = way.found t (subst (λ (l : ℕ). IsWellFormed (bytes_of old page) (at_level e l)) (sym way.level) d.stands.tree.0) in
+    let below = subst (λ (x : Expect). Edits old mid child.page x Short step) (expect_is child.expect level e.pages false refl way.root way.pages) edits in
+    let s = short_below e old mid level page key child.page child.expect.low child.expect.high way.at step free local spot way.above way.within below d.stands.tree d.stands.is_free d.stands.parted d.stands.within in
+    let mendable = subst (λ (low : ℕ). IsMendable mid page e low level s.rest) (sym way.low) (subst (λ (l : ℕ). IsMendable mid page (at_level e l) child.expect.low level s.rest) (sym way.level) s.mendable) in
+    sound s.rest (level, mendable) fits
+
+-- the stops of a page above a child
+stops_at : {T : Type 0} (told : Bool) (count key : ℕ) (old mid : Lines) (passed : Passed) (child : Place) (before : Outcome) (step : List Row → List Row) (free : List ℕ) (most : ℕ) (Full : Type 0) (result : Result T Stop) → IsLocal key step → IsTrue told
+    → LeadsTo told old count key passed child → Edits old mid child.page child.expect before step → TakesFor count old mid child.page child.expect before → StandsAt old passed.place.page passed.place.expect free → FitsHeader count (mid 0 0)
+    → child.expect.level + 1 ≤ most → (IsFullAt old passed.place.page passed.place.expect → Full)
+    → ((rest : List ℕ) → StandsAbove mid passed before rest → FitsHeader count (mid 0 0) → IfErr result (StopsAbove count mid passed before rest))
+    → IfErr result (StopsFor (spare_pages count old free ≤ most) Full)
+stops_at told count key old mid passed child Whole step free most Full result local t way edits takes stands fits lower full sound =
+    fault_stops (spare_pages count old free ≤ most) Full result (faults_at told count key old mid passed child Whole step free result local t way edits stands fits (λ k r e. cc) sound)
+stops_at told count key old mid passed child (Alone other) step free most Full result local t way edits takes stands fits lower full sound =
+    fault_stops (spare_pages count old free ≤ most) Full result (faults_at told count key old mid passed child (Alone other) step free result local t way edits stands fits (λ k r e. cc) sound)
+stops_at told count key old mid passed child Short step free most Full result local t way edits takes stands fits lower full sound =
+    fault_stops (spare_pages count old free ≤ most) Full result (faults_at told count key old mid passed child Short step free result local t way edits stands fits (λ k r e. cc) sound)
+stops_at told count key old mid passed child (Cut separator right) step free most Full result local t way edits takes stands fits lower full sound =
+    let e = passed.place.expect in
+    let page = passed.place.page in
+    let s = stands_child told old count key passed child free t way stands in
+    let b = edits free s.tree s.is_free s.parted s.within in
+    let taken = takes free b.rest separator right refl s b.moves.is_free in
+    let above = above_child told old mid count key passed child (tree_pages mid child.expect.level child.page ++ tree_pages mid child.expect.level right) free b.rest child.expect.pages t way stands b.moves in
+    let same : bytes_of mid page ≡ bytes_of old page = ap (λ p. page_bytes p) above.same in
+    let well = subst (λ (x : List ℕ). IsWellFormed x e) (sym same) (well_formed_top e.pages old e.level page e.low e.high e.root stands.tree) in
+    stops_wider (spare_pages count mid b.rest ≤ 0) (spare_pages count old free ≤ most) (IsFullAt mid page e) Full (λ none. omega (arith, none, taken, lower))
+    (λ many. full (many.0, subst (λ (x : List ℕ). entry_count x ≡ 240) same many.1)) result
+    (sound b.rest (well, b.moves.is_free, above.parted) fits)
+
+-- the header at the bottom of the path is in order
+header_now : (told : Bool) (count key : ℕ) (old mid : Lines) (passed : Passed) (child : Place) (before : Outcome) (step : List Row → List Row) (free : List ℕ) → IsTrue told
+    → LeadsTo told old count key passed child → Edits old mid child.page child.expect before step → StandsAt old passed.place.page passed.place.expect free → FitsHeader count (old 0 0) → FitsHeader count (mid 0 0)
+header_now told count key old mid passed child before step free t way edits stands fits =
+    let s = stands_child told old count key passed child free t way stands in
+    let b = edits free s.tree s.is_free s.parted s.within in
+    let is_count = way.pages ∙ way.place.pages in
+    subst (λ (n : ℕ). FitsHeader n (mid 0 0)) is_count (moved_header b.moves (subst (λ (n : ℕ). FitsHeader n (old 0 0)) (sym is_count) fits))
+
+-- a full page at level 3 is the top
+full_top : (told : Bool) (lines : Lines) (count key : ℕ) (top place : Place) (path : List Passed) (free : List ℕ) → Leads told lines count key top path place → top.expect.level ≤ 3 → StandsAt lines top.page top.expect free
+    → IsFullAt lines place.page place.expect → 1000000 < length (tree_rows lines top.expect.level top.page)
+full_top told lines count key top place [] free leads few stands full =
+    let level : top.expect.level ≡ 3 = ap (λ (p : Place). p.expect.level) leads ∙ full.0 in
+    let many : entry_count (bytes_of lines top.page) ≡ 240 = ap (λ (p : Place). entry_count (bytes_of lines p.page)) leads ∙ full.1 in
+    let e = top.expect in
+    subst (λ (l : ℕ). 1000000 < length (tree_rows lines l top.page)) (sym level)
+    (full_root_rows e.pages lines top.page e.low e.high e.root (subst (λ (l : ℕ). IsTree e.pages lines l top.page e.low e.high e.root) level stands.tree) many)
+full_top told lines count key top place (p ∷ path) free leads few stands full =
+    let height = leads-height told lines count key top place (p ∷ path) leads in
+    absurd (omega (arith, height, few, full.0))
+
+pub climb_stops : {T : Type 0} (told : Bool) (count key : ℕ) (old mid : Lines) (top : Place) (path : List Passed) (passed : Passed) (before : Outcome) (step : List Row → List Row) (old_room room old_visits visits : ℕ) (free : List ℕ) (result : Result T Stop)
+    → IsLocal key step → IsTrue told → Climbing told count key old mid top (path ++ passed ∷ []) before step old_room room old_visits visits → top.expect.level ≤ 3 → StandsAt old top.page top.expect free → FitsHeader count (old 0 0)
+    → ((rest : List ℕ) → StandsAbove mid passed before rest → FitsHeader count (mid 0 0) → IfErr result (StopsAbove count mid passed before rest))
+    → IfErr result (StopsFor (spare_pages count old free ≤ top.expect.level) (1000000 < length (tree_rows old top.expect.level top.page)))
+climb_stops told count key old mid top path passed before step old_room room old_visits visits free result local t c few stands fits sound =
+    let back = leads-back told old count key top c.bottom path passed c.leads in
+    let here = leads_stands told old count key top passed.place path free t back.0 stands in
+    stops_at told count key old mid passed c.bottom before step free top.expect.level (1000000 < length (tree_rows old top.expect.level top.page)) result local t back.1 (c.edits t) (c.takes t) here
+    (header_now told count key old mid passed c.bottom before step free t back.1 (c.edits t) here fits) (omega (arith, c.height, length-append path (passed ∷ [])))
+    (λ full. full_top told old count key top passed.place path free back.0 few stands full) sound
+
+pub climb_faults : {T : Type 0} (told : Bool) (count key : ℕ) (old mid : Lines) (top : Place) (path : List Passed) (passed : Passed) (before : Outcome) (step : List Row → List Row) (old_room room old_visits visits : ℕ) (free : List ℕ) (result : Result T Stop)
+    → IsLocal key step → IsTrue told → Climbing told count key old mid top (path ++ passed ∷ []) before step old_room room old_visits visits → StandsAt old top.page top.expect free → FitsHeader count (old 0 0)
+    → ((k r : ℕ) → before ≢ Cut k r) → ((rest : List ℕ) → StandsAbove mid passed before rest → FitsHeader count (mid 0 0) → IfErr result (StopsAbove count mid passed before rest)) → IfErr result IsFault
+climb_faults told count key old mid top path passed before step old_room room old_visits visits free result local t c stands fits uncut sound =
+    let back = leads-back told old count key top c.bottom path passed c.leads in
+    let here = leads_stands told old count key top passed.place path free t back.0 stands in
+    faults_at told count key old mid passed c.bottom before step free result local t back.1 (c.edits t) here
+    (header_now told count key old mid passed c.bottom before step free t back.1 (c.edits t) here fits) uncut sound

@@ -5,7 +5,7 @@ ghost use Rattle.line_pages.specs.Standing.{Continues, HasCause, KeepsLines};
 ghost use Rattle.slotted_page.specs.Rows.{row_put, row_delete};
 ghost use Rattle.slotted_page.specs.Node.{is_printable};
 ghost use Rattle.bplus_tree.specs.Space.{FitsHeader};
-ghost use Rattle.bplus_tree.specs.Tree.{IsTree, tree_rows};
+ghost use Rattle.bplus_tree.specs.Tree.{tree_rows};
 ghost use Rattle.bplus_tree.specs.Damage.{IsTreeDamage, IsFault, StopsFor, spare_pages};
 ghost use Rattle.bplus_tree.specs.Edit.{Edits, IsSafe, IsSpent, StaysBelow};
 ghost use Rattle.bplus_tree.specs.Path.{IsPlace, Leads, MayFollow, Settles, StandsAbove, StandsAt, StopsAbove, TakesFor, room_above, root_place};
@@ -86,7 +86,7 @@ fn descend<P: Pages>(
     ensures within { IfOk result (λ leaf. key ≤ leaf.expect.high) }
     ensures leads { IfOk result (Leads (P.standing pages.old).told (P.standing pages.old).current (P.standing pages.old).count key top path.new.items) }
     ensures keeps { OnOk result (KeepsLines (P.standing pages.old) (P.standing pages.new)) }
-    ensures sound { IsTrue (P.standing pages.old).told → IsTree top.expect.pages (P.standing pages.old).current top.expect.level top.page top.expect.low top.expect.high top.expect.root → IfErr result IsFault }
+    ensures sound { IsTrue (P.standing pages.old).told → (free : List ℕ) → StandsAt (P.standing pages.old).current top.page top.expect free → IfErr result IsFault }
     ensures cause { HasCause (IsTreeDamage (P.standing pages.old).told (P.standing pages.old).count work.new.page) (P.standing pages.old) (P.standing pages.new) result }
     ensures continues { Continues (P.may_leave pages.old) (P.may_leave pages.new) (P.is_steady pages.old) (P.standing pages.old) (P.standing pages.new) }
     ensures few { (P.standing pages.new).visits ≤ (P.standing pages.old).visits + top.expect.level + 1 }
