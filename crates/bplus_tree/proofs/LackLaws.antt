@@ -1,5 +1,5 @@
 -- Stops of calls on pages in order, and the pages at hand.
-use Rattle.std.proofs.Common.{◌≡◌, ◌≢◌, ℕ, zero, suc, ◌+◌, ◌-◌, ◌<◌, ◌≤◌, ◌⊎◌, inl, inr, Bool, true, false, List, [], ◌∷◌, ◌++◌, length, Result, Ok, Err, IfErr, refl, sym, ap, subst, ◌∙◌, arith, nat_lt, length-append}
+use Rattle.std.proofs.Common.{◌≡◌, ◌≢◌, ℕ, zero, suc, ◌+◌, ◌-◌, ◌/◌, ◌<◌, ◌≤◌, ◌⊎◌, inl, inr, Bool, true, false, List, [], ◌∷◌, ◌++◌, length, Result, Ok, Err, IfErr, refl, sym, ap, subst, ◌∙◌, arith, nat_lt, length-append}
 use Rattle.std.proofs.lemmas.Bool.{cases_lt, cases_eq, lt-ltb, le-ltb, eq-eqb, ne_eqb}
 use Rattle.line_pages.specs.declared.stop.Stop.{Stop}
 use Rattle.line_pages.specs.declared.stop.Stop.TheVariants.{Nvm, Ssd, Damaged}
@@ -9,7 +9,7 @@ use Rattle.line_pages.specs.Lines.{Lines}
 use Rattle.bplus_tree.specs.Space.{high_of, IsFreeList}
 use Rattle.bplus_tree.specs.Tree.{times}
 use Rattle.bplus_tree.specs.Moves.{below, ArePart, Moves}
-use Rattle.bplus_tree.specs.Damage.{IsFault, StopsFor, IsShort, spare_pages, pages_at_hand}
+use Rattle.bplus_tree.specs.Damage.{IsFault, StopsFor, IsShort, IsLack, spare_pages, pages_at_hand}
 use Rattle.std.proofs.Common.{Option}
 use Rattle.line_pages.specs.Bytes.{bytes_of, page_bytes}
 use Rattle.slotted_page.specs.declared.root.Expect.{Expect}
@@ -147,3 +147,6 @@ pub stored_sound : {T : Type 0} (count n : ℕ) (old first : Lines) (page : ℕ)
 stored_sound count n old first page spare free result is_count same are is_free part fits sound =
     subst (λ (m : ℕ). FitsHeader m (old 0 0) → IfErr result (IsShort (spare_pages m old free) 0)) is_count
     (subst (λ (lines : Lines). IsFreeList lines free → ArePart lines (page ∷ free) → FitsHeader n (lines 0 0) → IfErr result (IsShort (spare_pages n lines free) 0)) same (sound are free) is_free part) fits
+
+pub fault_lack : {T : Type 0} (at_hand after before : ℕ) (result : Result T Stop) → IfErr result IsFault → IfErr result (IsLack at_hand after before)
+fault_lack at_hand after before result fault = fault_stops (at_hand < after / 2 + 8) (1000000 < before) result fault

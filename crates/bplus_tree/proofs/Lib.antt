@@ -23,6 +23,7 @@ pub mod NextLaws
 pub mod LackLaws
 pub mod StandLaws
 pub mod PathLaws
+pub mod RootLaws
 pub mod SoundLaws
 pub mod NextReads
 pub mod TouchedLaws

@@ -1,4 +1,6 @@
-use Rattle.std.proofs.Common.{subst}
+use Rattle.std.proofs.Common.{rules, IfErr, subst}
+use Rattle.bplus_tree.specs.Damage.{IsFault}
+use Rattle.bplus_tree.proofs.RootLaws.{root_stands}
 use Rattle.slotted_page.specs.Rows.{row_delete}
 use Rattle.bplus_tree.specs.declared.outcome.Outcome.TheVariants.{Whole, Short, Alone}
 use Rattle.bplus_tree.proofs.Storing.{root_edited}
@@ -28,3 +30,11 @@ returns-in-Short-clause-rows g c = λ told.
     let new = g.P.Pages.standing c.delete_in.new.pages in
     root_edited old.count old.current new.current root Short (row_delete c.args.key) (λ k r e. cc) c.requires.some_levels c.requires.few_levels
     (at_root old.count _ old.current new.current root c.top_of-top.result Short (row_delete c.args.key) c.page_count.ensures.count c.top_of-top.ensures (rw c.in-Short.is at (c.in_ok-child.ensures.edits told)))
+
+pub returns-in_err-child-clause-sound : goal.returns-in_err-child-clause-sound
+returns-in_err-child-clause-sound g c = λ told rows used free stands.
+    let old = g.P.Pages.standing c.args.pages.now in
+    let h : IfErr c.delete_in.result IsFault =
+    c.delete_in.ensures.sound told free (root_stands old.count _ old.current c.args.root.now c.top_of-top.result rows used free c.page_count.ensures.count c.top_of-top.ensures stands) stands.header in
+    let k = subst (λ r. IfErr r IsFault) c.in_err-child.was h in
+    search (rules, k)
