@@ -24,3 +24,4 @@ pub mod PathLaws
 pub mod SoundLaws
 pub mod NextReads
 pub mod TouchedLaws
+pub mod SameLength

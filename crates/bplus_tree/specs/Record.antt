@@ -1,8 +1,10 @@
 -- A row by its record alone.
 use Rattle.std.specs.Prelude.{ℕ, ◌+◌, Bool, List, Option, Some, None, nat_le, ◌&&◌, if◌then◌else◌}
 use Rattle.slotted_page.specs.Rows.{Row}
-use Rattle.slotted_page.specs.Node.{Slot, row_in}
+use Rattle.slotted_page.specs.Node.{Slot, row_in, leaf_rows}
+use Rattle.slotted_page.specs.Sound.{slot_of}
 use Rattle.slotted_page.specs.Value.{value_of}
+use Rattle.bplus_tree.specs.Edit.{place_of}
 
 -- the record has a key and lies in the page
 abbrev pub is_record : Slot → Bool
@@ -15,3 +17,7 @@ with_key key (Some value) = Some (key, value)
 -- the row of a record, where it is one that a leaf can have
 abbrev pub row_found : List ℕ → Slot → Option Row
 row_found bytes slot = if is_record slot then with_key (row_in bytes slot).0 (value_of (row_in bytes slot).1) else None
+
+-- where the record of a key stands in a leaf that has the key
+abbrev pub record_at : ℕ → List ℕ → Slot
+record_at key bytes = slot_of bytes (place_of key (leaf_rows bytes))
