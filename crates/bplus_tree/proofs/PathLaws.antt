@@ -14,7 +14,8 @@ use Rattle.slotted_page.specs.Rows.{Row}
 use Rattle.bplus_tree.specs.declared.outcome.Outcome.{Outcome}
 use Rattle.bplus_tree.specs.declared.outcome.Outcome.TheVariants.{Whole, Short, Cut, Alone}
 use Rattle.bplus_tree.specs.Edit.{Edits, Mends, IsSafe, StaysBelow, IsSpent}
-use Rattle.bplus_tree.specs.Path.{IsPlace, LeadsTo, Leads, Settles, MayFollow, room_above}
+use Rattle.bplus_tree.specs.declared.root.Root.{Root}
+use Rattle.bplus_tree.specs.Path.{IsPlace, LeadsTo, Leads, Settles, MayFollow, room_above, root_place}
 use Rattle.bplus_tree.proofs.Editing.{IsLocal, edits_kept, edits_short, edits_alone}
 use Rattle.bplus_tree.proofs.Storing.{edits_cut}
 
@@ -264,3 +265,9 @@ uncut_above Whole outcome uncut follows k r e = let whole = follows in absurd (c
 uncut_above Short outcome uncut follows k r e = follows k r e
 uncut_above (Cut key right) outcome uncut follows k r e = uncut key right refl
 uncut_above (Alone child) outcome uncut follows k r e = let whole = follows in absurd (cc)
+
+-- a change at the top, in the words of its root
+pub at_root : (count n : ℕ) (old new : Lines) (root : Root) (top : Place) (outcome : Outcome) (step : List Row → List Row) → n ≡ count → top ≡ root_place root n → Edits old new top.page top.expect outcome step
+    → Edits old new root.page (root_place root count).expect outcome step
+at_root count n old new root top outcome step is_count is edits =
+    subst (λ (m : ℕ). Edits old new root.page (root_place root m).expect outcome step) is_count (subst (λ (p : Place). Edits old new p.page p.expect outcome step) is edits)

@@ -1,15 +1,21 @@
 -- The way down to a key, and what becomes of the pages on it.
-use Rattle.std.specs.Prelude.{◌≡◌, ◌≢◌, ℕ, suc, ◌<◌, ◌≤◌, Bool, true, false, List, [], ◌∷◌, Some, slice_get, IsTrue}
+use Rattle.std.specs.Prelude.{◌≡◌, ◌≢◌, ℕ, suc, ◌-◌, ◌<◌, ◌≤◌, Bool, true, false, List, [], ◌∷◌, Some, slice_get, IsTrue}
 use Rattle.line_pages.specs.Lines.{Lines}
 use Rattle.line_pages.specs.Bytes.{bytes_of}
 use Rattle.slotted_page.specs.Search.{is_root_span}
+use Rattle.slotted_page.specs.Rows.{last_key}
 use Rattle.slotted_page.specs.Spans.{spans}
 use Rattle.slotted_page.specs.Node.{children, IsWellFormed}
+use Rattle.bplus_tree.specs.declared.root.Root.{Root}
 use Rattle.bplus_tree.specs.declared.outcome.Outcome.{Outcome}
 use Rattle.bplus_tree.specs.declared.outcome.Outcome.TheVariants.{Whole, Short, Cut, Alone}
 use Rattle.bplus_tree.specs.declared.path.Place.{Place}
 use Rattle.bplus_tree.specs.declared.path.Passed.{Passed}
 use Rattle.bplus_tree.specs.Edit.{Mends, AddsChild}
+
+-- the place of a root
+abbrev pub root_place : Root → ℕ → Place
+root_place root count = record { page = root.page; expect = record { level = root.levels - 1; low = 0; high = last_key; root = true; pages = count } }
 
 -- A page of the store, which is a root exactly where its bounds are those of all keys.
 pub record IsPlace (count : ℕ) (place : Place) : Type 0 where

@@ -6,12 +6,12 @@ ghost use Rattle.slotted_page.specs.Rows.{row_put, row_delete};
 ghost use Rattle.slotted_page.specs.Node.{is_printable};
 ghost use Rattle.bplus_tree.specs.Damage.{IsTreeDamage};
 ghost use Rattle.bplus_tree.specs.Edit.{Edits, IsSafe, IsSpent, StaysBelow};
-ghost use Rattle.bplus_tree.specs.Path.{IsPlace, Leads, MayFollow, Settles, room_above};
+ghost use Rattle.bplus_tree.specs.Path.{IsPlace, Leads, MayFollow, Settles, room_above, root_place};
 
 use crate::access::look;
 use crate::change::{add_child, delete_leaf, mend, put_leaf};
 use crate::outcome::Outcome;
-use crate::root::child_expect;
+use crate::root::{Root, child_expect, root_expect};
 use arrayvec::ArrayVec;
 use line_pages::{Pages, Stop};
 use slotted_page::{Expect, Spot, Work};
@@ -52,6 +52,17 @@ impl Default for Passed {
 
 /// The inner pages on the way down to a key, the root first. A tree has at most three levels of them.
 type Path = ArrayVec<Passed, 3>;
+
+/// The place of a root.
+pub fn top_of(root: &Root, count: u64) -> Place
+    requires { 1 ≤ root.now.levels }
+    ensures { result ≡ root_place root.now count }
+{
+    Place {
+        page: root.page,
+        expect: root_expect(root, count),
+    }
+}
 
 /// Goes down to the leaf of a key, and keeps the path.
 fn descend<P: Pages>(

@@ -12,8 +12,8 @@ use crate::access::{take, write_new};
 use crate::lookup::get;
 use crate::outcome::Outcome;
 use crate::pair::root_of;
-use crate::path::{Place, delete_in, put_in};
-use crate::root::{Root, root_expect};
+use crate::path::{delete_in, put_in, top_of};
+use crate::root::Root;
 use line_pages::{Pages, Stop};
 use slotted_page::{Value, Work};
 
@@ -47,10 +47,7 @@ fn put_row<P: Pages>(
     ensures steady { P.is_steady pages.old → OnOk result (P.is_steady pages.new) }
 {
     let count = pages.page_count();
-    let top = Place {
-        page: root.page,
-        expect: root_expect(root, count),
-    };
+    let top = top_of(root, count);
     match put_in(pages, top, key, value, work)? {
         Outcome::Whole => Ok(()),
         Outcome::Short => Ok(()),
@@ -103,10 +100,7 @@ fn delete_row<P: Pages>(
     ensures ready { OnOk result (P.is_ready pages.new) }
     ensures steady { P.is_steady pages.old → OnOk result (P.is_steady pages.new) }
 {
-    let top = Place {
-        page: root.page,
-        expect: root_expect(root, pages.page_count()),
-    };
+    let top = top_of(root, pages.page_count());
     match delete_in(pages, top, key, work)? {
         Outcome::Alone(child) => {
             root.page = child;

@@ -1,10 +1,11 @@
-use Rattle.std.proofs.Common.{◌≢◌, ◌≤◌, ◌-◌, ℕ, true, arith, refl, IsTrue, sym, subst}
-use Rattle.slotted_page.specs.declared.root.Expect.{Expect}
-use Rattle.slotted_page.specs.Rows.{row_put, last_key}
+use Rattle.std.proofs.Common.{◌≢◌, ◌≤◌, ◌-◌, ℕ, arith, refl, IsTrue, sym, subst, ap, ◌∙◌}
+use Rattle.slotted_page.specs.Rows.{row_put}
+use Rattle.bplus_tree.specs.declared.path.Place.{Place}
 use Rattle.bplus_tree.specs.declared.outcome.Outcome.TheVariants.{Whole, Short, Cut, Alone}
-use Rattle.bplus_tree.specs.Edit.{Edits, IsNewRoot, StaysBelow}
+use Rattle.bplus_tree.specs.Edit.{IsNewRoot, StaysBelow}
 use Rattle.bplus_tree.specs.Moves.{Takes}
 use Rattle.bplus_tree.proofs.Storing.{root_edited, root_cut}
+use Rattle.bplus_tree.proofs.PathLaws.{at_root}
 use Rattle.bplus_tree.proofs.tree.put_row.Goals as goal
 
 few_levels : (levels : ℕ) → levels ≤ 4 → levels - 1 ≢ 3 → levels ≤ 3
@@ -16,8 +17,7 @@ returns-in-Alone-clause-rows g c = λ told.
     let old = g.P.Pages.standing c.args.pages.now in
     let new = g.P.Pages.standing c.put_in.new.pages in
     root_edited old.count old.current new.current root (Alone c.in-Alone.child) (row_put c.args.key c.args.value.now) (λ k r e. cc) c.requires.some_levels c.requires.few_levels
-    (subst (λ n. Edits old.current new.current root.page (record { level = root.levels - 1; low = 0; high = last_key; root = true; pages = n }) (Alone c.in-Alone.child) (row_put c.args.key c.args.value.now)) c.page_count-count.ensures.count
-    (subst (λ (e : Expect). Edits old.current new.current root.page e (Alone c.in-Alone.child) (row_put c.args.key c.args.value.now)) c.root_expect-expect.ensures (rw c.in-Alone.is at (c.in_ok-put_in.ensures.edits told))))
+    (at_root old.count _ old.current new.current root c.top_of-top.result (Alone c.in-Alone.child) (row_put c.args.key c.args.value.now) c.page_count-count.ensures.count c.top_of-top.ensures (rw c.in-Alone.is at (c.in_ok-put_in.ensures.edits told)))
 
 pub returns-in-Whole-clause-rows : goal.returns-in-Whole-clause-rows
 returns-in-Whole-clause-rows g c = λ told.
@@ -25,8 +25,7 @@ returns-in-Whole-clause-rows g c = λ told.
     let old = g.P.Pages.standing c.args.pages.now in
     let new = g.P.Pages.standing c.put_in.new.pages in
     root_edited old.count old.current new.current root Whole (row_put c.args.key c.args.value.now) (λ k r e. cc) c.requires.some_levels c.requires.few_levels
-    (subst (λ n. Edits old.current new.current root.page (record { level = root.levels - 1; low = 0; high = last_key; root = true; pages = n }) Whole (row_put c.args.key c.args.value.now)) c.page_count-count.ensures.count
-    (subst (λ (e : Expect). Edits old.current new.current root.page e Whole (row_put c.args.key c.args.value.now)) c.root_expect-expect.ensures (rw c.in-Whole.is at (c.in_ok-put_in.ensures.edits told))))
+    (at_root old.count _ old.current new.current root c.top_of-top.result Whole (row_put c.args.key c.args.value.now) c.page_count-count.ensures.count c.top_of-top.ensures (rw c.in-Whole.is at (c.in_ok-put_in.ensures.edits told)))
 
 pub returns-in-Short-clause-rows : goal.returns-in-Short-clause-rows
 returns-in-Short-clause-rows g c = λ told.
@@ -34,8 +33,7 @@ returns-in-Short-clause-rows g c = λ told.
     let old = g.P.Pages.standing c.args.pages.now in
     let new = g.P.Pages.standing c.put_in.new.pages in
     root_edited old.count old.current new.current root Short (row_put c.args.key c.args.value.now) (λ k r e. cc) c.requires.some_levels c.requires.few_levels
-    (subst (λ n. Edits old.current new.current root.page (record { level = root.levels - 1; low = 0; high = last_key; root = true; pages = n }) Short (row_put c.args.key c.args.value.now)) c.page_count-count.ensures.count
-    (subst (λ (e : Expect). Edits old.current new.current root.page e Short (row_put c.args.key c.args.value.now)) c.root_expect-expect.ensures (rw c.in-Short.is at (c.in_ok-put_in.ensures.edits told))))
+    (at_root old.count _ old.current new.current root c.top_of-top.result Short (row_put c.args.key c.args.value.now) c.page_count-count.ensures.count c.top_of-top.ensures (rw c.in-Short.is at (c.in_ok-put_in.ensures.edits told)))
 
 pub returns-in_ok-write_new-in-Cut-clause-rows : goal.returns-in_ok-write_new-in-Cut-clause-rows
 returns-in_ok-write_new-in-Cut-clause-rows g c = λ told.
@@ -46,12 +44,11 @@ returns-in_ok-write_new-in-Cut-clause-rows g c = λ told.
     let new = g.P.Pages.standing c.write_new.new.pages in
     let step = row_put c.args.key c.args.value.now in
     let told_mid = subst IsTrue (sym c.in_ok-put_in.ensures.continues.told) told in
-    let told_a = subst IsTrue (sym c.in_ok-top-in-Cut.ensures.continues.told) told_mid in
-    let stays = subst (λ (e : Expect). StaysBelow e (Cut c.in-Cut.separator c.in-Cut.right)) c.root_expect-expect.ensures (rw c.in-Cut.is at c.in_ok-put_in.ensures.below) in
-    root_cut old.count old.current mid.current a.current new.current root c.in_ok-top-in-Cut.top c.in-Cut.separator c.in-Cut.right c.root_of.new.page step c.requires.some_levels
+    let told_a = subst IsTrue (sym c.in_ok-page-in-Cut.ensures.continues.told) told_mid in
+    let stays = subst (λ (p : Place). StaysBelow p.expect (Cut c.in-Cut.separator c.in-Cut.right)) c.top_of-top.ensures (rw c.in-Cut.is at c.in_ok-put_in.ensures.below) in
+    root_cut old.count old.current mid.current a.current new.current root c.in_ok-page-in-Cut.page c.in-Cut.separator c.in-Cut.right c.root_of.new.page step c.requires.some_levels
     (few_levels root.levels c.requires.few_levels (stays refl))
-    (subst (λ n. Edits old.current mid.current root.page (record { level = root.levels - 1; low = 0; high = last_key; root = true; pages = n }) (Cut c.in-Cut.separator c.in-Cut.right) step) c.page_count-count.ensures.count
-    (subst (λ (e : Expect). Edits old.current mid.current root.page e (Cut c.in-Cut.separator c.in-Cut.right) step) c.root_expect-expect.ensures (rw c.in-Cut.is at (c.in_ok-put_in.ensures.edits told))))
-    (subst (λ n. Takes n mid.current a.current c.in_ok-top-in-Cut.top) c.in_ok-put_in.ensures.continues.count (c.in_ok-top-in-Cut.ensures.moves told_mid))
+    (at_root old.count _ old.current mid.current root c.top_of-top.result (Cut c.in-Cut.separator c.in-Cut.right) step c.page_count-count.ensures.count c.top_of-top.ensures (rw c.in-Cut.is at (c.in_ok-put_in.ensures.edits told)))
+    (subst (λ n. Takes n mid.current a.current c.in_ok-page-in-Cut.page) c.in_ok-put_in.ensures.continues.count (c.in_ok-page-in-Cut.ensures.moves told_mid))
     (c.in_ok-write_new-in-Cut.ensures.writes told_a)
     (subst (λ n. IsNewRoot c.root_of.new.page root.levels root.page c.in-Cut.separator c.in-Cut.right n) c.page_count-count.ensures.count c.root_of.ensures)
