@@ -1,5 +1,5 @@
 -- A value put in place of another of its length changes lines of its record alone.
-use Rattle.std.proofs.Common.{◌≡◌, ◌≢◌, ℕ, ◌+◌, ◌-◌, ◌*◌, ◌<◌, ◌≤◌, Bool, true, false, inl, inr, List, [], ◌∷◌, length, take, drop, get_or, Option, Some, None, refl, sym, ap, subst, ◌∙◌, arith}
+use Rattle.std.proofs.Common.{◌≡◌, ◌≢◌, ℕ, ◌+◌, ◌-◌, ◌*◌, ◌<◌, ◌≤◌, Bool, true, false, inl, inr, List, [], ◌∷◌, length, take, drop, get_or, Option, Some, None, Result, Ok, Err, OnOk, IfOk, refl, sym, ap, subst, ◌∙◌, arith}
 use Rattle.std.specs.Str.{bytes_eq}
 use Rattle.std.proofs.lemmas.Slice.Eq.{bytes_eq-Decides}
 use Rattle.std.proofs.lemmas.Bool.{cases_eq, cases_lt, eq-eqb, ne_eqb, lt-ltb, le-ltb}
@@ -9,9 +9,16 @@ use Rattle.line_pages.proofs.NumberLaws.{range-same}
 use Rattle.slotted_page.specs.Rows.{Row, keys, row_get, Ascends}
 use Rattle.slotted_page.specs.Node.{Slot, leaf_rows}
 use Rattle.slotted_page.specs.Sound.{slot_of}
-use Rattle.bplus_tree.specs.Edit.{place_of, has_row}
-use Rattle.bplus_tree.specs.Record.{record_at}
-use Rattle.bplus_tree.specs.Written.{Differs, Meets, line_part}
+use Rattle.line_pages.specs.Bytes.{bytes_of}
+use Rattle.line_pages.specs.Standing.{Standing, ReadsPage}
+use Rattle.bplus_tree.specs.declared.outcome.Fit.{Fit}
+use Rattle.bplus_tree.specs.declared.outcome.Fit.TheVariants as fits
+use Rattle.bplus_tree.specs.declared.outcome.Outcome.{Outcome}
+use Rattle.bplus_tree.specs.declared.outcome.Outcome.TheVariants.{Whole}
+use Rattle.bplus_tree.specs.Edit.{IsOutcome, place_of, has_row}
+use Rattle.bplus_tree.proofs.TouchedLaws.{only_then, only_weaker, only_nothing, nothing_read}
+use Rattle.bplus_tree.specs.Record.{record_at, WritesRecord}
+use Rattle.bplus_tree.specs.Written.{Differs, Meets, WritesOnly, line_part}
 use Rattle.bplus_tree.proofs.RowLaws.{above_bound, row_get-none_above}
 
 -- a key that has a value stands at its place
@@ -56,3 +63,23 @@ pub set_record : (old new : List ℕ) (key at : ℕ) → at ≡ place_of key (le
     → Same 0 ((slot_of old at).place + 8) old new → Same ((slot_of old at).place + (slot_of old at).size) 4096 old new → (line : ℕ) → Differs old new line → Meets (record_at key old) line
 set_record old new key at is size size_new before after line differs =
     subst (λ (i : ℕ). Meets (slot_of old i) line) is (set_lines old new (slot_of old at) line size size_new before after differs)
+
+-- a fit that is no cut
+pub uncut_whole : (fit : Fit) → fit ≡ fits.Whole → (key : ℕ) → fit ≢ fits.Cut key
+uncut_whole fit whole key = λ cut. let clash : fits.Whole ≡ fits.Cut key = sym whole ∙ cut in absurd (cc)
+
+pub outcome_whole : {E : Type 0} (count : ℕ) (fit : Fit) (result : Result Outcome E) → fit ≡ fits.Whole → IfOk result (IsOutcome count fit) → IfOk result (λ outcome. outcome ≡ Whole)
+outcome_whole count fit (Ok outcome) whole is = whole_is outcome (subst (λ (f : Fit). IsOutcome count f outcome) whole is)
+  where
+    whole_is : (outcome : Outcome) → IsOutcome count fits.Whole outcome → outcome ≡ Whole
+    whole_is outcome is = is
+outcome_whole count fit (Err e) whole is = tt
+
+-- the lines of a leaf that are written for it
+pub record_written : {A E : Type 0} (page key : ℕ) (spare bytes left : List ℕ) (old mid new : Standing A) (result : Result Outcome E) → ReadsPage page old mid → spare ≡ bytes → bytes ≡ bytes_of old.current page
+    → ((line : ℕ) → Differs bytes left line → Meets (record_at key bytes) line) → OnOk result (WritesOnly page (Differs spare left) mid new) → OnOk result (WritesRecord page key old new)
+record_written page key spare bytes left old mid new (Ok v) reads same is lines wrote =
+    only_then page (Meets (record_at key (bytes_of old.current page))) (only_nothing page (Meets (record_at key (bytes_of old.current page))) (nothing_read reads))
+    (only_weaker page (Differs spare left) (Meets (record_at key (bytes_of old.current page))) (λ line differs.
+    subst (λ (b : List ℕ). Meets (record_at key b) line) is (lines line (subst (λ (b : List ℕ). Differs b left line) same differs))) wrote)
+record_written page key spare bytes left old mid new (Err e) reads same is lines wrote = tt

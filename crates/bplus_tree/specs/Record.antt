@@ -1,10 +1,13 @@
 -- A row by its record alone.
-use Rattle.std.specs.Prelude.{ℕ, ◌+◌, Bool, List, Option, Some, None, nat_le, ◌&&◌, if◌then◌else◌}
-use Rattle.slotted_page.specs.Rows.{Row}
+use Rattle.std.specs.Prelude.{◌≡◌, ℕ, ◌+◌, Bool, List, length, Option, Some, None, nat_le, ◌&&◌, if◌then◌else◌}
+use Rattle.slotted_page.specs.Rows.{Row, row_get}
 use Rattle.slotted_page.specs.Node.{Slot, row_in, leaf_rows}
 use Rattle.slotted_page.specs.Sound.{slot_of}
 use Rattle.slotted_page.specs.Value.{value_of}
+use Rattle.line_pages.specs.Bytes.{bytes_of}
+use Rattle.line_pages.specs.Standing.{Standing}
 use Rattle.bplus_tree.specs.Edit.{place_of}
+use Rattle.bplus_tree.specs.Written.{Meets, WritesOnly}
 
 -- the record has a key and lies in the page
 abbrev pub is_record : Slot → Bool
@@ -21,3 +24,13 @@ row_found bytes slot = if is_record slot then with_key (row_in bytes slot).0 (va
 -- where the record of a key stands in a leaf that has the key
 abbrev pub record_at : ℕ → List ℕ → Slot
 record_at key bytes = slot_of bytes (place_of key (leaf_rows bytes))
+
+-- the key has a value of this length
+pub record HoldsLength (key size : ℕ) (rows : List Row) : Type 0 where
+  pub held : List ℕ
+  pub is : row_get key rows ≡ Some held
+  pub long : length held ≡ size
+
+-- lines are written of the key's record in its leaf alone, as it stands before
+abbrev pub WritesRecord : {A : Type 0} → ℕ → ℕ → Standing A → Standing A → Type 0
+WritesRecord leaf key old new = WritesOnly leaf (Meets (record_at key (bytes_of old.current leaf))) old new

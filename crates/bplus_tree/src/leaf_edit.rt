@@ -1,14 +1,14 @@
 //! Changes of the rows of a leaf, in memory.
-ghost use Rattle.std.specs.Prelude.{◌≡◌, ◌≢◌, ◌+◌, ◌*◌, ◌<◌, ◌≤◌, ◌⊎◌, ℕ, List, ◌||◌, length, get_or, Some, true, false, nat_le};
+ghost use Rattle.std.specs.Prelude.{◌≡◌, ◌≢◌, ◌+◌, ◌*◌, ◌<◌, ◌≤◌, ◌⊎◌, ℕ, List, ◌||◌, length, get_or, true, false, nat_le};
 ghost use Rattle.std.specs.List.{insert, remove, list_all};
 ghost use Rattle.ssd_model.specs.Page.{Same};
-ghost use Rattle.slotted_page.specs.Rows.{Row, row_get, row_put, row_delete, keys, Ascends, last_key};
+ghost use Rattle.slotted_page.specs.Rows.{Row, row_put, row_delete, keys, Ascends, last_key};
 ghost use Rattle.slotted_page.specs.Node.{IsLeaf, IsWellFormed, entry_count, heap_start, is_printable, leaf_rows as rows_of};
 ghost use Rattle.slotted_page.specs.Sound.{IsSound, IsRows, IsPacked, AddsBelow, row_bytes};
 ghost use Rattle.bplus_tree.specs.declared.outcome.Fit.TheVariants as fits;
 ghost use Rattle.bplus_tree.specs.Edit.{Fits, place_of, has_row};
 ghost use Rattle.bplus_tree.specs.Written.{Differs, Meets, lines_changed};
-ghost use Rattle.bplus_tree.specs.Record.{record_at};
+ghost use Rattle.bplus_tree.specs.Record.{record_at, HoldsLength};
 
 use crate::outcome::Fit;
 use slotted_page::{
@@ -190,7 +190,7 @@ pub fn leaf_put(
     requires printable { list_all is_printable value.now ≡ true }
     ensures fits { Fits rows_of expect.now left.new right.new (row_put key value.now (rows_of left.old)) result }
     ensures few { result ≡ fits.Short → lines_changed left.old left.new ≤ 33 }
-    ensures again { (held : List ℕ) → row_get key (rows_of left.old) ≡ Some held → length held ≡ length value.now → (result ≡ fits.Whole) × ((line : ℕ) → Differs left.old left.new line → Meets (record_at key left.old) line) }
+    ensures again { HoldsLength key (length value.now) (rows_of left.old) → (result ≡ fits.Whole) × ((line : ℕ) → Differs left.old left.new line → Meets (record_at key left.old) line) }
 {
     enter(left, expect);
     let at = leaf_place(left, key);

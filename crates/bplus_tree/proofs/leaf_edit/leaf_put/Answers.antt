@@ -64,22 +64,22 @@ returns-then-leaf_value-value-clause-fits c =
     }
 
 pub returns-then-not-is_there-clause-again : goal.returns-then-not-is_there-clause-again
-returns-then-not-is_there-clause-again c = λ held got length_is.
+returns-then-not-is_there-clause-again c = λ h.
     let e = c.args.expect.now in
-    let place = held_place e.low e.high c.args.key held (leaf_rows c.args.left.now) c.enter.ensures.order got in
+    let place = held_place e.low e.high c.args.key h.held (leaf_rows c.args.left.now) c.enter.ensures.order h.is in
     let clash : true ≡ false = sym place.0 ∙ sym c.is_there.ensures.there ∙ c.if-not-is_there.true in
     absurd (cc)
 
 pub returns-then-leaf_value-value-clause-again : goal.returns-then-leaf_value-value-clause-again
-returns-then-leaf_value-value-clause-again c = λ held got length_is. (
+returns-then-leaf_value-value-clause-again c = λ h. (
     refl,
     set_record c.args.left.now c.leaf_set.new.page c.args.key c.leaf_place-at.result c.leaf_place-at.ensures.place c.enter.ensures.size c.open_leaf-then-leaf_value-value.ensures.size c.leaf_set.ensures.before c.leaf_set.ensures.after
 )
 
 pub returns-clause-again : goal.returns-clause-again
-returns-clause-again c = λ held got length_is.
+returns-clause-again c = λ h.
     let e = c.args.expect.now in
-    let place = held_place e.low e.high c.args.key held (leaf_rows c.args.left.now) c.enter.ensures.order got in
+    let place = held_place e.low e.high c.args.key h.held (leaf_rows c.args.left.now) c.enter.ensures.order h.is in
     let value = c.leaf_value.ensures.value none in
     let at = ap (λ (i : ℕ). (get_or (leaf_rows c.args.left.now) i none).1) c.leaf_place-at.ensures.place in
-    absurd (c.if-leaf_value-value.false (ap length (value ∙ at ∙ place.1 none) ∙ length_is))
+    absurd (c.if-leaf_value-value.false (ap length (value ∙ at ∙ place.1 none) ∙ h.long))
