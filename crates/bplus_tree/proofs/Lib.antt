@@ -25,3 +25,4 @@ pub mod SoundLaws
 pub mod NextReads
 pub mod TouchedLaws
 pub mod SameLength
+pub mod LeafOfKey

@@ -1,11 +1,16 @@
 -- A row by its record alone.
-use Rattle.std.specs.Prelude.{◌≡◌, ℕ, ◌+◌, Bool, List, length, Option, Some, None, nat_le, ◌&&◌, if◌then◌else◌}
+use Rattle.std.specs.Prelude.{◌≡◌, ℕ, ◌+◌, ◌-◌, IsTrue, Bool, List, length, Option, Some, None, nat_le, ◌&&◌, if◌then◌else◌}
 use Rattle.slotted_page.specs.Rows.{Row, row_get}
 use Rattle.slotted_page.specs.Node.{Slot, row_in, leaf_rows}
 use Rattle.slotted_page.specs.Sound.{slot_of}
 use Rattle.slotted_page.specs.Value.{value_of}
 use Rattle.line_pages.specs.Bytes.{bytes_of}
 use Rattle.line_pages.specs.Standing.{Standing}
+use Rattle.bplus_tree.specs.declared.root.Root.{Root}
+use Rattle.bplus_tree.specs.declared.path.Place.{Place}
+use Rattle.bplus_tree.specs.declared.outcome.Outcome.{Outcome}
+use Rattle.bplus_tree.specs.declared.outcome.Outcome.TheVariants.{Whole}
+use Rattle.bplus_tree.specs.Tree.{IsTree, IsRooted, tree_rows, leaf_for}
 use Rattle.bplus_tree.specs.Edit.{place_of}
 use Rattle.bplus_tree.specs.Written.{Meets, WritesOnly}
 
@@ -34,3 +39,14 @@ pub record HoldsLength (key size : ℕ) (rows : List Row) : Type 0 where
 -- lines are written of the key's record in its leaf alone, as it stands before
 abbrev pub WritesRecord : {A : Type 0} → ℕ → ℕ → Standing A → Standing A → Type 0
 WritesRecord leaf key old new = WritesOnly leaf (Meets (record_at key (bytes_of old.current leaf))) old new
+
+-- A put under a page, where the key has a value of that length: the page is as full as before, and lines of the key's record
+-- alone are written.
+pub record PutsAgain {A : Type 0} (top : Place) (key size : ℕ) (old new : Standing A) (outcome : Outcome) : Type 0 where
+  pub is : IsTrue old.told → IsTree top.expect.pages old.current top.expect.level top.page top.expect.low top.expect.high top.expect.root → HoldsLength key size (tree_rows old.current top.expect.level top.page)
+      → (outcome ≡ Whole) × WritesRecord (leaf_for old.current top.expect.level top.page key) key old new
+
+-- the same from a root, over all keys
+abbrev pub PutsRecord : {A : Type 0} → Root → ℕ → ℕ → Standing A → Standing A → Type 0
+PutsRecord root key size old new =
+    (rows : List Row) (used : List ℕ) → IsRooted old.count old.current root rows used → HoldsLength key size rows → WritesRecord (leaf_for old.current (root.levels - 1) root.page key) key old new

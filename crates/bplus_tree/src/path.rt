@@ -6,6 +6,8 @@ ghost use Rattle.slotted_page.specs.Rows.{row_put, row_delete};
 ghost use Rattle.slotted_page.specs.Node.{is_printable};
 ghost use Rattle.bplus_tree.specs.Damage.{IsTreeDamage};
 ghost use Rattle.bplus_tree.specs.Edit.{Edits, IsSafe, IsSpent, StaysBelow};
+ghost use Rattle.bplus_tree.specs.Written.{WritesNothing};
+ghost use Rattle.bplus_tree.specs.Record.{PutsAgain};
 ghost use Rattle.bplus_tree.specs.Path.{IsPlace, Leads, MayFollow, Settles, room_above, root_place};
 
 use crate::access::look;
@@ -84,6 +86,7 @@ fn descend<P: Pages>(
     ensures within { IfOk result (λ leaf. key ≤ leaf.expect.high) }
     ensures leads { IfOk result (Leads (P.standing pages.old).told (P.standing pages.old).current (P.standing pages.old).count key top path.new.items) }
     ensures keeps { OnOk result (KeepsLines (P.standing pages.old) (P.standing pages.new)) }
+    ensures nothing { OnOk result (WritesNothing (P.standing pages.old) (P.standing pages.new)) }
     ensures cause { HasCause (IsTreeDamage (P.standing pages.old).told (P.standing pages.old).count work.new.page) (P.standing pages.old) (P.standing pages.new) result }
     ensures continues { Continues (P.may_leave pages.old) (P.may_leave pages.new) (P.is_steady pages.old) (P.standing pages.old) (P.standing pages.new) }
     ensures few { (P.standing pages.new).visits ≤ (P.standing pages.old).visits + top.expect.level + 1 }
@@ -122,6 +125,7 @@ fn settle<P: Pages>(
     ensures below { IfOk result (StaysBelow passed.now.place.expect) }
     ensures settles { IsTrue (P.standing pages.old).told → IfOk result (Settles (P.standing pages.old).current (P.standing pages.new).current passed.now child) }
     ensures follows { IfOk result (MayFollow child) }
+    ensures kept { child ≡ Outcome.Whole → P.standing pages.new ≡ P.standing pages.old }
     ensures room { OnOk result ((P.standing pages.old).room ≤ (P.standing pages.new).room + room_above child) }
     ensures cause { HasCause (IsTreeDamage (P.standing pages.old).told (P.standing pages.old).count work.new.page) (P.standing pages.old) (P.standing pages.new) result }
     ensures continues { Continues (P.may_leave pages.old) (P.may_leave pages.new) (P.is_steady pages.old) (P.standing pages.old) (P.standing pages.new) }
@@ -160,6 +164,7 @@ pub fn put_in<P: Pages>(
     ensures safe { IfOk result (IsSafe (P.standing pages.old).count top.expect) }
     ensures below { IfOk result (StaysBelow top.expect) }
     ensures edits { IsTrue (P.standing pages.old).told → IfOk result (λ outcome. Edits (P.standing pages.old).current (P.standing pages.new).current top.page top.expect outcome (row_put key value.now)) }
+    ensures again { IfOk result (PutsAgain top key (length value.now) (P.standing pages.old) (P.standing pages.new)) }
     ensures room { IfOk result (IsSpent top.expect.level (P.standing pages.old).room (P.standing pages.new).room) }
     ensures cause { HasCause (IsTreeDamage (P.standing pages.old).told (P.standing pages.old).count work.new.page) (P.standing pages.old) (P.standing pages.new) result }
     ensures continues { Continues (P.may_leave pages.old) (P.may_leave pages.new) (P.is_steady pages.old) (P.standing pages.old) (P.standing pages.new) }
