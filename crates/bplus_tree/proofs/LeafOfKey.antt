@@ -4,15 +4,16 @@ use Rattle.line_pages.specs.Lines.{Lines}
 use Rattle.line_pages.specs.Bytes.{bytes_of}
 use Rattle.line_pages.specs.Standing.{Standing}
 use Rattle.slotted_page.specs.declared.root.Expect.{Expect}
-use Rattle.slotted_page.specs.Rows.{row_get}
+use Rattle.slotted_page.specs.Rows.{Row, row_get, last_key}
 use Rattle.slotted_page.specs.Spans.{Span}
 use Rattle.slotted_page.specs.Node.{leaf_rows, children}
 use Rattle.bplus_tree.specs.declared.outcome.Outcome.{Outcome}
 use Rattle.bplus_tree.specs.declared.outcome.Outcome.TheVariants.{Whole}
+use Rattle.bplus_tree.specs.declared.root.Root.{Root}
 use Rattle.bplus_tree.specs.declared.path.Place.{Place}
 use Rattle.bplus_tree.specs.declared.path.Passed.{Passed}
-use Rattle.bplus_tree.specs.Tree.{IsTree, tree_rows, path, child_for, leaf_for}
-use Rattle.bplus_tree.specs.Path.{Leads, LeadsTo}
+use Rattle.bplus_tree.specs.Tree.{IsTree, IsRooted, tree_rows, path, child_for, leaf_for}
+use Rattle.bplus_tree.specs.Path.{Leads, LeadsTo, root_place}
 use Rattle.bplus_tree.specs.Record.{HoldsLength, WritesRecord, PutsAgain, record_at}
 use Rattle.bplus_tree.specs.Written.{Meets, WritesOnly, WritesNothing}
 use Rattle.bplus_tree.proofs.SearchLaws.{well_formed_top}
@@ -84,3 +85,12 @@ again_on key size top old mid new before after so_far kept follows = record {
       let w = so_far.is told tree holds in
       (follows w.0, subst (λ (s : Standing _). WritesRecord (leaf_for old.current top.expect.level top.page key) key old s) (sym (kept w.0)) w.1);
 }
+
+-- the same from a root
+pub root_again : {A : Type 0} (root : Root) (top : Place) (n key size : ℕ) (old new : Standing A) (outcome : Outcome) → n ≡ old.count → top ≡ root_place root n → PutsAgain top key size old new outcome → IsTrue old.told
+    → (rows : List Row) (used : List ℕ) → IsRooted old.count old.current root rows used → HoldsLength key size rows
+    → (outcome ≡ Whole) × WritesRecord (leaf_for old.current (root.levels - 1) root.page key) key old new
+root_again root top n key size old new outcome is_count is_top puts told rows used rooted holds =
+    let at_top = subst (λ (p : Place). PutsAgain p key size old new outcome) is_top puts in
+    at_top.is told (subst (λ (m : ℕ). IsTree m old.current (root.levels - 1) root.page 0 last_key true) (sym is_count) rooted.tree.is_tree)
+    (record { held = holds.held; is = ap (row_get key) (sym rooted.tree.rows_are) ∙ holds.is; long = holds.long })

@@ -8,6 +8,7 @@ ghost use Rattle.bplus_tree.specs.Tree.{IsRooted};
 ghost use Rattle.bplus_tree.specs.Moves.{ChangesRows};
 ghost use Rattle.bplus_tree.specs.Damage.{IsTreeDamage};
 ghost use Rattle.bplus_tree.specs.Written.{WritesNothing};
+ghost use Rattle.bplus_tree.specs.Record.{PutsRecord};
 
 use crate::access::{take, write_new};
 use crate::lookup::get;
@@ -35,6 +36,7 @@ fn put_row<P: Pages>(
     requires printable { list_all is_printable value.now ≡ true }
     requires room { 600 ≤ (P.standing pages.old).room }
     ensures rows { IsTrue (P.standing pages.old).told → OnOk result (ChangesRows (P.standing pages.old).count (P.standing pages.old).current (P.standing pages.new).current root.old root.new (row_put key value.now)) }
+    ensures again { IsTrue (P.standing pages.old).told → OnOk result (PutsRecord root.old key (length value.now) (P.standing pages.old) (P.standing pages.new)) }
     ensures room { OnOk result ((P.standing pages.old).room ≤ (P.standing pages.new).room + 600) }
     ensures some { OnOk result (1 ≤ root.new.page) }
     ensures page { OnOk result (root.new.page < (P.standing pages.old).count) }
@@ -179,6 +181,8 @@ pub fn put<P: Pages>(
     ensures rows { IsTrue (P.standing pages.old).told → OnOk result (ChangesRows (P.standing pages.old).count (P.standing pages.old).current (P.standing pages.new).current root.old root.new (row_put key value.now)) }
     ensures room { OnOk result ((P.standing pages.old).room ≤ (P.standing pages.new).room + 600) }
     ensures fresh { IsTrue (P.standing pages.old).told → (rows : List Row) (used : List ℕ) → IsRooted (P.standing pages.old).count (P.standing pages.old).current root.old rows used → IfOk result (λ fresh. fresh ≡ not (is_some (row_get key rows))) }
+    // where the key has a value of this length, lines of its record are written alone
+    ensures again { IsTrue (P.standing pages.old).told → OnOk result (PutsRecord root.old key (length value.now) (P.standing pages.old) (P.standing pages.new)) }
     // why it stops
     ensures cause { HasCause (IsTreeDamage (P.standing pages.old).told (P.standing pages.old).count work.new.page) (P.standing pages.old) (P.standing pages.new) result }
     // the root, and what stays
