@@ -14,7 +14,7 @@ use Rattle.bplus_tree.specs.declared.path.Place.{Place}
 use Rattle.bplus_tree.specs.declared.path.Passed.{Passed}
 use Rattle.bplus_tree.specs.Tree.{IsTree, IsRooted, tree_rows, path, child_for, leaf_for}
 use Rattle.bplus_tree.specs.Path.{Leads, LeadsTo, root_place}
-use Rattle.bplus_tree.specs.Record.{HoldsLength, WritesRecord, PutsAgain, record_at}
+use Rattle.bplus_tree.specs.Record.{HoldsLength, WritesRecord, PutsAgain, PutsRecord, record_at}
 use Rattle.bplus_tree.specs.Written.{Meets, WritesOnly, WritesNothing}
 use Rattle.bplus_tree.proofs.SearchLaws.{well_formed_top}
 use Rattle.bplus_tree.proofs.OrderLaws.{Descends, descends}
@@ -69,8 +69,7 @@ again_start key size top leaf path old mid new outcome leads level same nothing 
       let here : HoldsLength key size (leaf_rows (bytes_of mid.current leaf.page)) =
       subst (λ (lines : Lines). HoldsLength key size (leaf_rows (bytes_of lines leaf.page))) (sym (same told)) (record { held = holds.held; is = sym at.rows ∙ holds.is; long = holds.long }) in
       let w = wrote told here in
-      let record_is = record_at key (bytes_of old.current leaf.page) in
-      (
+      let record_is = record_at key (bytes_of old.current leaf.page) in (
         w.0,
         subst (λ (n : ℕ). WritesRecord n key old new) (sym at.is)
             (only_then leaf.page (Meets record_is) (only_nothing leaf.page (Meets record_is) nothing)
@@ -94,3 +93,14 @@ root_again root top n key size old new outcome is_count is_top puts told rows us
     let at_top = subst (λ (p : Place). PutsAgain p key size old new outcome) is_top puts in
     at_top.is told (subst (λ (m : ℕ). IsTree m old.current (root.levels - 1) root.page 0 last_key true) (sym is_count) rooted.tree.is_tree)
     (record { held = holds.held; is = ap (row_get key) (sym rooted.tree.rows_are) ∙ holds.is; long = holds.long })
+
+-- and after calls that wrote nothing
+pub record_later : {A : Type 0} (root : Root) (key size : ℕ) (old mid new : Standing A) → mid.current ≡ old.current → mid.count ≡ old.count → WritesNothing old mid → PutsRecord root key size mid new → PutsRecord root key size old new
+record_later root key size old mid new same is_count nothing later rows used rooted holds =
+    let there : IsRooted mid.count mid.current root rows used =
+    subst (λ (n : ℕ). IsRooted n mid.current root rows used) (sym is_count) (subst (λ (lines : Lines). IsRooted old.count lines root rows used) (sym same) rooted) in
+    let leaf = leaf_for old.current (root.levels - 1) root.page key in
+    let record_is = record_at key (bytes_of old.current leaf) in
+    only_then leaf (Meets record_is) (only_nothing leaf (Meets record_is) nothing)
+    (subst (λ (lines : Lines). WritesOnly (leaf_for lines (root.levels - 1) root.page key) (Meets (record_at key (bytes_of lines (leaf_for lines (root.levels - 1) root.page key)))) mid new) same
+    (later rows used there holds))

@@ -72,8 +72,8 @@ returns-then-not-is_there-clause-again c = λ h.
 
 pub returns-then-leaf_value-value-clause-again : goal.returns-then-leaf_value-value-clause-again
 returns-then-leaf_value-value-clause-again c = λ h. (
-    refl,
-    set_record c.args.left.now c.leaf_set.new.page c.args.key c.leaf_place-at.result c.leaf_place-at.ensures.place c.enter.ensures.size c.open_leaf-then-leaf_value-value.ensures.size c.leaf_set.ensures.before c.leaf_set.ensures.after
+  refl,
+  set_record c.args.left.now c.leaf_set.new.page c.args.key c.leaf_place-at.result c.leaf_place-at.ensures.place c.enter.ensures.size c.open_leaf-then-leaf_value-value.ensures.size c.leaf_set.ensures.before c.leaf_set.ensures.after,
 )
 
 pub returns-clause-again : goal.returns-clause-again
