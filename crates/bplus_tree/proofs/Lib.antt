@@ -20,6 +20,7 @@ pub mod MergeLaws
 pub mod TreeDamageLaws
 pub mod Joined
 pub mod NextLaws
+pub mod LackLaws
 pub mod PathLaws
 pub mod SoundLaws
 pub mod NextReads

@@ -1,17 +1,23 @@
 -- The way down to a key, and what becomes of the pages on it.
-use Rattle.std.specs.Prelude.{◌≡◌, ◌≢◌, ℕ, suc, ◌-◌, ◌<◌, ◌≤◌, Bool, true, false, List, [], ◌∷◌, Some, slice_get, IsTrue}
+use Rattle.std.specs.Prelude.{◌≡◌, ◌≢◌, ℕ, suc, ◌+◌, ◌-◌, ◌<◌, ◌≤◌, Bool, true, false, List, [], ◌∷◌, ◌++◌, Some, slice_get, IsTrue}
 use Rattle.line_pages.specs.Lines.{Lines}
 use Rattle.line_pages.specs.Bytes.{bytes_of}
+use Rattle.slotted_page.specs.declared.root.Expect.{Expect}
 use Rattle.slotted_page.specs.Search.{is_root_span}
 use Rattle.slotted_page.specs.Rows.{last_key}
 use Rattle.slotted_page.specs.Spans.{spans}
-use Rattle.slotted_page.specs.Node.{children, IsWellFormed}
+use Rattle.slotted_page.specs.Node.{children, entry_count, IsWellFormed}
 use Rattle.bplus_tree.specs.declared.root.Root.{Root}
 use Rattle.bplus_tree.specs.declared.outcome.Outcome.{Outcome}
 use Rattle.bplus_tree.specs.declared.outcome.Outcome.TheVariants.{Whole, Short, Cut, Alone}
 use Rattle.bplus_tree.specs.declared.path.Place.{Place}
 use Rattle.bplus_tree.specs.declared.path.Passed.{Passed}
-use Rattle.bplus_tree.specs.Edit.{Mends, AddsChild}
+use Rattle.line_pages.specs.declared.stop.Stop.{Stop}
+use Rattle.bplus_tree.specs.Space.{high_of, IsFreeList}
+use Rattle.bplus_tree.specs.Tree.{IsTree, tree_pages}
+use Rattle.bplus_tree.specs.Moves.{ArePart}
+use Rattle.bplus_tree.specs.Damage.{IsFault, StopsFor, spare_pages}
+use Rattle.bplus_tree.specs.Edit.{IsMendable, Mends, AddsChild}
 
 -- the place of a root
 abbrev pub root_place : Root → ℕ → Place
@@ -65,3 +71,34 @@ room_above Whole = 0
 room_above Short = 189
 room_above (Cut key right) = 129
 room_above (Alone child) = 0
+
+-- a tree under a page beside a free list
+pub record StandsAt (lines : Lines) (page : ℕ) (expect : Expect) (free : List ℕ) : Type 0 where
+  pub tree : IsTree expect.pages lines expect.level page expect.low expect.high expect.root
+  pub is_free : IsFreeList lines free
+  pub parted : ArePart lines (tree_pages lines expect.level page ++ free)
+  pub within : high_of lines ≤ expect.pages
+
+-- what stands above a child that became this
+abbrev pub StandsAbove : Lines → Passed → Outcome → List ℕ → Type 0
+StandsAbove lines passed Whole free = Unit {0}
+StandsAbove lines passed Short free = (level : ℕ) × IsMendable lines passed.place.page passed.place.expect passed.low level free
+StandsAbove lines passed (Cut key right) free = IsWellFormed (bytes_of lines passed.place.page) passed.place.expect × IsFreeList lines free × ArePart lines (passed.place.page ∷ free)
+StandsAbove lines passed (Alone child) free = Unit {0}
+
+-- a page at level 3 that has all the children that it has room for
+abbrev pub IsFullAt : Lines → ℕ → Expect → Type 0
+IsFullAt lines page expect = (expect.level ≡ 3) × (entry_count (bytes_of lines page) ≡ 240)
+
+-- the stops there: damage only where the child was cut, and no page is left or the page is full
+abbrev pub StopsAbove : ℕ → Lines → Passed → Outcome → List ℕ → Stop → Type 0
+StopsAbove count lines passed Whole free stop = IsFault stop
+StopsAbove count lines passed Short free stop = IsFault stop
+StopsAbove count lines passed (Cut key right) free stop = StopsFor (spare_pages count lines free ≤ 0) (IsFullAt lines passed.place.page passed.place.expect) stop
+StopsAbove count lines passed (Alone child) free stop = IsFault stop
+
+-- Where the page was cut, so many pages were taken at most.
+abbrev pub TakesFor : ℕ → Lines → Lines → ℕ → Expect → Outcome → Type 0
+TakesFor count old new page expect outcome =
+    (free rest : List ℕ) (key right : ℕ) → outcome ≡ Cut key right → StandsAt old page expect free → IsFreeList new rest
+    → spare_pages count old free ≤ spare_pages count new rest + (expect.level + 1)

@@ -1,13 +1,16 @@
 //! Changes of one page of a tree: of a leaf, and of the pages above one that was changed.
-ghost use Rattle.std.specs.Prelude.{◌≡◌, ◌≢◌, ◌+◌, ◌-◌, ◌*◌, ◌<◌, ◌≤◌, ◌==◌, ℕ, List, length, true, false, None, IsTrue, OnOk, IfOk, IfErr, Err};
+ghost use Rattle.std.specs.Prelude.{◌≡◌, ◌≢◌, ◌+◌, ◌-◌, ◌*◌, ◌<◌, ◌≤◌, ◌==◌, ◌∷◌, ℕ, List, length, true, false, None, IsTrue, OnOk, IfOk, IfErr, Err};
 ghost use Rattle.std.specs.List.{list_all};
 ghost use Rattle.line_pages.specs.Bytes.{bytes_of};
 ghost use Rattle.line_pages.specs.Standing.{Continues, HasCause, IsCause};
 ghost use Rattle.slotted_page.specs.Rows.{row_put, row_delete};
 ghost use Rattle.slotted_page.specs.Node.{IsWellFormed, entry_count, is_printable, leaf_rows};
 ghost use Rattle.slotted_page.specs.Search.{is_root_span};
-ghost use Rattle.bplus_tree.specs.Damage.{IsTreeDamage, IsFullRoot};
-ghost use Rattle.bplus_tree.specs.Edit.{Edits, Mends, AddsChild, IsSafe, IsSpent, StaysBelow, IsPair, IsCutIn, Rewritten, after_fit};
+ghost use Rattle.bplus_tree.specs.Space.{IsFreeList, FitsHeader};
+ghost use Rattle.bplus_tree.specs.Moves.{ArePart};
+ghost use Rattle.bplus_tree.specs.Damage.{IsTreeDamage, IsFullRoot, IsFault, IsShort, StopsFor, spare_pages};
+ghost use Rattle.bplus_tree.specs.Edit.{Edits, Mends, IsMendable, AddsChild, IsSafe, IsSpent, StaysBelow, IsPair, IsCutIn, Rewritten, after_fit};
+ghost use Rattle.bplus_tree.specs.Path.{IsFullAt};
 ghost use Rattle.bplus_tree.specs.Record.{HoldsLength, WritesRecord};
 ghost use Rattle.bplus_tree.specs.Written.{Rewrites, lines_changed};
 
@@ -47,6 +50,7 @@ pub fn put_leaf<P: Pages>(
     ensures again { IsTrue (P.standing pages.old).told → HoldsLength key (length value.now) (leaf_rows (bytes_of (P.standing pages.old).current page)) → OnOk result (WritesRecord page key (P.standing pages.old) (P.standing pages.new)) }
     ensures whole { IsTrue (P.standing pages.old).told → HoldsLength key (length value.now) (leaf_rows (bytes_of (P.standing pages.old).current page)) → IfOk result (λ outcome. outcome ≡ Outcome.Whole) }
     ensures room { IfOk result (IsSpent 0 (P.standing pages.old).room (P.standing pages.new).room) }
+    ensures sound { IsTrue (P.standing pages.old).told → (free : List ℕ) → IsWellFormed (bytes_of (P.standing pages.old).current page) expect.now → IsFreeList (P.standing pages.old).current free → ArePart (P.standing pages.old).current (page ∷ free) → FitsHeader (P.standing pages.old).count ((P.standing pages.old).current 0 0) → IfErr result (IsShort (spare_pages (P.standing pages.old).count (P.standing pages.old).current free) 0) }
     ensures cause { HasCause (IsTreeDamage (P.standing pages.old).told (P.standing pages.old).count work.new.page) (P.standing pages.old) (P.standing pages.new) result }
     ensures continues { Continues (P.may_leave pages.old) (P.may_leave pages.new) (P.is_steady pages.old) (P.standing pages.old) (P.standing pages.new) }
     ensures few { (P.standing pages.new).visits ≤ (P.standing pages.old).visits + 8 }
@@ -77,6 +81,7 @@ pub fn delete_leaf<P: Pages>(
     ensures edits { IsTrue (P.standing pages.old).told → IfOk result (λ outcome. Edits (P.standing pages.old).current (P.standing pages.new).current page expect.now outcome (row_delete key)) }
     ensures uncut { IfOk result (λ outcome. (k r : ℕ) → outcome ≢ Outcome.Cut k r) }
     ensures room { IfOk result (IsSpent 0 (P.standing pages.old).room (P.standing pages.new).room) }
+    ensures sound { IsTrue (P.standing pages.old).told → IsWellFormed (bytes_of (P.standing pages.old).current page) expect.now → IfErr result IsFault }
     ensures cause { HasCause (IsTreeDamage (P.standing pages.old).told (P.standing pages.old).count work.new.page) (P.standing pages.old) (P.standing pages.new) result }
     ensures continues { Continues (P.may_leave pages.old) (P.may_leave pages.new) (P.is_steady pages.old) (P.standing pages.old) (P.standing pages.new) }
     ensures few { (P.standing pages.new).visits ≤ (P.standing pages.old).visits + 8 }
@@ -124,6 +129,7 @@ pub fn add_child<P: Pages>(
     ensures adds { IsTrue (P.standing pages.old).told → IfOk result (λ outcome. AddsChild (P.standing pages.old).current (P.standing pages.new).current page expect.now key child outcome) }
     ensures long { IfOk result (λ outcome. outcome ≢ Outcome.Short) }
     ensures room { OnOk result ((P.standing pages.old).room ≤ (P.standing pages.new).room + 129) }
+    ensures sound { IsTrue (P.standing pages.old).told → (free : List ℕ) → IsWellFormed (bytes_of (P.standing pages.old).current page) expect.now → IsFreeList (P.standing pages.old).current free → ArePart (P.standing pages.old).current (page ∷ free) → FitsHeader (P.standing pages.old).count ((P.standing pages.old).current 0 0) → IfErr result (StopsFor (spare_pages (P.standing pages.old).count (P.standing pages.old).current free ≤ 0) (IsFullAt (P.standing pages.old).current page expect.now)) }
     ensures cause { HasCause (IsTreeDamage (P.standing pages.old).told (P.standing pages.old).count work.new.page) (P.standing pages.old) (P.standing pages.new) result }
     ensures continues { Continues (P.may_leave pages.old) (P.may_leave pages.new) (P.is_steady pages.old) (P.standing pages.old) (P.standing pages.new) }
     ensures few { (P.standing pages.new).visits ≤ (P.standing pages.old).visits + 8 }
@@ -171,6 +177,7 @@ pub fn mend<P: Pages>(
     ensures mends { IsTrue (P.standing pages.old).told → IfOk result (Mends (P.standing pages.old).current (P.standing pages.new).current page expect.now key) }
     ensures uncut { IfOk result (λ outcome. (k r : ℕ) → outcome ≢ Outcome.Cut k r) }
     ensures room { OnOk result ((P.standing pages.old).room ≤ (P.standing pages.new).room + 189) }
+    ensures sound { IsTrue (P.standing pages.old).told → (level : ℕ) (free : List ℕ) → IsMendable (P.standing pages.old).current page expect.now key level free → FitsHeader (P.standing pages.old).count ((P.standing pages.old).current 0 0) → IfErr result IsFault }
     ensures cause { HasCause (IsTreeDamage (P.standing pages.old).told (P.standing pages.old).count work.new.page) (P.standing pages.old) (P.standing pages.new) result }
     ensures continues { Continues (P.may_leave pages.old) (P.may_leave pages.new) (P.is_steady pages.old) (P.standing pages.old) (P.standing pages.new) }
     ensures few { (P.standing pages.new).visits ≤ (P.standing pages.old).visits + 13 }
@@ -205,6 +212,7 @@ fn rewrite<P: Pages>(
     ensures rewrites { IsTrue (P.standing pages.old).told → IfOk result (Rewritten (P.standing pages.old).count (P.standing pages.old).current (P.standing pages.new).current page expect.now pair.now cut) }
     ensures uncut { IfOk result (λ outcome. (k r : ℕ) → outcome ≢ Outcome.Cut k r) }
     ensures room { OnOk result ((P.standing pages.old).room ≤ (P.standing pages.new).room + 61) }
+    ensures sound { IsTrue (P.standing pages.old).told → IsWellFormed (bytes_of (P.standing pages.old).current page) expect.now → FitsHeader (P.standing pages.old).count ((P.standing pages.old).current 0 0) → IfErr result IsFault }
     ensures cause { HasCause (IsTreeDamage (P.standing pages.old).told (P.standing pages.old).count work.new.page) (P.standing pages.old) (P.standing pages.new) result }
     ensures continues { Continues (P.may_leave pages.old) (P.may_leave pages.new) (P.is_steady pages.old) (P.standing pages.old) (P.standing pages.new) }
     ensures few { (P.standing pages.new).visits ≤ (P.standing pages.old).visits + 5 }
@@ -243,6 +251,7 @@ fn outcome_of(fit: Fit) -> Outcome
 }
 
 /// Writes a page that was not cut.
+#[tactic(auto, using(crate::proofs::SoundLaws::sound_never))]
 fn keep<P: Pages>(pages: &mut P, page: u64, fit: Fit, work: &mut Work) -> Result<Outcome, Stop>
     requires ready { P.is_ready pages.old }
     requires page { page < (P.standing pages.old).count }
@@ -252,6 +261,7 @@ fn keep<P: Pages>(pages: &mut P, page: u64, fit: Fit, work: &mut Work) -> Result
     ensures safe { (count : ℕ) (expect : Expect) → IfOk result (IsSafe count expect) }
     ensures writes { IsTrue (P.standing pages.old).told → work.old.spare ≡ bytes_of (P.standing pages.old).current page → OnOk result (Rewrites page work.old.page (P.standing pages.old).current (P.standing pages.new).current) }
     ensures room { OnOk result ((P.standing pages.new).room + lines_changed work.old.spare work.old.page ≡ (P.standing pages.old).room) }
+    ensures sound { IfErr result IsFault }
     ensures cause { HasCause (IsTreeDamage (P.standing pages.old).told (P.standing pages.old).count work.new.page) (P.standing pages.old) (P.standing pages.new) result }
     ensures continues { Continues (P.may_leave pages.old) (P.may_leave pages.new) (P.is_steady pages.old) (P.standing pages.old) (P.standing pages.new) }
     ensures few { (P.standing pages.new).visits ≤ (P.standing pages.old).visits + 1 }

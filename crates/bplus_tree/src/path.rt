@@ -1,14 +1,16 @@
 //! Changes of a tree: down to the leaf of a key, and up again along the path.
-ghost use Rattle.std.specs.Prelude.{◌≡◌, ◌≢◌, ◌+◌, ◌*◌, ◌≤◌, ℕ, [], length, true, IsTrue, OnOk, IfOk};
+ghost use Rattle.std.specs.Prelude.{◌≡◌, ◌≢◌, ◌+◌, ◌*◌, ◌<◌, ◌≤◌, ℕ, List, [], length, true, IsTrue, OnOk, IfOk, IfErr};
 ghost use Rattle.std.specs.List.{list_all};
 ghost use Rattle.line_pages.specs.Standing.{Continues, HasCause, KeepsLines};
 ghost use Rattle.slotted_page.specs.Rows.{row_put, row_delete};
 ghost use Rattle.slotted_page.specs.Node.{is_printable};
-ghost use Rattle.bplus_tree.specs.Damage.{IsTreeDamage};
+ghost use Rattle.bplus_tree.specs.Space.{FitsHeader};
+ghost use Rattle.bplus_tree.specs.Tree.{IsTree, tree_rows};
+ghost use Rattle.bplus_tree.specs.Damage.{IsTreeDamage, IsFault, StopsFor, spare_pages};
 ghost use Rattle.bplus_tree.specs.Edit.{Edits, IsSafe, IsSpent, StaysBelow};
 ghost use Rattle.bplus_tree.specs.Written.{WritesNothing};
 ghost use Rattle.bplus_tree.specs.Record.{PutsAgain};
-ghost use Rattle.bplus_tree.specs.Path.{IsPlace, Leads, MayFollow, Settles, room_above, root_place};
+ghost use Rattle.bplus_tree.specs.Path.{IsPlace, Leads, MayFollow, Settles, StandsAbove, StandsAt, StopsAbove, TakesFor, room_above, root_place};
 
 use crate::access::look;
 use crate::change::{add_child, delete_leaf, mend, put_leaf};
@@ -87,6 +89,7 @@ fn descend<P: Pages>(
     ensures leads { IfOk result (Leads (P.standing pages.old).told (P.standing pages.old).current (P.standing pages.old).count key top path.new.items) }
     ensures keeps { OnOk result (KeepsLines (P.standing pages.old) (P.standing pages.new)) }
     ensures nothing { OnOk result (WritesNothing (P.standing pages.old) (P.standing pages.new)) }
+    ensures sound { IsTrue (P.standing pages.old).told → IsTree top.expect.pages (P.standing pages.old).current top.expect.level top.page top.expect.low top.expect.high top.expect.root → IfErr result IsFault }
     ensures cause { HasCause (IsTreeDamage (P.standing pages.old).told (P.standing pages.old).count work.new.page) (P.standing pages.old) (P.standing pages.new) result }
     ensures continues { Continues (P.may_leave pages.old) (P.may_leave pages.new) (P.is_steady pages.old) (P.standing pages.old) (P.standing pages.new) }
     ensures few { (P.standing pages.new).visits ≤ (P.standing pages.old).visits + top.expect.level + 1 }
@@ -127,6 +130,7 @@ fn settle<P: Pages>(
     ensures follows { IfOk result (MayFollow child) }
     ensures kept { child ≡ Outcome.Whole → P.standing pages.new ≡ P.standing pages.old }
     ensures room { OnOk result ((P.standing pages.old).room ≤ (P.standing pages.new).room + room_above child) }
+    ensures sound { IsTrue (P.standing pages.old).told → (free : List ℕ) → StandsAbove (P.standing pages.old).current passed.now child free → FitsHeader (P.standing pages.old).count ((P.standing pages.old).current 0 0) → IfErr result (StopsAbove (P.standing pages.old).count (P.standing pages.old).current passed.now child free) }
     ensures cause { HasCause (IsTreeDamage (P.standing pages.old).told (P.standing pages.old).count work.new.page) (P.standing pages.old) (P.standing pages.new) result }
     ensures continues { Continues (P.may_leave pages.old) (P.may_leave pages.new) (P.is_steady pages.old) (P.standing pages.old) (P.standing pages.new) }
     ensures few { (P.standing pages.new).visits ≤ (P.standing pages.old).visits + 13 }
@@ -166,6 +170,8 @@ pub fn put_in<P: Pages>(
     ensures edits { IsTrue (P.standing pages.old).told → IfOk result (λ outcome. Edits (P.standing pages.old).current (P.standing pages.new).current top.page top.expect outcome (row_put key value.now)) }
     ensures again { IfOk result (PutsAgain top key (length value.now) (P.standing pages.old) (P.standing pages.new)) }
     ensures room { IfOk result (IsSpent top.expect.level (P.standing pages.old).room (P.standing pages.new).room) }
+    ensures takes { IsTrue (P.standing pages.old).told → IfOk result (TakesFor (P.standing pages.old).count (P.standing pages.old).current (P.standing pages.new).current top.page top.expect) }
+    ensures sound { IsTrue (P.standing pages.old).told → (free : List ℕ) → StandsAt (P.standing pages.old).current top.page top.expect free → FitsHeader (P.standing pages.old).count ((P.standing pages.old).current 0 0) → IfErr result (StopsFor (spare_pages (P.standing pages.old).count (P.standing pages.old).current free ≤ top.expect.level) (1000000 < length (tree_rows (P.standing pages.old).current top.expect.level top.page))) }
     ensures cause { HasCause (IsTreeDamage (P.standing pages.old).told (P.standing pages.old).count work.new.page) (P.standing pages.old) (P.standing pages.new) result }
     ensures continues { Continues (P.may_leave pages.old) (P.may_leave pages.new) (P.is_steady pages.old) (P.standing pages.old) (P.standing pages.new) }
     ensures few { (P.standing pages.new).visits ≤ (P.standing pages.old).visits + 14 * top.expect.level + 10 }
@@ -198,6 +204,7 @@ pub fn delete_in<P: Pages>(
     ensures edits { IsTrue (P.standing pages.old).told → IfOk result (λ outcome. Edits (P.standing pages.old).current (P.standing pages.new).current top.page top.expect outcome (row_delete key)) }
     ensures uncut { IfOk result (λ outcome. (k r : ℕ) → outcome ≢ Outcome.Cut k r) }
     ensures room { IfOk result (IsSpent top.expect.level (P.standing pages.old).room (P.standing pages.new).room) }
+    ensures sound { IsTrue (P.standing pages.old).told → (free : List ℕ) → StandsAt (P.standing pages.old).current top.page top.expect free → FitsHeader (P.standing pages.old).count ((P.standing pages.old).current 0 0) → IfErr result IsFault }
     ensures cause { HasCause (IsTreeDamage (P.standing pages.old).told (P.standing pages.old).count work.new.page) (P.standing pages.old) (P.standing pages.new) result }
     ensures continues { Continues (P.may_leave pages.old) (P.may_leave pages.new) (P.is_steady pages.old) (P.standing pages.old) (P.standing pages.new) }
     ensures few { (P.standing pages.new).visits ≤ (P.standing pages.old).visits + 14 * top.expect.level + 10 }

@@ -16,6 +16,9 @@ use Rattle.bplus_tree.specs.Edit.{IsOutcome, StaysBelow}
 use Rattle.bplus_tree.proofs.WrittenLaws.{changed_most}
 use Rattle.bplus_tree.proofs.Storing.{spent_most, if_both, child_added}
 use Rattle.bplus_tree.proofs.TreeDamageLaws.{root_damage}
+use Rattle.bplus_tree.specs.Damage.{spare_pages}
+use Rattle.bplus_tree.specs.Path.{IsFullAt}
+use Rattle.bplus_tree.proofs.LackLaws.{stops_wider, stored_sound}
 use Rattle.bplus_tree.proofs.change.add_child.Goals as goal
 
 stays : {E : Type 0} (count : ℕ) (e : Expect) (fit : Fit) (r : Result Outcome E) → (e.root ≡ true → e.level ≡ 3 → fit ≡ fits.Whole) → IfOk r (IsOutcome count fit) → IfOk r (StaysBelow e)
@@ -78,3 +81,13 @@ returns-clause-adds g c = λ told.
     (λ outcome stores outcome_is. child_added e old.current first.current new.current c.args.page c.args.key c.args.child first.count c.load.new.work.page c.inner_put-fit.new.left c.inner_put-fit.new.right c.inner_put-fit.result outcome
     (c.in_ok-load.ensures.continues.count ∙ sym c.requires.pages) same is c.inner_put-fit.ensures.fits c.inner_put-fit.ensures.long outcome_is stores)
     (c.store.ensures.stores told_on spare) c.store.ensures.is
+
+pub returns-clause-sound : goal.returns-clause-sound
+returns-clause-sound g c = λ told free well is_free part fits.
+    let old = g.P.Pages.standing c.args.pages.now in
+    let first = g.P.Pages.standing c.load.new.pages in
+    let told_on = subst IsTrue (sym c.in_ok-load.ensures.continues.told) told in
+    let same = c.in_ok-load.ensures.keeps.current told in
+    let spare = c.copy_from.ensures.value ∙ c.in_ok-load.ensures.bytes told ∙ ap (λ (lines : Lines). bytes_of lines c.args.page) (sym same) in
+    stops_wider (spare_pages old.count old.current free ≤ 0) (spare_pages old.count old.current free ≤ 0) ⊥ (IsFullAt old.current c.args.page c.args.expect.now) (λ none. none) (λ never. absurd never) c.store.result
+    (stored_sound old.count first.count old.current first.current c.args.page c.copy_from.new.self free c.store.result c.in_ok-load.ensures.continues.count same spare is_free part fits (c.store.ensures.sound told_on))

@@ -9,6 +9,7 @@ use Rattle.slotted_page.specs.Node.{leaf_rows}
 use Rattle.bplus_tree.specs.declared.outcome.Outcome.TheVariants.{Whole}
 use Rattle.bplus_tree.specs.Record.{HoldsLength, record_at}
 use Rattle.bplus_tree.proofs.SameLength.{uncut_whole, outcome_whole, record_written}
+use Rattle.bplus_tree.proofs.LackLaws.{stored_sound}
 use Rattle.bplus_tree.proofs.change.put_leaf.Goals as goal
 
 pub store-requires-clause-room : goal.store-requires-clause-room
@@ -52,3 +53,12 @@ returns-clause-whole g c = λ told holds.
     let is = c.in_ok-load.ensures.bytes told in
     let fit = c.leaf_put-fit.ensures.again (subst (λ (b : List ℕ). HoldsLength c.args.key (length c.args.value.now) (leaf_rows b)) (sym is) holds) in
     outcome_whole (g.P.Pages.standing c.load.new.pages).count c.leaf_put-fit.result c.store.result fit.0 c.store.ensures.is
+
+pub returns-clause-sound : goal.returns-clause-sound
+returns-clause-sound g c = λ told free well is_free part fits.
+    let old = g.P.Pages.standing c.args.pages.now in
+    let first = g.P.Pages.standing c.load.new.pages in
+    let told_on = subst IsTrue (sym c.in_ok-load.ensures.continues.told) told in
+    let same = c.in_ok-load.ensures.keeps.current told in
+    let spare = c.copy_from.ensures.value ∙ c.in_ok-load.ensures.bytes told ∙ ap (λ (lines : Lines). bytes_of lines c.args.page) (sym same) in
+    stored_sound old.count first.count old.current first.current c.args.page c.copy_from.new.self free c.store.result c.in_ok-load.ensures.continues.count same spare is_free part fits (c.store.ensures.sound told_on)
