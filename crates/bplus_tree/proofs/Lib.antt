@@ -27,3 +27,5 @@ pub mod RootLaws
 pub mod SoundLaws
 pub mod NextReads
 pub mod TouchedLaws
+pub mod SameLength
+pub mod LeafOfKey

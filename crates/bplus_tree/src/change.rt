@@ -4,13 +4,14 @@ ghost use Rattle.std.specs.List.{list_all};
 ghost use Rattle.line_pages.specs.Bytes.{bytes_of};
 ghost use Rattle.line_pages.specs.Standing.{Continues, HasCause, IsCause};
 ghost use Rattle.slotted_page.specs.Rows.{row_put, row_delete};
-ghost use Rattle.slotted_page.specs.Node.{IsWellFormed, entry_count, is_printable};
+ghost use Rattle.slotted_page.specs.Node.{IsWellFormed, entry_count, is_printable, leaf_rows};
 ghost use Rattle.slotted_page.specs.Search.{is_root_span};
 ghost use Rattle.bplus_tree.specs.Space.{IsFreeList, FitsHeader};
 ghost use Rattle.bplus_tree.specs.Moves.{ArePart};
 ghost use Rattle.bplus_tree.specs.Damage.{IsTreeDamage, IsFullRoot, IsFault, IsShort, StopsFor, spare_pages};
 ghost use Rattle.bplus_tree.specs.Edit.{Edits, Mends, IsMendable, AddsChild, IsSafe, IsSpent, StaysBelow, IsPair, IsCutIn, Rewritten, after_fit};
 ghost use Rattle.bplus_tree.specs.Path.{IsFullAt};
+ghost use Rattle.bplus_tree.specs.Record.{HoldsLength, WritesRecord};
 ghost use Rattle.bplus_tree.specs.Written.{Rewrites, lines_changed};
 
 use crate::access::{give, load, store};
@@ -46,6 +47,8 @@ pub fn put_leaf<P: Pages>(
     ensures safe { IfOk result (IsSafe (P.standing pages.old).count expect.now) }
     ensures below { IfOk result (StaysBelow expect.now) }
     ensures edits { IsTrue (P.standing pages.old).told → IfOk result (λ outcome. Edits (P.standing pages.old).current (P.standing pages.new).current page expect.now outcome (row_put key value.now)) }
+    ensures again { IsTrue (P.standing pages.old).told → HoldsLength key (length value.now) (leaf_rows (bytes_of (P.standing pages.old).current page)) → OnOk result (WritesRecord page key (P.standing pages.old) (P.standing pages.new)) }
+    ensures whole { IsTrue (P.standing pages.old).told → HoldsLength key (length value.now) (leaf_rows (bytes_of (P.standing pages.old).current page)) → IfOk result (λ outcome. outcome ≡ Outcome.Whole) }
     ensures room { IfOk result (IsSpent 0 (P.standing pages.old).room (P.standing pages.new).room) }
     ensures sound { IsTrue (P.standing pages.old).told → (free : List ℕ) → IsWellFormed (bytes_of (P.standing pages.old).current page) expect.now → IsFreeList (P.standing pages.old).current free → ArePart (P.standing pages.old).current (page ∷ free) → FitsHeader (P.standing pages.old).count ((P.standing pages.old).current 0 0) → IfErr result (IsShort (spare_pages (P.standing pages.old).count (P.standing pages.old).current free) 0) }
     ensures cause { HasCause (IsTreeDamage (P.standing pages.old).told (P.standing pages.old).count work.new.page) (P.standing pages.old) (P.standing pages.new) result }

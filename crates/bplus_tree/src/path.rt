@@ -8,6 +8,8 @@ ghost use Rattle.bplus_tree.specs.Space.{FitsHeader};
 ghost use Rattle.bplus_tree.specs.Tree.{tree_rows};
 ghost use Rattle.bplus_tree.specs.Damage.{IsTreeDamage, IsFault, StopsFor, spare_pages};
 ghost use Rattle.bplus_tree.specs.Edit.{Edits, IsSafe, IsSpent, StaysBelow};
+ghost use Rattle.bplus_tree.specs.Written.{WritesNothing};
+ghost use Rattle.bplus_tree.specs.Record.{PutsAgain};
 ghost use Rattle.bplus_tree.specs.Path.{IsPlace, Leads, MayFollow, Settles, StandsAbove, StandsAt, StopsAbove, TakesFor, room_above, root_place};
 
 use crate::access::look;
@@ -87,6 +89,7 @@ fn descend<P: Pages>(
     ensures leads { IfOk result (Leads (P.standing pages.old).told (P.standing pages.old).current (P.standing pages.old).count key top path.new.items) }
     ensures keeps { OnOk result (KeepsLines (P.standing pages.old) (P.standing pages.new)) }
     ensures sound { IsTrue (P.standing pages.old).told → (free : List ℕ) → StandsAt (P.standing pages.old).current top.page top.expect free → IfErr result IsFault }
+    ensures nothing { OnOk result (WritesNothing (P.standing pages.old) (P.standing pages.new)) }
     ensures cause { HasCause (IsTreeDamage (P.standing pages.old).told (P.standing pages.old).count work.new.page) (P.standing pages.old) (P.standing pages.new) result }
     ensures continues { Continues (P.may_leave pages.old) (P.may_leave pages.new) (P.is_steady pages.old) (P.standing pages.old) (P.standing pages.new) }
     ensures few { (P.standing pages.new).visits ≤ (P.standing pages.old).visits + top.expect.level + 1 }
@@ -125,6 +128,7 @@ fn settle<P: Pages>(
     ensures below { IfOk result (StaysBelow passed.now.place.expect) }
     ensures settles { IsTrue (P.standing pages.old).told → IfOk result (Settles (P.standing pages.old).current (P.standing pages.new).current passed.now child) }
     ensures follows { IfOk result (MayFollow child) }
+    ensures kept { child ≡ Outcome.Whole → P.standing pages.new ≡ P.standing pages.old }
     ensures room { OnOk result ((P.standing pages.old).room ≤ (P.standing pages.new).room + room_above child) }
     ensures sound { IsTrue (P.standing pages.old).told → (free : List ℕ) → StandsAbove (P.standing pages.old).current passed.now child free → FitsHeader (P.standing pages.old).count ((P.standing pages.old).current 0 0) → IfErr result (StopsAbove (P.standing pages.old).count (P.standing pages.old).current passed.now child free) }
     ensures cause { HasCause (IsTreeDamage (P.standing pages.old).told (P.standing pages.old).count work.new.page) (P.standing pages.old) (P.standing pages.new) result }
@@ -164,6 +168,7 @@ pub fn put_in<P: Pages>(
     ensures safe { IfOk result (IsSafe (P.standing pages.old).count top.expect) }
     ensures below { IfOk result (StaysBelow top.expect) }
     ensures edits { IsTrue (P.standing pages.old).told → IfOk result (λ outcome. Edits (P.standing pages.old).current (P.standing pages.new).current top.page top.expect outcome (row_put key value.now)) }
+    ensures again { IfOk result (PutsAgain top key (length value.now) (P.standing pages.old) (P.standing pages.new)) }
     ensures room { IfOk result (IsSpent top.expect.level (P.standing pages.old).room (P.standing pages.new).room) }
     ensures takes { IsTrue (P.standing pages.old).told → IfOk result (TakesFor (P.standing pages.old).count (P.standing pages.old).current (P.standing pages.new).current top.page top.expect) }
     ensures sound { IsTrue (P.standing pages.old).told → (free : List ℕ) → StandsAt (P.standing pages.old).current top.page top.expect free → FitsHeader (P.standing pages.old).count ((P.standing pages.old).current 0 0) → IfErr result (StopsFor (spare_pages (P.standing pages.old).count (P.standing pages.old).current free ≤ top.expect.level) (1000000 < length (tree_rows (P.standing pages.old).current top.expect.level top.page))) }

@@ -7,6 +7,8 @@ ghost use Rattle.slotted_page.specs.Rows.{Row, row_get, row_put, row_delete};
 ghost use Rattle.bplus_tree.specs.Tree.{IsRooted};
 ghost use Rattle.bplus_tree.specs.Moves.{ChangesRows};
 ghost use Rattle.bplus_tree.specs.Damage.{IsTreeDamage, IsFault, IsLack, StandsIn, pages_at_hand};
+ghost use Rattle.bplus_tree.specs.Written.{WritesNothing};
+ghost use Rattle.bplus_tree.specs.Record.{PutsRecord};
 
 use crate::access::{take, write_new};
 use crate::lookup::get;
@@ -34,6 +36,7 @@ fn put_row<P: Pages>(
     requires printable { list_all is_printable value.now ≡ true }
     requires room { 600 ≤ (P.standing pages.old).room }
     ensures rows { IsTrue (P.standing pages.old).told → OnOk result (ChangesRows (P.standing pages.old).count (P.standing pages.old).current (P.standing pages.new).current root.old root.new (row_put key value.now)) }
+    ensures again { IsTrue (P.standing pages.old).told → OnOk result (PutsRecord root.old key (length value.now) (P.standing pages.old) (P.standing pages.new)) }
     ensures room { OnOk result ((P.standing pages.old).room ≤ (P.standing pages.new).room + 600) }
     ensures some { OnOk result (1 ≤ root.new.page) }
     ensures page { OnOk result (root.new.page < (P.standing pages.old).count) }
@@ -124,6 +127,7 @@ fn has_key<P: Pages>(pages: &mut P, root: &Root, key: u64, work: &mut Work) -> R
     requires few_levels { root.now.levels ≤ 4 }
     ensures found { IsTrue (P.standing pages.old).told → (rows : List Row) (used : List ℕ) → IsRooted (P.standing pages.old).count (P.standing pages.old).current root.now rows used → IfOk result (λ found. found ≡ is_some (row_get key rows)) }
     ensures sound { IsTrue (P.standing pages.old).told → (rows : List Row) (used : List ℕ) → IsRooted (P.standing pages.old).count (P.standing pages.old).current root.now rows used → IfErr result IsFault }
+    ensures nothing { OnOk result (WritesNothing (P.standing pages.old) (P.standing pages.new)) }
     ensures cause { HasCause (IsTreeDamage (P.standing pages.old).told (P.standing pages.old).count work.new.page) (P.standing pages.old) (P.standing pages.new) result }
     ensures continues { Continues (P.may_leave pages.old) (P.may_leave pages.new) (P.is_steady pages.old) (P.standing pages.old) (P.standing pages.new) }
     ensures keeps { OnOk result (KeepsLines (P.standing pages.old) (P.standing pages.new)) }
@@ -151,6 +155,7 @@ fn seek<P: Pages>(
     requires few_levels { root.now.levels ≤ 4 }
     ensures value { IsTrue (P.standing pages.old).told → (rows : List Row) (used : List ℕ) → IsRooted (P.standing pages.old).count (P.standing pages.old).current root.now rows used → IfOk result (λ value. value ≡ row_get key rows) }
     ensures sound { IsTrue (P.standing pages.old).told → (rows : List Row) (used : List ℕ) → IsRooted (P.standing pages.old).count (P.standing pages.old).current root.now rows used → IfErr result IsFault }
+    ensures nothing { OnOk result (WritesNothing (P.standing pages.old) (P.standing pages.new)) }
     ensures cause { HasCause (IsTreeDamage (P.standing pages.old).told (P.standing pages.old).count work.new.page) (P.standing pages.old) (P.standing pages.new) result }
     ensures continues { Continues (P.may_leave pages.old) (P.may_leave pages.new) (P.is_steady pages.old) (P.standing pages.old) (P.standing pages.new) }
     ensures keeps { OnOk result (KeepsLines (P.standing pages.old) (P.standing pages.new)) }
@@ -181,6 +186,8 @@ pub fn put<P: Pages>(
     ensures rows { IsTrue (P.standing pages.old).told → OnOk result (ChangesRows (P.standing pages.old).count (P.standing pages.old).current (P.standing pages.new).current root.old root.new (row_put key value.now)) }
     ensures room { OnOk result ((P.standing pages.old).room ≤ (P.standing pages.new).room + 600) }
     ensures fresh { IsTrue (P.standing pages.old).told → (rows : List Row) (used : List ℕ) → IsRooted (P.standing pages.old).count (P.standing pages.old).current root.old rows used → IfOk result (λ fresh. fresh ≡ not (is_some (row_get key rows))) }
+    // where the key has a value of this length, lines of its record are written alone
+    ensures again { IsTrue (P.standing pages.old).told → OnOk result (PutsRecord root.old key (length value.now) (P.standing pages.old) (P.standing pages.new)) }
     // why it stops
     ensures sound { IsTrue (P.standing pages.old).told → (rows : List Row) (used free : List ℕ) → StandsIn (P.standing pages.old).count (P.standing pages.old).current root.old rows used free → IfErr result (IsLack (pages_at_hand (P.standing pages.old).count (P.standing pages.old).current used free) (length (row_put key value.now rows)) (length rows)) }
     ensures cause { HasCause (IsTreeDamage (P.standing pages.old).told (P.standing pages.old).count work.new.page) (P.standing pages.old) (P.standing pages.new) result }

@@ -12,6 +12,7 @@ use Rattle.slotted_page.specs.Node.{IsWellFormed}
 use Rattle.bplus_tree.specs.Damage.{IsFault}
 use Rattle.bplus_tree.proofs.SearchLaws.{well_formed_top}
 use Rattle.bplus_tree.proofs.StandLaws.{leads_stands}
+use Rattle.bplus_tree.proofs.TouchedLaws.{nothing_refl, nothing_read, nothing_then}
 use Rattle.bplus_tree.proofs.path.descend.Goals as goal
 
 pub loop-child-init : goal.loop-child-init
@@ -23,6 +24,7 @@ loop-child-init g c =
       continues = Continues-refl (g.P.Pages.may_leave c.args.pages.now) (g.P.Pages.is_steady c.args.pages.now) old;
       nvm_kept = refl;
       ssd_kept = refl;
+      nothing = nothing_refl old;
       descended = subst (λ (path : List Passed). Descended old.count c.args.key c.args.top c.args.top path old old) (sym c.requires.empty) (record {
         is_place = c.requires.top;
         above = c.requires.above;
@@ -49,6 +51,7 @@ loop-child-preserved g c =
       continues = Continues-trans before.continues before.steady look.continues;
       nvm_kept = look.cause.kept.0 ∙ before.nvm_kept;
       ssd_kept = look.cause.kept.1 ∙ before.ssd_kept;
+      nothing = nothing_then before.nothing (nothing_read look.reads);
       descended = subst (λ (path : List Passed). Descended old.count c.args.key c.args.top (record { page = c.in-Child.child; expect = c.child_expect-expect.result }) path old new) (sym c.push.ensures.items)
           (descended_on old.count c.args.key c.in-Child.field-0 c.in-Child.child c.in-Child.low c.in-Child.high c.args.top c.loop-child.place c.child_expect-expect.result c.loop-child.path.items old mid new before.descended
           c.child_expect-expect.ensures (rw c.in-Child.is at look.safe) (λ told well. rw c.in-Child.is at (look.spot (told_on told) well)) (λ told. look.keeps.current (told_on told)) look.keeps.room look.few);
@@ -66,3 +69,6 @@ returns-in_err-child-clause-sound g c = λ told free stands.
     let h : IfErr c.look.result IsFault = c.look.ensures.sound (subst IsTrue (sym before.continues.told) told) well in
     let k = subst (λ r. IfErr r IsFault) c.in_err-child.was h in
     search (rules, k)
+
+pub returns-in_default-clause-nothing : goal.returns-in_default-clause-nothing
+returns-in_default-clause-nothing g c = nothing_then c.loop-child.invariant.nothing (nothing_read c.in_ok-child.ensures.reads)

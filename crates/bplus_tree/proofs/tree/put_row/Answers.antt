@@ -1,4 +1,4 @@
-use Rattle.std.proofs.Common.{rules, length, IfErr, ◌≢◌, ◌≤◌, ◌-◌, ℕ, arith, refl, IsTrue, sym, subst, ap, ◌∙◌}
+use Rattle.std.proofs.Common.{rules, length, IfErr, ◌≡◌, ◌≢◌, ◌≤◌, ◌-◌, ℕ, arith, refl, IsTrue, sym, subst, ap, ◌∙◌}
 use Rattle.slotted_page.specs.Rows.{row_put}
 use Rattle.bplus_tree.specs.declared.path.Place.{Place}
 use Rattle.bplus_tree.specs.declared.outcome.Outcome.TheVariants.{Whole, Short, Cut, Alone}
@@ -9,6 +9,7 @@ use Rattle.bplus_tree.proofs.PathLaws.{at_root}
 use Rattle.bplus_tree.specs.Damage.{IsLack, pages_at_hand}
 use Rattle.bplus_tree.proofs.LackLaws.{fault_lack}
 use Rattle.bplus_tree.proofs.RootLaws.{root_stands, put_lack, take_lack}
+use Rattle.bplus_tree.proofs.LeafOfKey.{root_again}
 use Rattle.bplus_tree.proofs.tree.put_row.Goals as goal
 
 few_levels : (levels : ℕ) → levels ≤ 4 → levels - 1 ≢ 3 → levels ≤ 3
@@ -89,3 +90,27 @@ returns-in_err-write_new-in-Cut-clause-sound g c = λ told rows used free stands
     fault_lack (pages_at_hand old.count old.current used free) (length (row_put c.args.key c.args.value.now rows)) (length rows) c.write_new.result c.write_new.ensures.sound in
     let k = subst (λ r. IfErr r lack) c.in_err-write_new-in-Cut.was h in
     search (rules, k)
+
+pub returns-in-Whole-clause-again : goal.returns-in-Whole-clause-again
+returns-in-Whole-clause-again g c = λ told rows used rooted holds.
+    let w = root_again c.args.root.now c.top_of-top.result _ c.args.key (length c.args.value.now) (g.P.Pages.standing c.args.pages.now) (g.P.Pages.standing c.put_in.new.pages) Whole c.page_count-count.ensures.count c.top_of-top.ensures
+    (rw c.in-Whole.is at c.in_ok-put_in.ensures.again) told rows used rooted holds in
+    w.1
+
+pub returns-in-Short-clause-again : goal.returns-in-Short-clause-again
+returns-in-Short-clause-again g c = λ told rows used rooted holds.
+    let w = root_again c.args.root.now c.top_of-top.result _ c.args.key (length c.args.value.now) (g.P.Pages.standing c.args.pages.now) (g.P.Pages.standing c.put_in.new.pages) Short c.page_count-count.ensures.count c.top_of-top.ensures
+    (rw c.in-Short.is at c.in_ok-put_in.ensures.again) told rows used rooted holds in
+    let never = w.0 in absurd (cc)
+
+pub returns-in-Alone-clause-again : goal.returns-in-Alone-clause-again
+returns-in-Alone-clause-again g c = λ told rows used rooted holds.
+    let w = root_again c.args.root.now c.top_of-top.result _ c.args.key (length c.args.value.now) (g.P.Pages.standing c.args.pages.now) (g.P.Pages.standing c.put_in.new.pages) (Alone c.in-Alone.child) c.page_count-count.ensures.count c.top_of-top.ensures
+    (rw c.in-Alone.is at c.in_ok-put_in.ensures.again) told rows used rooted holds in
+    let never = w.0 in absurd (cc)
+
+pub returns-in_ok-write_new-in-Cut-clause-again : goal.returns-in_ok-write_new-in-Cut-clause-again
+returns-in_ok-write_new-in-Cut-clause-again g c = λ told rows used rooted holds.
+    let w = root_again c.args.root.now c.top_of-top.result _ c.args.key (length c.args.value.now) (g.P.Pages.standing c.args.pages.now) (g.P.Pages.standing c.put_in.new.pages) (Cut c.in-Cut.separator c.in-Cut.right) c.page_count-count.ensures.count c.top_of-top.ensures
+    (rw c.in-Cut.is at c.in_ok-put_in.ensures.again) told rows used rooted holds in
+    let never = w.0 in absurd (cc)
