@@ -53,6 +53,11 @@ abbrev pub path : Lines → ℕ → ℕ → ℕ → List ℕ
 path lines zero page key = page ∷ []
 path lines (suc level) page key = page ∷ path lines level (child_for key 0 (children (bytes_of lines page))) key
 
+-- the leaf at its end
+abbrev pub leaf_for : Lines → ℕ → ℕ → ℕ → ℕ
+leaf_for lines zero page key = page
+leaf_for lines (suc level) page key = leaf_for lines level (child_for key 0 (children (bytes_of lines page))) key
+
 -- the lines of these pages are the same
 abbrev pub SameOn : List ℕ → Lines → Lines → Type 0
 SameOn pages old new = (n : ℕ) → 1 ≤ times n pages → new n ≡ old n

@@ -7,7 +7,8 @@ ghost use Rattle.slotted_page.specs.Node.{IsLeaf, IsWellFormed, entry_count, hea
 ghost use Rattle.slotted_page.specs.Sound.{IsSound, IsRows, IsPacked, AddsBelow, row_bytes};
 ghost use Rattle.bplus_tree.specs.declared.outcome.Fit.TheVariants as fits;
 ghost use Rattle.bplus_tree.specs.Edit.{Fits, place_of, has_row};
-ghost use Rattle.bplus_tree.specs.Written.{lines_changed};
+ghost use Rattle.bplus_tree.specs.Written.{Differs, Meets, lines_changed};
+ghost use Rattle.bplus_tree.specs.Record.{record_at, HoldsLength};
 
 use crate::outcome::Fit;
 use slotted_page::{
@@ -189,6 +190,7 @@ pub fn leaf_put(
     requires printable { list_all is_printable value.now ≡ true }
     ensures fits { Fits rows_of expect.now left.new right.new (row_put key value.now (rows_of left.old)) result }
     ensures few { result ≡ fits.Short → lines_changed left.old left.new ≤ 33 }
+    ensures again { HoldsLength key (length value.now) (rows_of left.old) → (result ≡ fits.Whole) × ((line : ℕ) → Differs left.old left.new line → Meets (record_at key left.old) line) }
 {
     enter(left, expect);
     let at = leaf_place(left, key);

@@ -9,6 +9,7 @@ ghost use Rattle.slotted_page.specs.Search.{is_root_span, IsNodeDamage};
 ghost use Rattle.page_search.specs.Answers.{ShowsDamage};
 ghost use Rattle.bplus_tree.specs.Tree.{IsTree, IsRooted, tree_rows};
 ghost use Rattle.bplus_tree.specs.Damage.{IsFault};
+ghost use Rattle.bplus_tree.specs.Written.{WritesNothing};
 ghost use Rattle.bplus_tree.specs.Way.{IsWay, IsPath};
 
 use crate::root::{Root, child_expect, root_expect};
@@ -47,6 +48,7 @@ fn value_at<P: Pages>(
 }
 
 /// The value of a key in the tree under a page. The levels below are gone through by recursion.
+#[tactic(auto, using(crate::proofs::TouchedLaws::nothing_read, crate::proofs::TouchedLaws::nothing_then))]
 fn get_in<P: Pages>(
     pages: &mut P,
     page: u64,
@@ -64,6 +66,7 @@ fn get_in<P: Pages>(
     ensures sound { IsTrue (P.standing pages.old).told → IsTree expect.now.pages (P.standing pages.old).current expect.now.level page expect.now.low expect.now.high expect.now.root → IfErr result IsFault }
     ensures level { IsTrue (P.standing pages.old).told → OnOk result (page_level (bytes_of (P.standing pages.old).current page) ≡ expect.now.level) }
     ensures way { IsTrue (P.standing pages.old).told → begins (P.standing pages.old).access page false ≡ true → OnOk result (AddsReads (IsWay (P.standing pages.old).current page expect.now key) (P.standing pages.old) (P.standing pages.new)) }
+    ensures nothing { OnOk result (WritesNothing (P.standing pages.old) (P.standing pages.new)) }
     ensures cause { HasCause (λ e. IsTrue (P.standing pages.old).told → IsNodeDamage (P.standing pages.old).count (P.standing pages.old).current work.new.page e) (P.standing pages.old) (P.standing pages.new) result }
     ensures continues { Continues (P.may_leave pages.old) (P.may_leave pages.new) (P.is_steady pages.old) (P.standing pages.old) (P.standing pages.new) }
     ensures keeps { OnOk result (KeepsLines (P.standing pages.old) (P.standing pages.new)) }
@@ -98,6 +101,7 @@ pub fn get<P: Pages>(
     ensures value { IsTrue (P.standing pages.old).told → (rows : List Row) (used : List ℕ) → IsRooted (P.standing pages.old).count (P.standing pages.old).current root.now rows used → IfOk result (λ value. value ≡ row_get key rows) }
     // why it stops
     ensures sound { IsTrue (P.standing pages.old).told → (rows : List Row) (used : List ℕ) → IsRooted (P.standing pages.old).count (P.standing pages.old).current root.now rows used → IfErr result IsFault }
+    ensures nothing { OnOk result (WritesNothing (P.standing pages.old) (P.standing pages.new)) }
     ensures cause { HasCause (λ e. IsTrue (P.standing pages.old).told → IsNodeDamage (P.standing pages.old).count (P.standing pages.old).current work.new.page e) (P.standing pages.old) (P.standing pages.new) result }
     // what is read
     ensures way { IsTrue (P.standing pages.old).told → begins (P.standing pages.old).access root.now.page false ≡ true → OnOk result (AddsReads (IsPath (P.standing pages.old).count (P.standing pages.old).current root.now key) (P.standing pages.old) (P.standing pages.new)) }

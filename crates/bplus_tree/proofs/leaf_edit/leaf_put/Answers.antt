@@ -1,4 +1,4 @@
-use Rattle.std.proofs.Common.{◌≡◌, ◌||◌, ℕ, List, [], arith, subst, ap, sym, ◌∙◌, true, false, length, nat_le, slice_set, get_or}
+use Rattle.std.proofs.Common.{◌≡◌, ◌||◌, refl, ℕ, List, [], arith, subst, ap, sym, ◌∙◌, true, false, length, nat_le, slice_set, get_or}
 use Rattle.std.specs.List.{insert, remove}
 use Rattle.slotted_page.specs.Rows.{Row, row_put}
 use Rattle.slotted_page.specs.Node.{leaf_rows}
@@ -6,6 +6,7 @@ use Rattle.slotted_page.specs.Sound.{row_bytes}
 use Rattle.bplus_tree.specs.Edit.{Fits, has_row, place_of}
 use Rattle.bplus_tree.proofs.KeyPlaceLaws.{put_new, put_again, put_same}
 use Rattle.bplus_tree.proofs.LeafLaws.{put_order, leaf_within, set_bytes}
+use Rattle.bplus_tree.proofs.SameLength.{held_place, set_record}
 use Rattle.bplus_tree.proofs.leaf_edit.leaf_put.Goals as goal
 
 none : Row
@@ -61,3 +62,24 @@ returns-then-leaf_value-value-clause-fits c =
           (ap (λ (n : ℕ). e.root || nat_le 1344 n) size ∙ c.enter.ensures.full);
       are = sym is;
     }
+
+pub returns-then-not-is_there-clause-again : goal.returns-then-not-is_there-clause-again
+returns-then-not-is_there-clause-again c = λ h.
+    let e = c.args.expect.now in
+    let place = held_place e.low e.high c.args.key h.held (leaf_rows c.args.left.now) c.enter.ensures.order h.is in
+    let clash : true ≡ false = sym place.0 ∙ sym c.is_there.ensures.there ∙ c.if-not-is_there.true in
+    absurd (cc)
+
+pub returns-then-leaf_value-value-clause-again : goal.returns-then-leaf_value-value-clause-again
+returns-then-leaf_value-value-clause-again c = λ h. (
+  refl,
+  set_record c.args.left.now c.leaf_set.new.page c.args.key c.leaf_place-at.result c.leaf_place-at.ensures.place c.enter.ensures.size c.open_leaf-then-leaf_value-value.ensures.size c.leaf_set.ensures.before c.leaf_set.ensures.after,
+)
+
+pub returns-clause-again : goal.returns-clause-again
+returns-clause-again c = λ h.
+    let e = c.args.expect.now in
+    let place = held_place e.low e.high c.args.key h.held (leaf_rows c.args.left.now) c.enter.ensures.order h.is in
+    let value = c.leaf_value.ensures.value none in
+    let at = ap (λ (i : ℕ). (get_or (leaf_rows c.args.left.now) i none).1) c.leaf_place-at.ensures.place in
+    absurd (c.if-leaf_value-value.false (ap length (value ∙ at ∙ place.1 none) ∙ h.long))
