@@ -21,14 +21,14 @@ use line_pages::{Pages, Stop};
 use slotted_page::{Expect, Spot, Work};
 
 /// A page of a tree, and what is expected of it.
-#[derive(Clone, Copy, Debug, PartialEq, Eq)]
+#[derive(Clone, Copy)]
 pub(crate) struct Place {
     pub page: u64,
     pub expect: Expect,
 }
 
 /// An inner page on the way down to a key, and the first key of the child that the way went on to.
-#[derive(Clone, Copy, Debug, PartialEq, Eq)]
+#[derive(Clone, Copy)]
 pub(crate) struct Passed {
     pub place: Place,
     pub low: u64,
