@@ -1,4 +1,6 @@
 //! Worked scripts.
+ghost use Rattle.std.specs.Prelude.{◌≤◌};
+
 use crate::PlainMachine;
 use script::reply_text;
 use std::alloc::Global;
