@@ -7,4 +7,5 @@ pub mod ScriptLaws
 pub mod TransactionLaws
 pub mod LoopLaws
 pub mod ScanLaws
+pub mod OrderLaws
 pub mod Worked
