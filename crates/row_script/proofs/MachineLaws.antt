@@ -6,7 +6,7 @@ use Rattle.std.specs.Prelude.{nat_le, ◌==◌, ◌||◌, count_by, IfSome}
 use Rattle.std.specs.List.{list_any, AllByRecursion}
 use Rattle.slotted_page.specs.Value.{IsValue}
 use Rattle.row_script.specs.Grammar.{IsCommand, command_of, commands}
-use Rattle.row_script.specs.Replies.{IsReply, text, is_committed}
+use Rattle.row_script.specs.Replies.{IsReply, text, is_committed, reply_line}
 use Rattle.texts.specs.Output.{strip, acked}
 use Rattle.texts.specs.Runs as run
 use Rattle.row_script.specs.Machine.{Rows, AreRows, State, opening, either, last_value, found, most_rows, step, machine}
@@ -18,7 +18,8 @@ use Rattle.row_script.specs.declared.command.Reply.TheVariants.{Committed, Refus
 use Rattle.row_script.specs.declared.command.Reason.TheVariants.{Full}
 use Rattle.texts.proofs.RunsLaws.{after_so_far, after_next}
 use Rattle.row_script.proofs.GrammarLaws.{IsCommand-read, IsCommand-script}
-use Rattle.row_script.proofs.RepliesLaws.{strip-text, acked-text}
+use Rattle.texts.proofs.TextLaws.{strip-text, acked-text}
+use Rattle.row_script.proofs.RepliesLaws.{are_lines}
 
 -- ---- a step
 
@@ -162,7 +163,7 @@ count_commits s (c ∷ cs) =
 
 -- what one step says acknowledges its commit
 pub acked-step : (s : State) (c : Option Command) → AreRows s.rows → acked (text (step s c).1) ≡ cond (tells (step s c)) 1 0
-acked-step s c h = acked-text (step s c).1 (IsReply-step s c h) ∙ one_commit s c
+acked-step s c h = acked-text reply_line are_lines (step s c).1 (IsReply-step s c h) ∙ one_commit s c
 
 -- ---- lines
 
@@ -188,8 +189,8 @@ IsReply-script rows script h = IsReply-run (opening rows) (commands script) h (I
 
 -- the text of the replies acknowledges every commit
 pub acked-replies : (rows : Rows) (script : List ℕ) → AreRows rows → acked (text (replies rows script)) ≡ commits rows script
-acked-replies rows script h = acked-text (replies rows script) (IsReply-script rows script h) ∙ count_commits (opening rows) (commands script)
+acked-replies rows script h = acked-text reply_line are_lines (replies rows script) (IsReply-script rows script h) ∙ count_commits (opening rows) (commands script)
 
 -- and none of it stands aside
 pub strip-replies : (rows : Rows) (script : List ℕ) → AreRows rows → strip (text (replies rows script)) ≡ text (replies rows script)
-strip-replies rows script h = strip-text (replies rows script) (IsReply-script rows script h)
+strip-replies rows script h = strip-text reply_line are_lines (replies rows script) (IsReply-script rows script h)

@@ -1,17 +1,16 @@
 -- A loop over the lines of a script: what it has reached, and what one line more does.
 use Rattle.std.proofs.Common.{◌≡◌, ℕ, ◌+◌, true, List, [], ◌∷◌, ◌++◌, refl, ap, sym, ◌∙◌, Option}
-use Rattle.std.proofs.lemmas.List.Concat.{flat_map-append}
 use Rattle.texts.specs.Lines.{line_feed, IsOneLine}
 use Rattle.table_store.specs.Catalog.{Table}
-use Rattle.script.specs.Replies.{text, reply_text}
+use Rattle.script.specs.Replies.{text, reply_line}
 use Rattle.texts.specs.Output.{IsWhole, no_line}
 use Rattle.texts.specs.Runs as run
 use Rattle.script.specs.Machine.{Bounds, State, opening, step}
 use Rattle.script.specs.Grammar.{forms, commands, command_in}
 use Rattle.script.specs.Script.{machine, replies, commits, after}
 use Rattle.script.specs.declared.command.Command.{Command}
-use Rattle.script.specs.declared.command.Reply.{Reply}
 use Rattle.texts.proofs.LinesLaws.{commands-whole, commands_line, commands-ended}
+use Rattle.texts.proofs.TextLaws.{text-append}
 use Rattle.texts.proofs.RunsLaws.{state_after-append, replies-append, commits-append, after_so_far, after_next}
 use Rattle.texts.proofs.OutputLaws.{IsWhole-line, IsWhole-append}
 use Rattle.script.proofs.MachineLaws.{step_keeps, tells}
@@ -70,9 +69,6 @@ module _ (bounds : Bounds) (tables : List Table) where
 
 -- ---- one line more, for a loop that keeps what is left of the script
 
-pub text-append : (rs qs : List Reply) → text (rs ++ qs) ≡ text rs ++ text qs
-text-append rs qs = flat_map-append reply_text rs qs
-
 -- the state and the text after a script, from those after its first line
 pub state-first : (bounds : Bounds) (s : State) (script line rest : List ℕ) → commands script ≡ command_in line ++ commands rest →
     run.state_after (machine bounds) (run.state_after (machine bounds) s (command_in line)) (commands rest) ≡ run.state_after (machine bounds) s (commands script)
@@ -82,4 +78,4 @@ pub text-first : (bounds : Bounds) (s : State) (script line rest : List ℕ) →
     text (run.replies (machine bounds) s (command_in line)) ++ text (run.replies (machine bounds) (run.state_after (machine bounds) s (command_in line)) (commands rest)) ≡ text (run.replies (machine bounds) s (commands script))
 text-first bounds s script line rest e =
     rw e (sym (ap text (replies-append (machine bounds) s (command_in line) (commands rest))
-    ∙ text-append (run.replies (machine bounds) s (command_in line)) (run.replies (machine bounds) (run.state_after (machine bounds) s (command_in line)) (commands rest))))
+    ∙ text-append reply_line (run.replies (machine bounds) s (command_in line)) (run.replies (machine bounds) (run.state_after (machine bounds) s (command_in line)) (commands rest))))

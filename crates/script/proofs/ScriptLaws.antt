@@ -8,7 +8,7 @@ use Rattle.script.specs.Tables.{has_row, row_range}
 use Rattle.table_store.specs.Catalog.{Table}
 use Rattle.script.specs.Tables.{AreTables}
 use Rattle.script.specs.Grammar.{command_of, IsCommand}
-use Rattle.script.specs.Replies.{text, is_committed}
+use Rattle.script.specs.Replies.{text, is_committed, reply_line}
 use Rattle.texts.specs.Output.{strip, acked}
 use Rattle.texts.specs.Runs as run
 use Rattle.script.specs.Machine.{Bounds, State, opening, refusal, accepted, judged, step, rows_in, found}
@@ -23,7 +23,8 @@ use Rattle.script.specs.declared.command.Reply.TheVariants.{Finish}
 use Rattle.texts.proofs.RunsLaws.{after_so_far, after_next}
 use Rattle.script.proofs.GrammarLaws.{IsCommand-read, IsCommand-script}
 use Rattle.script.specs.Replies.{IsReply}
-use Rattle.script.proofs.RepliesLaws.{strip-text, acked-text}
+use Rattle.texts.proofs.TextLaws.{strip-text, acked-text}
+use Rattle.script.proofs.RepliesLaws.{are_lines}
 use Rattle.texts.proofs.OutputLaws.{acked_prefix}
 use Rattle.script.proofs.MachineLaws.{step_keeps, tells, commits_of, commits_from}
 use Rattle.script.proofs.ValuesLaws.{IsState, IsResult-step, IsReply-replies}
@@ -91,12 +92,12 @@ IsReply-script bounds tables script h = IsReply-replies bounds (opening tables) 
 
 -- no reply looks like a line that stands aside
 pub strip-replies : (bounds : Bounds) (tables : List Table) (script : List ℕ) → AreTables tables → strip (text (replies bounds tables script)) ≡ text (replies bounds tables script)
-strip-replies bounds tables script h = strip-text (replies bounds tables script) (IsReply-script bounds tables script h)
+strip-replies bounds tables script h = strip-text reply_line are_lines (replies bounds tables script) (IsReply-script bounds tables script h)
 
 -- the whole text acknowledges every commit
 pub acked-replies : (bounds : Bounds) (tables : List Table) (script : List ℕ) → AreTables tables → acked (text (replies bounds tables script)) ≡ commits bounds tables script
 acked-replies bounds tables script h =
-    acked-text (replies bounds tables script) (IsReply-script bounds tables script h) ∙ count-replies bounds (opening tables) (commands script)
+    acked-text reply_line are_lines (replies bounds tables script) (IsReply-script bounds tables script h) ∙ count-replies bounds (opening tables) (commands script)
 
 -- and a beginning of it no more than there are
 pub acked-le-commits : (bounds : Bounds) (tables : List Table) (script sent more : List ℕ) → AreTables tables → sent ++ more ≡ text (replies bounds tables script) → acked sent ≤ commits bounds tables script
@@ -126,4 +127,4 @@ IsState-line bounds s line h = (IsResult-step bounds s (command_of line) h (IsCo
 
 -- what one step says acknowledges its commit
 pub acked-step : (bounds : Bounds) (s : State) (c : Option Command) → IsState s → IfSome c IsCommand → acked (text (step bounds s c).1) ≡ cond (tells (step bounds s c)) 1 0
-acked-step bounds s c h k = acked-text (step bounds s c).1 (IsResult-step bounds s c h k).replies ∙ one-step bounds s c
+acked-step bounds s c h k = acked-text reply_line are_lines (step bounds s c).1 (IsResult-step bounds s c h k).replies ∙ one-step bounds s c

@@ -2,7 +2,7 @@
 use Rattle.std.specs.Prelude.{ℕ, nat_le, Bool, ◌&&◌, List, [], ◌∷◌, ◌++◌, filter, is_some, unwrap_or}
 use Rattle.std.specs.List.{AllByRecursion}
 use Rattle.slotted_page.specs.Value.{IsValue}
-use Rattle.slotted_page.specs.Rows.{Row, row_get}
+use Rattle.slotted_page.specs.Rows.{Row, row_get, keys, last_key, Ascends}
 use Rattle.table_store.specs.Catalog.{Table}
 use Rattle.table_store.specs.Stored.{rows_of}
 use Rattle.texts.specs.Numbers.{IsKey}
@@ -32,3 +32,7 @@ AreRows rows = AllByRecursion IsRow rows
 
 abbrev pub AreTables : List Table → Type 0
 AreTables tables = AllByRecursion (λ (t : Table). AreRows t.1) tables
+
+-- the keys of each table ascend
+abbrev pub AreOrdered : List Table → Type 0
+AreOrdered tables = AllByRecursion (λ (t : Table). Ascends 0 last_key (keys t.1)) tables

@@ -21,11 +21,11 @@ pub enum Command {
     Commit,
     /// `abort`: what it wrote is dropped.
     Abort,
-    /// `checkpoint`: the log becomes empty.
+    /// `checkpoint`: what was committed is written home, and the log becomes empty.
     Checkpoint,
-    /// `drain`: a block of the log goes to the SSD.
+    /// `drain`: whole blocks of the log go to the SSD.
     Drain,
-    /// `clean N`: up to N frames are written back, N from 1 to 65,536.
+    /// `clean N`: the first N changed pages in memory are written back, N from 1 to 65,536.
     Clean(u32),
 }
 

@@ -1,4 +1,6 @@
 //! Worked lines and replies.
+ghost use Rattle.std.specs.Prelude.{◌≤◌};
+
 use super::*;
 use slotted_page::Value;
 use std::test::*;
@@ -141,21 +143,19 @@ fn refuses_lines(rt: HostRuntime) {
     }
 }
 
-/// Whether a line that puts so many letters is a form.
-fn takes_letters(start: &[u8], letters: usize) -> bool {
+/// Whether the first bytes of a line that puts many letters are a form.
+fn is_put(bytes: usize) -> bool
+    requires { bytes ≤ 600 }
+{
     let mut line = [b'v'; 600];
-    let end = start.len() + letters;
-    if end > 600 || start.len() > 600 {
-        return false;
-    }
-    line[..start.len()].copy_from_slice(start);
-    read_line(&line[..end]).is_some()
+    line[..8].copy_from_slice(b"put a 1 ");
+    read_line(&line[..bytes]).is_some()
 }
 
 #[test]
 fn bounds_lines(rt: HostRuntime) {
-    assert!(rt; takes_letters(b"put a 1 ", 480));
-    assert!(rt; !takes_letters(b"put a 1 ", 481));
+    assert!(rt; is_put(8 + 480));
+    assert!(rt; !is_put(8 + 481));
     assert!(rt; read_line(&[b'v'; 1024]).is_none());
     assert!(rt; read_line(&[b'v'; 1025]).is_none());
     assert!(rt; is_silent(&[b'#'; 2000]) && !is_silent(&[b'v'; 2000]) && is_silent(b""));

@@ -10,13 +10,13 @@ use Rattle.devices.proofs.MomentLaws.{Goes-sent}
 use Rattle.row_script.specs.declared.command.Command.{Command}
 use Rattle.texts.specs.Lines.{is_silent}
 use Rattle.row_script.specs.Machine.{Rows, AreRows, State, step, machine}
-use Rattle.row_script.specs.Replies.{reply_text, text}
+use Rattle.row_script.specs.Replies.{reply_line, reply_text, text}
 use Rattle.texts.specs.Runs as run
 use Rattle.row_script.specs.Script.{command_in}
 use Rattle.row_script.specs.Grammar.{command_of}
 use Rattle.texts.specs.Output.{acked}
 use Rattle.texts.proofs.OutputLaws.{IsWhole-empty, IsWhole-append, acked-whole, acked-take}
-use Rattle.row_script.proofs.RepliesLaws.{IsWhole-text}
+use Rattle.texts.proofs.TextLaws.{IsWhole-text}
 use Rattle.texts.proofs.RunsLaws.{replies-append}
 use Rattle.row_script.proofs.MachineLaws.{tells, step_keeps, acked-step, AreRows-line}
 use Rattle.row_log.specs.InOrder.{Holds, InOrder}
@@ -201,7 +201,7 @@ module _ (aim : Aim) (s : State) (line : List ℕ) (commands : List (Option Comm
         counted = omega arith;
         at_most = omega arith;
         said_whole = owes.said_whole;
-        bytes_whole = IsWhole-text (run.replies machine s (command_in line));
+        bytes_whole = IsWhole-text reply_line (run.replies machine s (command_in line));
         rows = next.rows;
         holds = holds;
         in_order = in_order;

@@ -5,3 +5,4 @@ pub mod FormsLaws
 pub mod LinesLaws
 pub mod RunsLaws
 pub mod OutputLaws
+pub mod TextLaws

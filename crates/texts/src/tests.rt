@@ -28,9 +28,9 @@ fn cuts_fields(rt: HostRuntime) {
     let (word, left) = cut(b"get  7");
     assert!(rt; is_word(word, b"get") && !is_word(word, b"ge") && left == Some(&b" 7"[..]));
     let (word, left) = cut(b"begin");
-    assert!(rt; word == b"begin" && left.is_none());
+    assert!(rt; is_word(word, b"begin") && left.is_none());
     let (word, left) = cut(b"begin ");
-    assert!(rt; word == b"begin" && left == Some(&b""[..]));
+    assert!(rt; is_word(word, b"begin") && left == Some(&b""[..]));
 }
 
 #[test]
@@ -58,5 +58,5 @@ fn writes_texts(rt: HostRuntime) {
     let mut out = ArrayVec::new();
     put(&mut out, b"end ");
     put_number(&mut out, 18446744073709551615);
-    assert!(rt; out.as_slice() == b"end 18446744073709551615");
+    assert!(rt; is_word(out.as_slice(), b"end 18446744073709551615"));
 }

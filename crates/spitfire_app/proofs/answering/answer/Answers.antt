@@ -3,7 +3,8 @@ use Rattle.std.proofs.Common.{◌≡◌, IsTrue, subst, sym, ap, ◌∙◌, []}
 use Rattle.std.proofs.lemmas.Result.{IfOk-from_err}
 use Rattle.devices.proofs.MomentLaws.{Goes-sent}
 use Rattle.row_script.specs.Replies.{text}
-use Rattle.row_script.proofs.RepliesLaws.{text_one}
+use Rattle.row_script.specs.Replies.{reply_line}
+use Rattle.texts.proofs.TextLaws.{text_one}
 use Rattle.spitfire_app.specs.Engine.{state_of, replied}
 use Rattle.spitfire_app.proofs.RunLaws.{step_safe, answered, safe_then}
 use Rattle.spitfire_app.proofs.answering.answer.Goals as goal
@@ -19,7 +20,7 @@ returns-in-Some-clause-proceeds g c = λ aim commands told owes.
     let timed = g.met.W.World.timed c.args.world.now in
     let stepped = c.in_ok-reply.ensures in
     let goes = c.step.ensures.goes in
-    let said : text (replied c.in_ok-reply.field-0) ≡ c.as_slice.result.now = ap (λ o. text (replied o)) c.in-Some.is ∙ text_one c.in-Some.reply ∙ sym c.reply_text.ensures ∙ sym c.as_slice.ensures.value in
+    let said : text (replied c.in_ok-reply.field-0) ≡ c.as_slice.result.now = ap (λ o. text (replied o)) c.in-Some.is ∙ text_one reply_line c.in-Some.reply ∙ sym c.reply_text.ensures ∙ sym c.as_slice.ensures.value in
     let owed = answered aim _ c.args.line.now commands _ owes (g.W.Devices.standing c.step.new.world) (state_of c.step.new.self) c.as_slice.result.now stepped.state (ap text (sym stepped.replies) ∙ said)
     (Goes-sent timed goes _ goes.clock) (stepped.holds told owes.holds) (λ in_order. (stepped.steps told (owes.in_order in_order)).ok) in
     let says = c.say.ensures.proceeds aim (state_of c.step.new.self) commands (subst IsTrue (sym goes.told) told) owed in
