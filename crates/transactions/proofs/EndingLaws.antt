@@ -1,12 +1,11 @@
 -- The end of a transaction, by what it does to the book and the device of a store.
 use Rattle.std.proofs.Common.{◌≡◌, ℕ, ◌+◌, ◌-◌, ◌*◌, ◌^◌, ◌<◌, ◌≤◌, Bool, true, false, refl, sym, ap, ◌∙◌, subst, arith, IsTrue, Result, Ok, Err}
-use Rattle.std.specs.Prelude.{OnOk, IfErr}
+use Rattle.std.specs.Prelude.{OnOk}
 use Rattle.devices.specs.State.{State, current, fresh}
 use Rattle.devices.specs.World.{Standing as Device, Goes, MakesAll, now}
 use Rattle.line_pages.specs.Lines.{Lines}
 use Rattle.line_pages.specs.LineSets.{pages_of}
 use Rattle.line_pages.specs.declared.stop.Stop.{Stop}
-use Rattle.line_pages.specs.declared.stop.Stop.TheVariants.{Nvm}
 use Rattle.store_meaning.specs.Layout.{Sizes, pages, nvm_lines, ring_lines, is_allowed}
 use Rattle.store_meaning.specs.Put.{append_calls}
 use Rattle.store_meaning.specs.Append.{commit_lines}
@@ -151,7 +150,3 @@ module _ (old : Book) (log : Log) (a b : Device) {T : Type 0} (r : Result T Stop
     during = λ told steady. (abort_holds told steady).during;
     held = λ told steady. (abort_holds told steady).held;
   }
-
-  -- nothing but a fault stops it
-  pub abort_stops : IsTrue a.told → IfErr r (λ why. why ≡ Nvm)
-  abort_stops told = (aborts told).stops (ready.read told).facts (ready.read told).group

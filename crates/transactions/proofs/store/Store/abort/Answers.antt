@@ -4,7 +4,7 @@ use Rattle.line_pages.specs.declared.stop.Stop.{Stop}
 use Rattle.transactions.specs.declared.book.Book.{Book}
 use Rattle.transactions.specs.StoreStanding.{IsReady, IsSteady}
 use Rattle.transactions.specs.StoreCalls.{AbortsLines, StoreCall, IsCommitted}
-use Rattle.transactions.proofs.EndingLaws.{ended, abort_ready, abort_steady, abort_lines_are, abort_call, abort_stops}
+use Rattle.transactions.proofs.EndingLaws.{ended, abort_ready, abort_steady, abort_lines_are, abort_call}
 use Rattle.transactions.proofs.store.Store.abort.Goals as goal
 
 pub returns-clause-lines : goal.returns-clause-lines
