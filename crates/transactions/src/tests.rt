@@ -1,5 +1,6 @@
 //! A transaction over a world in memory, and each fault in turn.
-ghost use Rattle.std.specs.Prelude.{◌≡◌, false};
+ghost use Rattle.std.specs.Prelude.{◌≡◌, ◌≤◌, ◌<◌, ◌^◌, true, false, IfSome, OnOk};
+ghost use Rattle.nvm_layout.specs.Sizes.{sizes_of};
 
 use crate::{Book, Store};
 use devices::{Devices, Failed, Fault, FaultKind, MemWorld};
@@ -58,4 +59,135 @@ impl Devices for Untold {
     fn sync(&mut self) -> Result<(), Failed> {
         self.world.sync()
     }
+}
+
+ghost use Rattle.store_meaning.specs.Layout.{pages};
+ghost use Rattle.transactions.specs.StoreStanding.{IsReady, book_sizes};
+
+/// One table of two rows, with each of its ten pages in a frame.
+fn small() -> Geometry
+    ensures { sizes_of result ≡ record { tables = 1; rows = 2; writes = 1; frames = 10; log_blocks = 31 } }
+{
+    Geometry {
+        tables: 1,
+        rows: 2,
+        writes: 1,
+        frames: 10,
+        log_blocks: 31,
+    }
+}
+
+/// An empty log of the small store, which begins two lines before the end of its ring.
+fn small_log(geometry: &Geometry) -> Log
+    requires { sizes_of geometry.now ≡ record { tables = 1; rows = 2; writes = 1; frames = 10; log_blocks = 31 } }
+    ensures geometry { result.geometry ≡ geometry.now }
+    ensures start { result.start ≡ 1982 }
+    ensures tail { result.tail ≡ 1982 }
+{
+    let gates = Super {
+        geometry: *geometry,
+        start: 1982,
+        drained: 0,
+        tail: 1982,
+    };
+    Log::open(geometry, &gates)
+}
+
+/// The small store over zeros.
+fn opened(alloc: Global, fail: &[Fault]) -> Option<(Book, Untold)>
+    ensures ready { IfSome result (λ made. IsReady made.0 (⟦<Untold as Devices>⟧.standing made.1)) }
+    ensures closed { IfSome result (λ made. made.0.is_open ≡ false) }
+    ensures pages { IfSome result (λ made. 3 < pages (book_sizes made.0)) }
+{
+    let geometry = small();
+    let loose = LineSet::new(alloc, 10).ok()?;
+    let world = MemWorld::new(alloc, 2706, 46, b"", b"", fail).ok()?;
+    let log = small_log(&geometry);
+    let book = Book::new(log, loose, &geometry);
+    Some((book, Untold { world }))
+}
+
+/// A line with this first word.
+fn line(first: u64) -> Line {
+    Line {
+        words: [first, 0, 0, 0, 0, 0, 0, 9],
+    }
+}
+
+/// Lines 0, 5 and 4 of page 3.
+fn three_lines<D: Devices>(store: &mut Store<'_, D>) -> Result<[Line; 3], Stop>
+    requires ready { IsReady store.old.book.now (D.standing store.old.dev.now) }
+    requires pages { 3 < pages (book_sizes store.old.book.now) }
+    ensures ready { OnOk result (IsReady store.new.book.now (D.standing store.new.dev.now)) }
+    ensures apart { (store.new.book.now.is_open ≡ store.old.book.now.is_open) × (store.new.book.now.log.geometry ≡ store.old.book.now.log.geometry) }
+{
+    store.rest();
+    let first = store.read_line(3, 0)?;
+    let second = store.read_line(3, 5)?;
+    let beside = store.read_line(3, 4)?;
+    Ok([first, second, beside])
+}
+
+/// Ends a transaction as a commit or as an abort.
+fn end<D: Devices>(store: &mut Store<'_, D>, stands: bool) -> Result<(), Stop>
+    requires ready { IsReady store.old.book.now (D.standing store.old.dev.now) }
+    requires is_open { store.old.book.now.is_open ≡ true }
+    ensures ready { OnOk result (IsReady store.new.book.now (D.standing store.new.dev.now)) }
+    ensures closed { OnOk result (store.new.book.now.is_open ≡ false) }
+    ensures geometry { store.new.book.now.log.geometry ≡ store.old.book.now.log.geometry }
+{
+    if stands { store.commit() } else { store.abort() }
+}
+
+/// Writes lines 0 and 5 of page 3, and ends that as a commit or as an abort. None where the log is too long.
+fn change_two<D: Devices>(
+    store: &mut Store<'_, D>,
+    values: (u64, u64),
+    stands: bool,
+) -> Option<Result<(), Stop>>
+    requires ready { IsReady store.old.book.now (D.standing store.old.dev.now) }
+    requires closed { store.old.book.now.is_open ≡ false }
+    requires pages { 3 < pages (book_sizes store.old.book.now) }
+    ensures ready { IfSome result (λ done. OnOk done (IsReady store.new.book.now (D.standing store.new.dev.now))) }
+    ensures closed { IfSome result (λ done. OnOk done (store.new.book.now.is_open ≡ false)) }
+    ensures geometry { store.new.book.now.log.geometry ≡ store.old.book.now.log.geometry }
+{
+    if store.book.log.tail() <= 0x2000_0000_0000_0000 {
+        Some(change(store, values, stands))
+    } else {
+        None
+    }
+}
+
+/// The same where the log is short enough.
+fn change<D: Devices>(
+    store: &mut Store<'_, D>,
+    values: (u64, u64),
+    stands: bool,
+) -> Result<(), Stop>
+    requires ready { IsReady store.old.book.now (D.standing store.old.dev.now) }
+    requires closed { store.old.book.now.is_open ≡ false }
+    requires low { store.old.book.now.log.tail ≤ 2 ^ 61 }
+    requires pages { 3 < pages (book_sizes store.old.book.now) }
+    ensures ready { OnOk result (IsReady store.new.book.now (D.standing store.new.dev.now)) }
+    ensures closed { OnOk result (store.new.book.now.is_open ≡ false) }
+    ensures geometry { store.new.book.now.log.geometry ≡ store.old.book.now.log.geometry }
+{
+    store.begin()?;
+    store.write_line(3, 0, &line(values.0))?;
+    store.write_line(3, 5, &line(values.1))?;
+    store.next_write();
+    end(store, stands)
+}
+
+#[test]
+fn a_commit_stands_and_an_abort_does_not(rt: HostRuntime) {
+    let Some((mut book, mut dev)) = opened(rt.alloc(), &[]) else {
+        return assert!(rt; false, "no memory");
+    };
+    let mut store = Store::over(&mut book, &mut dev);
+    let Some(Ok(())) = change_two(&mut store, (7, 8), true) else {
+        return assert!(rt; false, "no commit");
+    };
+    assert_eq!(rt; three_lines(&mut store), Ok([line(7), line(8), Line { words: [0; 8] }]));
 }
