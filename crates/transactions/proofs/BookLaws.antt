@@ -1,8 +1,8 @@
 -- Calls of pages, by what they do to the book and the device of a store.
-use Rattle.std.proofs.Common.{◌≡◌, ℕ, ◌+◌, ◌*◌, ◌^◌, ◌<◌, ◌≤◌, Bool, true, false, List, [], ◌∷◌, ◌++◌, length, refl, sym, ap, ◌∙◌, subst, arith, IsTrue, Some, Result, Ok, Err}
+use Rattle.std.proofs.Common.{◌≡◌, ℕ, ◌+◌, ◌^◌, ◌<◌, ◌≤◌, Bool, true, List, [], ◌∷◌, ◌++◌, length, refl, sym, ap, ◌∙◌, subst, arith, IsTrue, Some, Result, Ok, Err}
 use Rattle.std.specs.Prelude.{OnOk}
 use Rattle.nvm_model.specs.declared.line.Line.{Line}
-use Rattle.devices.specs.State.{State, Image, Call, Leaves, current, fresh}
+use Rattle.devices.specs.State.{State, Image, Leaves, current, fresh}
 use Rattle.devices.specs.World.{Standing as Device, Goes, Stays, MakesAll, now}
 use Rattle.line_pages.specs.Lines.{Lines, with_line}
 use Rattle.line_pages.specs.LineSets.{pages_of}
@@ -20,11 +20,10 @@ use Rattle.store_laws.specs.OpenFacts.{OpenFacts}
 use Rattle.store_laws.specs.Calls.{write_calls}
 use Rattle.store_laws.proofs.OpenLaws.{open_pages}
 use Rattle.store_laws.specs.ShownPages.{pages_in, committed_in}
-use Rattle.store_laws.specs.Steps.{MayLeave, LeadsTo, KeepsOpen}
+use Rattle.store_laws.specs.Steps.{MayLeave, LeadsTo}
 use Rattle.store_laws.proofs.StepLaws.{write_step, leaves_earlier, read_facts, read_committed, read_current, steady_facts, steady_during}
 use Rattle.nvm_layout.specs.Sizes.{sizes_of}
 use Rattle.nvm_layout.specs.declared.geometry.Geometry.{Geometry}
-use Rattle.nvm_log.specs.declared.log.Log.{Log}
 use Rattle.transactions.specs.declared.book.Book.{Book}
 use Rattle.transactions.specs.StoreStanding.{standing_of, book_sizes, reach, reserve, kept_lines, Stands, IsReady, IsSteady}
 use Rattle.transactions.specs.BookCalls.{IsWritten}
@@ -69,7 +68,7 @@ reads_over old touched a b book_name device_name added touches goes reads stays 
     continues_by old (record old { accesses = touched }) a b book_name device_name refl refl refl refl refl added touches goes reads
     (λ told. ap committed_in (at_end goes stays told))
     (λ told steady m low high lines left. open_during (book_sizes old) old.log.start old.log.tail (now a) (steady told).facts lines
-        (left.0, subst (λ (s : State). Leaves s left.0) ((stays told).each m (omega arith) high) left.1, left.2))
+    (left.0, subst (λ (s : State). Leaves s left.0) ((stays told).each m (omega arith) high) left.1, left.2))
   where
     open_during : (g : Sizes) (start tail : ℕ) (s : State) → OpenFacts g start tail s → (lines : Lines) → ((i : Image) × Leaves s i × (recovered_pages whole_lines i ≡ lines)) → lines ≡ committed_in s
     open_during g start tail s it lines left = sym left.2 ∙ open_pages g start tail s it left.0 left.1 ∙ sym (open_pages g start tail s it (current s) (current_leaves s))

@@ -1,14 +1,14 @@
 -- A checkpoint, by what it does to the book and the device of a store.
-use Rattle.std.proofs.Common.{◌≡◌, ℕ, ◌+◌, ◌-◌, ◌*◌, ◌^◌, ◌<◌, ◌≤◌, Bool, true, false, refl, sym, ap, ◌∙◌, subst, arith, IsTrue, Result, Ok, Err}
+use Rattle.std.proofs.Common.{◌≡◌, ◌+◌, ◌^◌, ◌≤◌, true, false, sym, ap, ◌∙◌, subst, arith, IsTrue, Result}
 use Rattle.std.specs.Prelude.{OnOk}
 use Rattle.devices.specs.State.{State, current, fresh}
 use Rattle.devices.specs.World.{Standing as Device, Goes, now}
 use Rattle.line_pages.specs.LineSets.{pages_of}
 use Rattle.line_pages.specs.declared.line_set.LineSet.{LineSet}
-use Rattle.store_meaning.specs.Layout.{Sizes, pages, nvm_lines, ring_lines, is_allowed}
+use Rattle.store_meaning.specs.Layout.{pages, nvm_lines, is_allowed}
 use Rattle.store_meaning.proofs.AtEndLaws.{OnOk_map}
 use Rattle.store_laws.specs.OpenGroup.{OpenGroup}
-use Rattle.store_laws.specs.ShownPages.{pages_in, committed_in}
+use Rattle.store_laws.specs.ShownPages.{pages_in}
 use Rattle.nvm_layout.specs.Sizes.{sizes_of}
 use Rattle.nvm_layout.specs.declared.geometry.Geometry.{Geometry}
 use Rattle.nvm_log.specs.declared.log.Log.{Log}

@@ -1,17 +1,15 @@
 -- The book of a store just opened, whose log is empty.
-use Rattle.std.proofs.Common.{◌≡◌, ℕ, ◌+◌, ◌-◌, ◌*◌, ◌^◌, ◌<◌, ◌≤◌, true, false, [], refl, sym, ap, ◌∙◌, subst, arith, IsTrue}
+use Rattle.std.proofs.Common.{◌≡◌, ℕ, ◌^◌, ◌≤◌, true, sym, ap, ◌∙◌, subst, arith, IsTrue}
 use Rattle.devices.specs.State.{State, current, fresh}
 use Rattle.devices.specs.World.{Standing as Device, now}
 use Rattle.line_pages.specs.LineSets.{pages_of}
 use Rattle.line_pages.specs.declared.line_set.LineSet.{LineSet}
-use Rattle.store_meaning.specs.Layout.{Sizes, pages, nvm_lines, ring_lines, is_allowed}
-use Rattle.store_meaning.specs.Recovered.{Super, super_of, from, log_line, log_lines}
+use Rattle.store_meaning.specs.Layout.{Sizes, pages, nvm_lines, is_allowed}
 use Rattle.store_laws.specs.OpenFacts.{OpenFacts}
-use Rattle.store_laws.specs.OpenGroup.{OpenGroup}
 use Rattle.nvm_layout.specs.Sizes.{sizes_of}
 use Rattle.nvm_log.specs.declared.log.Log.{Log}
 use Rattle.transactions.specs.declared.book.Book.{Book}
-use Rattle.transactions.specs.StoreStanding.{book_sizes, reach, reserve, kept_lines, Stands, IsReady, IsSteady}
+use Rattle.transactions.specs.StoreStanding.{book_sizes, reserve, kept_lines, Stands, IsReady, IsSteady}
 use Rattle.transactions.specs.BookCalls.{IsNew}
 use Rattle.transactions.specs.Closing.{IsClosed}
 use Rattle.transactions.proofs.ClosingLaws.{empty_closed}

@@ -1,9 +1,9 @@
 -- The beginning of a transaction, by what it does to the book of a store.
-use Rattle.std.proofs.Common.{◌≡◌, ℕ, ◌+◌, ◌-◌, ◌*◌, ◌^◌, ◌<◌, ◌≤◌, true, false, refl, ap, arith}
+use Rattle.std.proofs.Common.{◌≡◌, ◌+◌, ◌*◌, ◌^◌, ◌≤◌, true, false, arith}
 use Rattle.devices.specs.World.{Standing as Device}
 use Rattle.store_meaning.specs.Layout.{ring_lines}
 use Rattle.transactions.specs.declared.book.Book.{Book}
-use Rattle.transactions.specs.StoreStanding.{book_sizes, reach, reserve, kept_lines, IsReady}
+use Rattle.transactions.specs.StoreStanding.{book_sizes, reach, kept_lines, IsReady}
 use Rattle.transactions.specs.StoreCalls.{KeepsLines}
 
 -- the book behind the beginning

@@ -1,5 +1,5 @@
 -- The facts of an open store with its open group, over a write and both ends of a transaction.
-use Rattle.std.proofs.Common.{◌≡◌, ℕ, zero, suc, ◌+◌, ◌-◌, ◌*◌, ◌<◌, ◌≤◌, List, length, refl, sym, ap, ◌∙◌, subst, arith, IsTrue, Result}
+use Rattle.std.proofs.Common.{◌≡◌, ℕ, ◌+◌, ◌-◌, ◌<◌, ◌≤◌, List, length, refl, sym, ap, ◌∙◌, subst, arith, IsTrue, Result}
 use Rattle.std.specs.Prelude.{OnOk}
 use Rattle.nvm_model.specs.declared.line.Line.{Line}
 use Rattle.devices.specs.State.{State, Image, Call, current, fresh, line_at, after_all}
@@ -8,12 +8,12 @@ use Rattle.store_meaning.specs.Layout.{Sizes, pages, frame_line, ring_lines}
 use Rattle.store_meaning.specs.Log.{Change}
 use Rattle.store_meaning.specs.Put.{IsLine, append_calls}
 use Rattle.store_meaning.specs.Append.{commit_lines}
-use Rattle.store_meaning.specs.Recovered.{Super, super_of, from, log_line, log_lines}
+use Rattle.store_meaning.specs.Recovered.{log_lines}
 use Rattle.store_meaning.proofs.AtEndLaws.{OnOk_map}
 use Rattle.store_meaning.proofs.FactsLaws.{current_leaves}
 use Rattle.store_laws.specs.ShownPages.{committed_in}
 use Rattle.transactions.specs.StoreCalls.{LeavesOnly, HoldsAlong}
-use Rattle.store_laws.specs.OpenFacts.{OpenFacts, super_with}
+use Rattle.store_laws.specs.OpenFacts.{OpenFacts}
 use Rattle.store_laws.specs.OpenGroup.{OpenGroup}
 use Rattle.store_laws.specs.Calls.{write_calls}
 use Rattle.store_laws.specs.Steps.{LeadsTo}
@@ -69,9 +69,9 @@ pub after_read : {T E : Type 0} (calls : List Call) (a b : Standing) (r : Result
     → (Facts : State → Type 0) → ((s : State) → Facts s → Facts (fresh (current s))) → Facts (after_all calls (fresh (current (now a)))) → OnOk r (Facts (fresh (current (now b))))
 after_read calls a b r makes told Facts reads facts =
     OnOk_map r (λ (done : now b ≡ after_all calls (now a)).
-        subst (λ (i : Image). Facts (fresh i))
-        (sym (ap current done ∙ current_as (after_all calls (now a)) (after_all calls (fresh (current (now a)))) (after_as calls (now a) (fresh (current (now a))) (fresh_as (now a)))))
-        (reads (after_all calls (fresh (current (now a)))) facts)) (makes.whole told)
+    subst (λ (i : Image). Facts (fresh i))
+    (sym (ap current done ∙ current_as (after_all calls (now a)) (after_all calls (fresh (current (now a)))) (after_as calls (now a) (fresh (current (now a))) (fresh_as (now a)))))
+    (reads (after_all calls (fresh (current (now a)))) facts)) (makes.whole told)
 
 pub after_steady : {T E : Type 0} (calls : List Call) (a b : Standing) (r : Result T E) → MakesAll calls a b r → IsTrue a.told
     → (Facts : State → Type 0) → Facts (after_all calls (now a)) → OnOk r (Facts (now b))

@@ -1,5 +1,5 @@
 -- What calls do to a book.
-use Rattle.std.specs.Prelude.{◌≡◌, ℕ, ◌+◌, Bool, false, None, [], Result, OnOk}
+use Rattle.std.specs.Prelude.{◌≡◌, ℕ, ◌+◌, false, None, [], Result, OnOk}
 use Rattle.line_pages.specs.LineSets.{pairs_of, pages_of}
 use Rattle.line_pages.specs.Pairs.{with_pair}
 use Rattle.line_pages.specs.declared.line_set.LineSet.{LineSet}

@@ -136,7 +136,11 @@ fn end<D: Devices>(store: &mut Store<'_, D>, stands: bool) -> Result<(), Stop>
     ensures closed { OnOk result (store.new.book.now.is_open ≡ false) }
     ensures geometry { store.new.book.now.log.geometry ≡ store.old.book.now.log.geometry }
 {
-    if stands { store.commit() } else { store.abort() }
+    if stands {
+        store.commit()
+    } else {
+        store.abort()
+    }
 }
 
 /// Writes lines 0 and 5 of page 3, and ends that as a commit or as an abort. None where the log is too long.
@@ -301,7 +305,11 @@ fn each_call_of_a_transaction_may_fail(rt: HostRuntime) {
             };
             let mut store = Store::over(&mut book, &mut dev);
             let wanted = if nth < calls { Err(Stop::Nvm) } else { Ok(()) };
-            assert_eq!(rt; change_two(&mut store, (7, 8), stands), Some(wanted), "at {nth}");
+            assert_eq!(rt;
+                change_two(&mut store, (7, 8), stands),
+                Some(wanted),
+                "at {nth}"
+            );
         }
     }
 }

@@ -1,5 +1,5 @@
 -- The load changes nothing; the calls of the record and those of the line follow.
-use Rattle.std.proofs.Common.{◌++◌, ap, ◌∙◌, Ok, Err}
+use Rattle.std.proofs.Common.{◌++◌, ap, ◌∙◌, Ok}
 use Rattle.nvm_model.specs.declared.line.Line.{Line}
 use Rattle.devices.specs.State.{line_at}
 use Rattle.devices.specs.World.{now}
@@ -9,7 +9,6 @@ use Rattle.store_meaning.specs.Layout.{frame_line}
 use Rattle.store_meaning.specs.Append.{record_of}
 use Rattle.store_meaning.specs.Put.{append_calls}
 use Rattle.store_meaning.specs.InPlace.{store_calls}
-use Rattle.store_laws.specs.Calls.{write_calls}
 use Rattle.transactions.specs.StoreStanding.{book_sizes}
 use Rattle.transactions.proofs.CallLaws.{makes_none, makes_told, line_put}
 use Rattle.transactions.proofs.BookLaws.{write_holds}

@@ -1,6 +1,5 @@
 -- The open group is taken back and ended, and what that keeps is known of the device.
-use Rattle.std.proofs.Common.{◌≡◌, sym, subst, refl, Ok, Err}
-use Rattle.line_pages.specs.declared.stop.Stop.{Stop}
+use Rattle.std.proofs.Common.{sym, subst, refl, Ok, Err}
 use Rattle.transactions.specs.declared.book.Book.{Book}
 use Rattle.transactions.specs.StoreStanding.{IsReady, IsSteady}
 use Rattle.transactions.specs.StoreCalls.{AbortsLines, StoreCall, IsCommitted}

@@ -1,5 +1,5 @@
 -- The log has room for the longest transaction.
-use Rattle.std.proofs.Common.{sym, subst, ◌∙◌, ◌≡◌, ap, ◌≤◌, ◌+◌, ◌^◌}
+use Rattle.std.proofs.Common.{sym, subst, ◌≤◌, ◌+◌, ◌^◌}
 use Rattle.transactions.specs.declared.book.Book.{Book}
 use Rattle.transactions.specs.StoreStanding.{IsReady}
 use Rattle.transactions.specs.StoreCalls.{KeepsLines}

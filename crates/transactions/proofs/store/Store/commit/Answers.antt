@@ -1,6 +1,5 @@
 -- The calls of the end choose between the old and the current pages, and keep the facts.
-use Rattle.std.proofs.Common.{◌≡◌, sym, subst, refl, Ok, Err}
-use Rattle.std.specs.Prelude.{IsTrue}
+use Rattle.std.proofs.Common.{sym, subst, refl, Ok, Err}
 use Rattle.devices.specs.declared.traits.Failed.{Failed}
 use Rattle.transactions.specs.declared.book.Book.{Book}
 use Rattle.transactions.specs.StoreStanding.{IsReady, IsSteady}
