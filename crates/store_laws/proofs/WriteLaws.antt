@@ -315,11 +315,11 @@ module _ (g : Sizes) (start tail : ℕ) (s : State) (it : OpenFacts g start tail
   write_held mid amid = elim (Amid_append (append_calls g tail xs) (store_calls g page line value) s mid amid) [
     | inl first ↦ record { keeps = moving b sup.tail (sup.tail + 3) (λ n. it.kept); format = refl; sizes = refl; facts = record_moment mid first }
     | inr second ↦ record {
-        keeps = keeping g words₂ it.kept;
-        format = refl;
-        sizes = refl;
-        facts = store_moment mid (subst (λ (cs : List Call). Amid (after_all cs s) (store_calls g page line value) mid) (sym calls_are) second);
-      }
+      keeps = keeping g words₂ it.kept;
+      format = refl;
+      sizes = refl;
+      facts = store_moment mid (subst (λ (cs : List Call). Amid (after_all cs s) (store_calls g page line value) mid) (sym calls_are) second);
+    }
   ]
 
   -- The newest lines are the old ones but for this line.

@@ -78,7 +78,7 @@ checkpoint_empties g start tail old new r goes makes told = record {
 }
 
 -- the lines of a log are those between its offsets
-lines_between : (g : Sizes) (start tail : ℕ) (i : Image) → super_of i ≡ super_with g start tail → length (log_lines i) ≡ tail - start
+pub lines_between : (g : Sizes) (start tail : ℕ) (i : Image) → super_of i ≡ super_with g start tail → length (log_lines i) ≡ tail - start
 lines_between g start tail i is =
     ap (λ (x : Super). length (from (log_line x.sizes x.drained i) x.start (x.tail - x.start))) is ∙ so_many (log_line g start i) start (tail - start)
   where

@@ -151,7 +151,3 @@ module _ (old : Book) (log : Log) (a b : Device) {T : Type 0} (r : Result T Stop
     during = λ told steady. (abort_holds told steady).during;
     held = λ told steady. (abort_holds told steady).held;
   }
-
-  -- nothing but a fault stops it
-  pub abort_stops : IsTrue a.told → IfErr r (λ why. why ≡ Nvm)
-  abort_stops told = (aborts told).stops (ready.read told).facts (ready.read told).group

@@ -13,15 +13,12 @@ use Rattle.nvm_log.specs.declared.log.Log.{Log}
 use Rattle.transactions.specs.declared.book.Book.{Book}
 use Rattle.transactions.specs.StoreStanding.{book_sizes, reserve, kept_lines, Stands, IsReady, IsSteady}
 use Rattle.transactions.specs.BookCalls.{IsNew}
+use Rattle.transactions.specs.Closing.{IsClosed}
+use Rattle.transactions.proofs.ClosingLaws.{empty_closed}
 
 -- A store with an empty log stands, and nothing is open in it.
 pub empty_stands : (g : Sizes) (at : ℕ) (s : State) → OpenFacts g at at s → Stands g at at at s
-empty_stands g at s it = record { facts = it; group = group_none g at (current s) none }
-  where
-    none : log_lines (current s) ≡ []
-    none =
-        let zero_lines : at - at ≡ 0 = omega arith in
-        ap (λ (x : Super). from (log_line x.sizes x.drained (current s)) x.start (x.tail - x.start)) it.super_words ∙ ap (λ n. from (log_line g at (current s)) at n) zero_lines
+empty_stands g at s it = let closed : IsClosed g at at s = empty_closed g at s it in record { facts = closed.facts; group = closed.group }
 
 module _ (log : Log) (loose : LineSet) (book : Book) (d : Device) (made : IsNew log loose book) (empty : log.start ≡ log.tail) where
   stands_new : (s : State) → OpenFacts (sizes_of log.geometry) log.start log.tail s → Stands (book_sizes book) book.log.start book.log.tail book.first s

@@ -8,11 +8,11 @@ use Rattle.store_meaning.specs.Layout.{Sizes, pages, frame_line, ring_lines}
 use Rattle.store_meaning.specs.Log.{Change}
 use Rattle.store_meaning.specs.Put.{IsLine, append_calls}
 use Rattle.store_meaning.specs.Append.{commit_lines}
-use Rattle.store_meaning.specs.Recovered.{Super, super_of, from, log_line, log_lines}
+use Rattle.store_meaning.specs.Recovered.{log_lines}
 use Rattle.store_meaning.proofs.AtEndLaws.{OnOk_map}
 use Rattle.store_laws.specs.ShownPages.{committed_in}
 use Rattle.transactions.specs.StoreCalls.{LeavesOnly, HoldsAlong}
-use Rattle.store_laws.specs.OpenFacts.{OpenFacts, super_with}
+use Rattle.store_laws.specs.OpenFacts.{OpenFacts}
 use Rattle.store_laws.specs.OpenGroup.{OpenGroup}
 use Rattle.store_laws.specs.Calls.{write_calls}
 use Rattle.store_laws.specs.Steps.{LeadsTo}
@@ -23,6 +23,7 @@ use Rattle.store_laws.proofs.WriteLaws.{write_log, write_held}
 use Rattle.store_laws.proofs.EndLaws.{commit_log, commit_open}
 use Rattle.store_laws.proofs.StepLaws.{write_step, steady_held, open_left}
 use Rattle.transactions.specs.StoreStanding.{Stands}
+use Rattle.transactions.proofs.ClosingLaws.{lines_between}
 
 -- they hold of what one reads of the state too
 pub stands_read : (g : Sizes) (start tail first : ℕ) (s : State) → Stands g start tail first s → Stands g start tail first (fresh (current s))
@@ -43,17 +44,6 @@ write_leads g start tail first s it page line value hp hl is_line room =
       moments = (step.leads).moments;
     }
 
-from_length : (line : ℕ → Line) (at n : ℕ) → length (from line at n) ≡ n
-from_length line at zero = refl
-from_length line at (suc n) = ap suc (from_length line (at + 1) n)
-
--- the log's lines are those from its start up to its tail
-lines_long : (g : Sizes) (start tail : ℕ) (i : Image) → super_of i ≡ super_with g start tail → start ≤ tail → start + length (log_lines i) ≡ tail
-lines_long g start tail i is started =
-    let long : length (log_lines i) ≡ tail - start =
-    ap (λ (x : Super). length (from (log_line x.sizes x.drained i) x.start (x.tail - x.start))) is ∙ from_length (log_line g start i) start (tail - start) in
-    omega arith
-
 -- at each moment of a write the facts of a store hold
 pub write_along : {T E : Type 0} (g : Sizes) (start tail first : ℕ) (a b : Standing) (r : Result T E) → Goes a b → IsTrue a.told → Stands g start tail first (now a)
     → (page line : ℕ) (value : Line) → page < pages g → line < 64 → IsLine value → tail + 3 ≤ start + ring_lines g → MakesAll (write_calls g tail page line value (now a)) a b r → HoldsAlong g a b
@@ -68,17 +58,19 @@ commit_stands g start tail first s it room =
     let facts : OpenFacts g start (tail + 1) s₁ = commit_open g start tail s it.facts room in
     let started : start ≤ tail + 1 = (facts_range g start (tail + 1) facts.words facts.kept s₁ facts.facts facts.super_words).0 in
     let behind : ℕ = start + length (log_lines (current s₁)) in
+    let long : length (log_lines (current s₁)) ≡ tail + 1 - start = lines_between g start (tail + 1) (current s₁) facts.super_words in
+    let next : behind ≡ tail + 1 = omega arith in
     let group : OpenGroup g start behind (current s₁) = group_commit g start first (current s₁) (current s) it.group (commit_log g start tail s it.facts room) in
-    record { facts = facts; group = subst (λ n. OpenGroup g start n (current s₁)) (lines_long g start (tail + 1) (current s₁) facts.super_words started) group }
+    record { facts = facts; group = subst (λ n. OpenGroup g start n (current s₁)) next group }
 
 -- what calls lead to, as one reads it
 pub after_read : {T E : Type 0} (calls : List Call) (a b : Standing) (r : Result T E) → MakesAll calls a b r → IsTrue a.told
     → (Facts : State → Type 0) → ((s : State) → Facts s → Facts (fresh (current s))) → Facts (after_all calls (fresh (current (now a)))) → OnOk r (Facts (fresh (current (now b))))
 after_read calls a b r makes told Facts reads facts =
     OnOk_map r (λ (done : now b ≡ after_all calls (now a)).
-        subst (λ (i : Image). Facts (fresh i))
-        (sym (ap current done ∙ current_as (after_all calls (now a)) (after_all calls (fresh (current (now a)))) (after_as calls (now a) (fresh (current (now a))) (fresh_as (now a)))))
-        (reads (after_all calls (fresh (current (now a)))) facts)) (makes.whole told)
+    subst (λ (i : Image). Facts (fresh i))
+    (sym (ap current done ∙ current_as (after_all calls (now a)) (after_all calls (fresh (current (now a)))) (after_as calls (now a) (fresh (current (now a))) (fresh_as (now a)))))
+    (reads (after_all calls (fresh (current (now a)))) facts)) (makes.whole told)
 
 pub after_steady : {T E : Type 0} (calls : List Call) (a b : Standing) (r : Result T E) → MakesAll calls a b r → IsTrue a.told
     → (Facts : State → Type 0) → Facts (after_all calls (now a)) → OnOk r (Facts (now b))

@@ -10,6 +10,8 @@ mod commit;
 mod emptying;
 mod putting;
 mod store;
+#[cfg(test)]
+mod tests;
 mod undo;
 mod writing;
 
