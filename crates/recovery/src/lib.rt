@@ -1,0 +1,10 @@
+//! The store's beginning and its opening: an empty store is made, and what a crash left of one is recovered, while all its
+//! pages and its log stay in NVM.
+#![tactic(auto)]
+
+mod errors;
+mod formatting;
+mod storing;
+
+pub use errors::FormatError;
+pub use formatting::{format, format_at};
