@@ -1,1 +1,3 @@
 pub mod CallsLaws
+pub mod FlushLaws
+pub mod FormatLaws
