@@ -1,3 +1,6 @@
 pub mod CallsLaws
 pub mod FlushLaws
 pub mod FormatLaws
+pub mod StandsLaws
+pub mod ReplayLaws
+pub mod RecoverLaws

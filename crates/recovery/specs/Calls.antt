@@ -1,11 +1,13 @@
--- The device calls of a store that is made.
-use Rattle.std.specs.Prelude.{ℕ, zero, suc, ◌+◌, ◌*◌, List, [], ◌∷◌, ◌++◌}
+-- The device calls of a store that is made, and of one that is recovered.
+use Rattle.std.specs.Prelude.{ℕ, zero, suc, ◌+◌, ◌*◌, List, [], ◌∷◌, ◌++◌, if◌then◌else◌}
 use Rattle.nvm_model.specs.declared.line.Line.{Line}
 use Rattle.devices.specs.State.{Call}
 use Rattle.devices.specs.State.Call.{store_word, store_line, flush, fence}
-use Rattle.store_meaning.specs.Layout.{Sizes, frame_line}
+use Rattle.store_meaning.specs.Layout.{Sizes, pages, frame_line}
+use Rattle.store_meaning.specs.Log.{Change, Group, Log, changes}
 use Rattle.store_meaning.specs.Format.{magic}
 use Rattle.store_meaning.specs.Format.Format.{whole_lines}
+use Rattle.store_laws.specs.Calls.{checkpoint_calls}
 use Rattle.recovery.specs.Empty.{catalog_line}
 
 -- a line, stored and flushed
@@ -47,3 +49,31 @@ prepare_calls g first = pages_puts g ++ (super_puts g first ++ fence ∷ [])
 -- the magic word away, all else, the magic word
 abbrev pub format_calls : Sizes → ℕ → List Call
 format_calls g first = gate_put 0 0 ++ (prepare_calls g first ++ gate_put 0 (magic whole_lines))
+
+-- the line after each record, in order
+abbrev pub redo_calls : Sizes → List Change → List Call
+redo_calls g [] = []
+redo_calls g (c ∷ cs) = store_line (frame_line g c.page c.line) c.after ∷ redo_calls g cs
+
+-- the line before each record, from last to first
+abbrev pub undo_calls : Sizes → List Change → List Call
+undo_calls g [] = []
+undo_calls g (c ∷ cs) = undo_calls g cs ++ store_line (frame_line g c.page c.line) c.before ∷ []
+
+-- a group, groups in order, and a whole log with what stands behind its last end
+abbrev pub group_calls : Sizes → Group → List Call
+group_calls g group = if group.committed then redo_calls g (changes group.items) else undo_calls g (changes group.items)
+
+abbrev pub groups_calls : Sizes → List Group → List Call
+groups_calls g [] = []
+groups_calls g (group ∷ groups) = group_calls g group ++ groups_calls g groups
+
+abbrev pub replay_calls : Sizes → Log → List Call
+replay_calls g log = groups_calls g log.closed ++ undo_calls g (changes log.open_items)
+
+-- every line of every page flushed, a fence, and an empty log
+abbrev pub settle_calls : Sizes → ℕ → List Call
+settle_calls g tail = flush_calls (frame_line g 0 0) (64 * pages g) ++ checkpoint_calls tail
+
+abbrev pub recover_calls : Sizes → Log → ℕ → List Call
+recover_calls g log tail = replay_calls g log ++ settle_calls g tail

@@ -1,3 +1,4 @@
 pub mod Calls
 pub mod Empty
 pub mod Causes
+pub mod Recovering

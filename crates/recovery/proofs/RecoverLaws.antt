@@ -1,0 +1,3 @@
+-- A recovery.
+use Rattle.recovery.proofs.StandsLaws.{stands_facts}
+use Rattle.recovery.proofs.ReplayLaws.{replay_words, replays_moment}
