@@ -3,4 +3,6 @@ pub mod FlushLaws
 pub mod FormatLaws
 pub mod StandsLaws
 pub mod ReplayLaws
+pub mod ReplayCallsLaws
+pub mod ReadingLaws
 pub mod RecoverLaws

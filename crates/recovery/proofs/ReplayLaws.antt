@@ -170,13 +170,14 @@ replay_logged g log all =
     (groups_logged g log log.closed all.closed (λ p l w h. or_left (named_in_groups log.closed p l w) (named_in (changes log.open_items) p l w) h))
     (undo_logged g log (changes log.open_items) all.left (λ p l w h. or_right (named_in_groups log.closed p l w) (named_in (changes log.open_items) p l w) h))
 
--- What holds of each moment of a replay: the facts of an open store, with the log that stood at its beginning.
-pub record Replays (g : Sizes) (kept : Words) (log : Log) (s : State) : Type 0 where
+-- What holds of each moment of a replay: the facts of an open store, with the superblock and the log that stood at its beginning.
+pub record Replays (g : Sizes) (kept : Words) (sup : Super) (log : Log) (s : State) : Type 0 where
   pub facts : StoreFacts (keeping g kept kept) s
+  pub gates : (i : Image) → Leaves s i → super_of i ≡ sup
   pub has : HasLog whole_lines log s
 
 -- One such store keeps it.
-module _ (g : Sizes) (kept : Words) (log : Log) (s : State) (it : Replays g kept log s) (call : Call) (one : IsLoggedStore g log call) (mid : State) (part : Part call s mid) where
+module _ (g : Sizes) (kept : Words) (sup : Super) (log : Log) (s : State) (it : Replays g kept sup log s) (call : Call) (one : IsLoggedStore g log call) (mid : State) (part : Part call s mid) where
   clash : (y : Bool) → y ≡ true → y ≡ false → ⊥
   clash y e f = absurd (cc)
 
@@ -200,15 +201,16 @@ module _ (g : Sizes) (kept : Words) (log : Log) (s : State) (it : Replays g kept
   stored : (i : Image) → Leaves mid i → (j : Image) × Leaves s j × Stored whole_lines s one.page one.line one.value can i j
   stored i left = store_same whole_lines s one.page one.line one.value can i (Grows-leaves stores no_write s mid i grows left)
 
-  store_replays : Replays g kept log mid
+  store_replays : Replays g kept sup log mid
   store_replays = record {
     facts = store_grows_facts (keeping g kept kept) s it.facts one.page one.line one.value can kept (λ i left p l w word h. refl) mid grows;
+    gates = λ i left. ((stored i left).2).super_words ∙ it.gates (stored i left).0 (stored i left).1;
     has = λ i left. ((stored i left).2).log ∙ it.has (stored i left).0 (stored i left).1;
   }
 
--- At each moment of such stores the facts hold, and the log is as it was.
-pub replays_moment : (g : Sizes) (kept : Words) (log : Log) (calls : List Call) → AreLoggedStores g log calls → (s : State) → Replays g kept log s → (mid : State) → Amid s calls mid → Replays g kept log mid
-replays_moment g kept log [] all s it mid at = subst (λ (x : State). Replays g kept log x) (sym at) it
-replays_moment g kept log (call ∷ calls) all s it mid (inl part) = store_replays g kept log s it call all.0 mid part
-replays_moment g kept log (call ∷ calls) all s it mid (inr later) =
-    replays_moment g kept log calls all.1 (after call s) (store_replays g kept log s it call all.0 (after call s) (Part-whole call s)) mid later
+-- At each moment of such stores the facts hold, and the superblock and the log are as they were.
+pub replays_moment : (g : Sizes) (kept : Words) (sup : Super) (log : Log) (calls : List Call) → AreLoggedStores g log calls → (s : State) → Replays g kept sup log s → (mid : State) → Amid s calls mid → Replays g kept sup log mid
+replays_moment g kept sup log [] all s it mid at = subst (λ (x : State). Replays g kept sup log x) (sym at) it
+replays_moment g kept sup log (call ∷ calls) all s it mid (inl part) = store_replays g kept sup log s it call all.0 mid part
+replays_moment g kept sup log (call ∷ calls) all s it mid (inr later) =
+    replays_moment g kept sup log calls all.1 (after call s) (store_replays g kept sup log s it call all.0 (after call s) (Part-whole call s)) mid later

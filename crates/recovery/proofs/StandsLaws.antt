@@ -30,7 +30,8 @@ module _ (lines blocks : ℕ) (s : State) (stands : Stands whole_lines lines blo
   abbrev given : Words
   given = recovered whole_lines (current s)
 
-  same_super : (i : Image) → Leaves s i → super_of i ≡ super_of (current s)
+  -- every image has the superblock that one reads
+  pub same_super : (i : Image) → Leaves s i → super_of i ≡ super_of (current s)
   same_super i left = super_same i (current s) (λ l w named. single_version (s.nvm l w) (i.nvm l w) (stands.gates.superblock l w named) (left.words l w))
 
   same_lines : (i : Image) → Leaves s i → log_lines i ≡ log_lines (current s)

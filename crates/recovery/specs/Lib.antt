@@ -2,3 +2,4 @@ pub mod Calls
 pub mod Empty
 pub mod Causes
 pub mod Recovering
+pub mod Reading
