@@ -5,4 +5,5 @@ pub mod StandsLaws
 pub mod ReplayLaws
 pub mod ReplayCallsLaws
 pub mod ReadingLaws
+pub mod HeadLaws
 pub mod RecoverLaws

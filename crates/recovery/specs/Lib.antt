@@ -3,3 +3,4 @@ pub mod Empty
 pub mod Causes
 pub mod Recovering
 pub mod Reading
+pub mod Heads

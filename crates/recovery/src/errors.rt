@@ -1,4 +1,5 @@
-//! Why a store is not made.
+//! Why a store is not made, or not recovered.
+use line_pages::Evidence;
 
 /// Why a store was not made.
 #[derive(Clone, Copy, Debug, PartialEq, Eq)]
@@ -9,4 +10,23 @@ pub enum FormatError {
     Nvm,
     /// A call on the disk failed. None is made while all pages stay in NVM.
     Ssd,
+}
+
+/// Why a store was not recovered.
+#[derive(Clone, Copy, Debug, PartialEq, Eq)]
+pub enum OpenError {
+    /// A call on NVM failed.
+    Nvm,
+    /// A call on the disk failed. None is made while all pages stay in NVM.
+    Ssd,
+    /// The magic word is another one.
+    NotAStore,
+    /// The NVM has fewer than four lines, or a device is smaller than the geometry needs.
+    TooSmall,
+    /// The tail of the log is above 2^61.
+    LogEnded,
+    /// A check fails: 1 to 3 of the superblock; of a head in the log 7 its kind, 8 its page or its line, 9 a record cut short.
+    Damaged(Evidence),
+    /// There was not enough memory. Nothing was stored.
+    NoMemory,
 }

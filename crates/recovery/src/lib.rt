@@ -2,9 +2,10 @@
 //! pages and its log stay in NVM.
 #![tactic(auto)]
 
+mod checking;
 mod errors;
 mod formatting;
 mod storing;
 
-pub use errors::FormatError;
+pub use errors::{FormatError, OpenError};
 pub use formatting::{format, format_at};
