@@ -6,4 +6,5 @@ pub mod ReplayLaws
 pub mod ReplayCallsLaws
 pub mod ReadingLaws
 pub mod HeadLaws
+pub mod ReplayingLaws
 pub mod RecoverLaws

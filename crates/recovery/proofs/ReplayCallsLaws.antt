@@ -11,7 +11,7 @@ use Rattle.store_meaning.specs.Log.{Change, Group, Item, Entry, Log, changes, ex
 use Rattle.store_meaning.specs.Log.Item.{write, cut}
 use Rattle.store_meaning.specs.Log.Entry.{item, commit, abort}
 use Rattle.store_meaning.proofs.PutLaws.{log_line-same}
-use Rattle.recovery.specs.Calls.{redo_calls, undo_calls, group_calls, groups_calls, replay_calls}
+use Rattle.recovery.specs.Calls.{redo_calls, undo_calls, ending_calls, group_calls, groups_calls, replay_calls}
 use Rattle.recovery.specs.Reading.{lines_at}
 
 pub redo_calls-append : (g : Sizes) (xs ys : List Change) → redo_calls g (xs ++ ys) ≡ redo_calls g xs ++ redo_calls g ys
@@ -29,13 +29,7 @@ groups_calls-append : (g : Sizes) (xs : List Group) (x : Group) → groups_calls
 groups_calls-append g [] x = append-nil (group_calls g x)
 groups_calls-append g (y ∷ ys) x = ap (λ (cs : List Call). group_calls g y ++ cs) (groups_calls-append g ys x) ∙ sym (append_assoc (group_calls g y) (groups_calls g ys) (group_calls g x))
 
--- what an entry makes of the records before it
-abbrev pub ending_calls : Sizes → List Change → Entry → List Call
-ending_calls g cs (item x) = []
-ending_calls g cs commit = redo_calls g cs
-ending_calls g cs abort = undo_calls g cs
-
--- so the calls of the groups with one entry more
+-- the calls of the groups with one entry more
 pub extended_calls : (g : Sizes) (log : Log) (e : Entry) → groups_calls g (extended log e).closed ≡ groups_calls g log.closed ++ ending_calls g (changes log.open_items) e
 extended_calls g log (item x) = sym (append-nil (groups_calls g log.closed))
 extended_calls g log commit = groups_calls-append g log.closed (record { items = log.open_items; committed = true })

@@ -4,7 +4,8 @@ use Rattle.nvm_model.specs.declared.line.Line.{Line}
 use Rattle.devices.specs.State.{Call}
 use Rattle.devices.specs.State.Call.{store_word, store_line, flush, fence}
 use Rattle.store_meaning.specs.Layout.{Sizes, pages, frame_line}
-use Rattle.store_meaning.specs.Log.{Change, Group, Log, changes}
+use Rattle.store_meaning.specs.Log.{Change, Entry, Group, Log, changes}
+use Rattle.store_meaning.specs.Log.Entry.{item, commit, abort}
 use Rattle.store_meaning.specs.Format.{magic}
 use Rattle.store_meaning.specs.Format.Format.{whole_lines}
 use Rattle.store_laws.specs.Calls.{checkpoint_calls}
@@ -59,6 +60,12 @@ redo_calls g (c ∷ cs) = store_line (frame_line g c.page c.line) c.after ∷ re
 abbrev pub undo_calls : Sizes → List Change → List Call
 undo_calls g [] = []
 undo_calls g (c ∷ cs) = undo_calls g cs ++ store_line (frame_line g c.page c.line) c.before ∷ []
+
+-- what an entry makes of the records that stand before it in its group
+abbrev pub ending_calls : Sizes → List Change → Entry → List Call
+ending_calls g cs (item x) = []
+ending_calls g cs commit = redo_calls g cs
+ending_calls g cs abort = undo_calls g cs
 
 -- a group, groups in order, and a whole log with what stands behind its last end
 abbrev pub group_calls : Sizes → Group → List Call

@@ -4,3 +4,4 @@ pub mod Causes
 pub mod Recovering
 pub mod Reading
 pub mod Heads
+pub mod Replaying

@@ -1,4 +1,8 @@
 //! Why a store is not made, or not recovered.
+ghost use Rattle.std.specs.Prelude.{◌≡◌};
+ghost use Rattle.recovery.specs.declared.errors.OpenError.TheVariants.{Nvm};
+
+use devices::Failed;
 use line_pages::Evidence;
 
 /// Why a store was not made.
@@ -29,4 +33,12 @@ pub enum OpenError {
     Damaged(Evidence),
     /// There was not enough memory. Nothing was stored.
     NoMemory,
+}
+
+impl From<Failed> for OpenError {
+    ghost from_gives = { λ _ why. why ≡ Nvm };
+
+    fn from(_failed: Failed) -> OpenError {
+        OpenError::Nvm
+    }
 }

@@ -5,6 +5,7 @@
 mod checking;
 mod errors;
 mod formatting;
+mod replaying;
 mod storing;
 
 pub use errors::{FormatError, OpenError};
