@@ -7,4 +7,5 @@ pub mod ReplayCallsLaws
 pub mod ReadingLaws
 pub mod HeadLaws
 pub mod ReplayingLaws
+pub mod GroupLaws
 pub mod RecoverLaws

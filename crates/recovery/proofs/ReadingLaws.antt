@@ -248,3 +248,12 @@ grouped_of_store g log (e ∷ es) all rest = grouped_of_store g (extended log e)
 
 pub checked_of_store : (g : Sizes) (o : ℕ) (xs : List Line) → log_check whole_lines g o 0 xs ≡ None → LogOfStore g (grouped no_log (entries whole_lines 0 xs))
 checked_of_store g o xs h = grouped_of_store g no_log (entries whole_lines 0 xs) (record { closed = tt; left = tt }) (entries_of_store g o 0 xs h)
+
+-- whatever head stands where no check fails, an entry is read there
+pub advance_some : (g : Sizes) (f : ℕ → Line) (tail at : ℕ) → at < tail → PassFrom g f tail at → (n : ℕ) × Advances g f tail at n
+advance_some g f tail at less passes =
+    let here : entry_check whole_lines g (f at) (tail - at - 1) ≡ None = passes_here g f tail at less passes in
+    elim (head_kinds g (f at) (entry_parts g (f at) (tail - at - 1) here).0) [
+      | inl is ↦ (3, advance_record g f tail at less (record { kind = is.kind; passes = here }))
+      | inr end ↦ (1, advance_end g f tail at less end here)
+    ]

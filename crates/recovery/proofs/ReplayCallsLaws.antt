@@ -86,6 +86,14 @@ ending_frames g cs (item x) = tt
 ending_frames g cs commit = redo_frames g cs
 ending_frames g cs abort = undo_frames g cs
 
+pub groups_frames : (g : Sizes) (groups : List Group) → AreFrameStores g (groups_calls g groups)
+groups_frames g [] = tt
+groups_frames g (group ∷ groups) = frames_append g (group_calls g group) (groups_calls g groups) (by_end group.committed) (groups_frames g groups)
+  where
+    by_end : (b : Bool) → AreFrameStores g (cond b (redo_calls g (changes group.items)) (undo_calls g (changes group.items)))
+    by_end true = redo_frames g (changes group.items)
+    by_end false = undo_frames g (changes group.items)
+
 -- They leave every line of the log.
 frame_lines : (g : Sizes) (start line : ℕ) (value : Line) (s : State) → 0 < g.log_blocks → frames_start g ≤ line → lines_at g start (line_stored line value s) ≡ lines_at g start s
 frame_lines g start line value s ring high =

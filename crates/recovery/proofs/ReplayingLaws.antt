@@ -28,17 +28,17 @@ use Rattle.recovery.proofs.CallsLaws.{makes_as}
 use Rattle.recovery.proofs.ReadingLaws.{changes_at-more}
 use Rattle.recovery.proofs.ReplayCallsLaws.{redo_calls-append, undo_calls-append, AreFrameStores, frames_lines, redo_frames, undo_frames}
 
-err_is : (T : Type 0) (e : OpenError) → IsErr {T = T} {E = OpenError} (Err e)
+pub err_is : (T : Type 0) (e : OpenError) → IsErr {T = T} {E = OpenError} (Err e)
 err_is T e = refl
 
 -- calls that change no device, and those behind them
-stays_makes : {E : Type 0} {a b : Standing} → Goes a b → Stays a b → MakesAll {T = Unit {0}} {E = E} [] a b (Ok tt)
+pub stays_makes : {E : Type 0} {a b : Standing} → Goes a b → Stays a b → MakesAll {T = Unit {0}} {E = E} [] a b (Ok tt)
 stays_makes goes stays = record { whole = λ told. Stays-now (Goes-on goes) stays told; part = stays }
 
-makes_behind : {T E : Type 0} {calls : List Call} {a b d : Standing} {r : Result T E} → Goes a b → Goes b d → Stays a b → MakesAll calls b d r → MakesAll calls a d r
+pub makes_behind : {T E : Type 0} {calls : List Call} {a b d : Standing} {r : Result T E} → Goes a b → Goes b d → Stays a b → MakesAll calls b d r → MakesAll calls a d r
 makes_behind p q stays makes = makes_then p q (stays_makes p stays) makes
 
-told_then : {a b : Standing} → Goes a b → IsTrue a.told → IsTrue b.told
+pub told_then : {a b : Standing} → Goes a b → IsTrue a.told → IsTrue b.told
 told_then goes told = subst (λ t. IsTrue t) (sym goes.told) told
 
 -- a line of the log is stored
@@ -53,7 +53,7 @@ pub copy_failed : {T E F : Type 0} (place : ℕ) {v w : Line} {a b d : Standing}
 copy_failed place r failed e p q stays makes = makes_stop [] r failed (makes_as (ap (λ (x : Line). store_line place x ∷ []) e) (makes_behind p q stays (makes_one makes)))
 
 -- the lines of the log that a call left which changed no device
-held_same : (log : Log) (a b : Standing) → Goes a b → Stays a b → IsTrue a.told → held_lines log b ≡ held_lines log a
+pub held_same : (log : Log) (a b : Standing) → Goes a b → Stays a b → IsTrue a.told → held_lines log b ≡ held_lines log a
 held_same log a b goes stays told = ap (lines_at (sizes_of log.geometry) log.start) (Stays-now (Goes-on goes) stays told)
 
 -- a line of a record is stored in the place that its head names

@@ -8,7 +8,7 @@ use Rattle.nvm_layout.specs.Sizes.{sizes_of}
 use Rattle.nvm_log.specs.Entries.{end_entry}
 use Rattle.nvm_log.specs.declared.log.Log.{Log}
 use Rattle.nvm_log.specs.declared.record.EndKind.{EndKind}
-use Rattle.store_meaning.specs.Layout.{frame_line}
+use Rattle.store_meaning.specs.Layout.{Sizes, frame_line}
 use Rattle.store_meaning.specs.Log.{Change, Entry, grouped, no_log}
 use Rattle.store_meaning.specs.Log.Item.{write, cut}
 use Rattle.store_meaning.specs.Log.Entry.{item, commit, abort}
@@ -70,11 +70,11 @@ open_changes cs commit = []
 open_changes cs abort = []
 
 -- The group that is open behind an entry: what is left of the log is what stood there without this entry.
-pub record IsNext (log : Log) (group : Group) (old : Standing) (next : Group) : Type 0 where
-  pub first : entries_from (held_lines log old) log.tail (group_end group) ≡ entry_at (held_lines log old) (group_end group) ∷ entries_from (held_lines log old) log.tail (group_end next)
-  pub passes : PassFrom (sizes_of log.geometry) (held_lines log old) log.tail (group_end next)
-  pub records : AreRecords (sizes_of log.geometry) (held_lines log old) log.tail next.first next.count
-  pub left_open : group_changes (held_lines log old) next ≡ open_changes (group_changes (held_lines log old) group) (entry_at (held_lines log old) (group_end group))
+pub record IsNext (g : Sizes) (f : ℕ → Line) (tail : ℕ) (group next : Group) : Type 0 where
+  pub first : entries_from f tail (group_end group) ≡ entry_at f (group_end group) ∷ entries_from f tail (group_end next)
+  pub passes : PassFrom g f tail (group_end next)
+  pub records : AreRecords g f tail next.first next.count
+  pub left_open : group_changes f next ≡ open_changes (group_changes f group) (entry_at f (group_end group))
 
 -- Where records stand, and no check fails behind them, the entry behind them is taken.
 pub record TakesEntry (log : Log) (group : Group) (old new : Standing) (result : Result Group OpenError) : Type 0 where
@@ -83,7 +83,7 @@ pub record TakesEntry (log : Log) (group : Group) (old new : Standing) (result :
       → Writes (ending_calls (sizes_of log.geometry) (group_changes (held_lines log old) group) (entry_at (held_lines log old) (group_end group))) old new result
   pub next : IsTrue old.told → AreRecords (sizes_of log.geometry) (held_lines log old) log.tail group.first group.count
       → PassFrom (sizes_of log.geometry) (held_lines log old) log.tail (group_end group)
-      → IfOk result (λ made. IsNext log group old made)
+      → IfOk result (λ made. IsNext (sizes_of log.geometry) (held_lines log old) log.tail group made)
 
 -- whatever the device is, the next group ends further on, and within the log
 pub record EndsLater (log : Log) (group next : Group) : Type 0 where
