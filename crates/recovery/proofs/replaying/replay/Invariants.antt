@@ -3,8 +3,8 @@ use Rattle.recovery.specs.Replaying.{group_end}
 use Rattle.recovery.proofs.GroupLaws.{Replaying}
 use Rattle.recovery.proofs.replaying.replay.Given as goal
 
-abbrev pub invariant-loop-group : goal.invariant-loop-group
-invariant-loop-group g l = Replaying l.log l.group (g.D.Devices.standing l.fn.dev) (g.D.Devices.standing l.dev)
+abbrev pub invariant-loop-dev : goal.invariant-loop-dev
+invariant-loop-dev g l = Replaying l.log l.group (g.D.Devices.standing l.fn.dev) (g.D.Devices.standing l.dev)
 
-abbrev pub decreases-loop-group : goal.decreases-loop-group
-decreases-loop-group g l = l.log.tail - group_end l.group
+abbrev pub decreases-loop-dev : goal.decreases-loop-dev
+decreases-loop-dev g l = l.log.tail - group_end l.group
