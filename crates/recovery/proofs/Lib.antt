@@ -8,4 +8,5 @@ pub mod ReadingLaws
 pub mod HeadLaws
 pub mod ReplayingLaws
 pub mod GroupLaws
+pub mod ReopenLaws
 pub mod RecoverLaws

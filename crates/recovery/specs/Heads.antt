@@ -1,5 +1,5 @@
 -- What a line is found to be as a head of a log, and what is found of all heads.
-use Rattle.std.specs.Prelude.{◌≡◌, ℕ, ◌-◌, Bool, IsTrue, Option, Some, None, Result, Ok, Err}
+use Rattle.std.specs.Prelude.{◌≡◌, ℕ, ◌-◌, Bool, IsTrue, Option, Some, None, Result, Ok, Err, IfErr}
 use Rattle.nvm_model.specs.declared.line.Line.{Line}
 use Rattle.devices.specs.World.{Standing, now}
 use Rattle.line_pages.specs.declared.stop.Evidence.{Evidence}
@@ -67,27 +67,32 @@ pub record IsFirstFault (found : Option LogFault) (line_at : ℕ → Line) (tail
   pub first : found ≡ Some fault
   pub keeps : kept ≡ evidence.Log fault.offset (line_at fault.offset) tail fault.check
 
--- an answer about damage: the evidence fails its check
-abbrev pub KeepsFault : {T : Type 0} → Sizes → ℕ → Result T OpenError → Type 0
-KeepsFault g tail (Ok done) = Unit {0}
-KeepsFault g tail (Err (Damaged kept)) = IsLogEvidence g tail kept
-KeepsFault g tail (Err Nvm) = Unit {0}
-KeepsFault g tail (Err Ssd) = ⊥
-KeepsFault g tail (Err NotAStore) = ⊥
-KeepsFault g tail (Err TooSmall) = ⊥
-KeepsFault g tail (Err LogEnded) = ⊥
-KeepsFault g tail (Err NoMemory) = ⊥
+-- why a log is not read: evidence fails its check
+abbrev pub KeepsEvidence : Sizes → ℕ → OpenError → Type 0
+KeepsEvidence g tail (Damaged kept) = IsLogEvidence g tail kept
+KeepsEvidence g tail Nvm = Unit {0}
+KeepsEvidence g tail Ssd = ⊥
+KeepsEvidence g tail NotAStore = ⊥
+KeepsEvidence g tail TooSmall = ⊥
+KeepsEvidence g tail LogEnded = ⊥
+KeepsEvidence g tail NoMemory = ⊥
 
--- and where the device is told, no check fails, or that is the first one
+abbrev pub KeepsFault : {T : Type 0} → Sizes → ℕ → Result T OpenError → Type 0
+KeepsFault g tail result = IfErr result (λ why. KeepsEvidence g tail why)
+
+-- and where the device is told, it is the first fault; none is found where the log is read
+abbrev pub IsFoundFault : Option LogFault → (ℕ → Line) → ℕ → OpenError → Type 0
+IsFoundFault found line_at tail (Damaged kept) = IsFirstFault found line_at tail kept
+IsFoundFault found line_at tail Nvm = Unit {0}
+IsFoundFault found line_at tail Ssd = Unit {0}
+IsFoundFault found line_at tail NotAStore = Unit {0}
+IsFoundFault found line_at tail TooSmall = Unit {0}
+IsFoundFault found line_at tail LogEnded = Unit {0}
+IsFoundFault found line_at tail NoMemory = Unit {0}
+
 abbrev pub FindsFault : {T : Type 0} → Option LogFault → (ℕ → Line) → ℕ → Result T OpenError → Type 0
 FindsFault found line_at tail (Ok done) = found ≡ None
-FindsFault found line_at tail (Err (Damaged kept)) = IsFirstFault found line_at tail kept
-FindsFault found line_at tail (Err Nvm) = Unit {0}
-FindsFault found line_at tail (Err Ssd) = Unit {0}
-FindsFault found line_at tail (Err NotAStore) = Unit {0}
-FindsFault found line_at tail (Err TooSmall) = Unit {0}
-FindsFault found line_at tail (Err LogEnded) = Unit {0}
-FindsFault found line_at tail (Err NoMemory) = Unit {0}
+FindsFault found line_at tail (Err why) = IsFoundFault found line_at tail why
 
 -- the first check of a head that fails in a log whose lines are these
 abbrev pub fault_in : Log → (ℕ → Line) → Option LogFault

@@ -5,3 +5,5 @@ pub mod Recovering
 pub mod Reading
 pub mod Heads
 pub mod Replaying
+pub mod Errors
+pub mod Opening

@@ -1,9 +1,12 @@
 //! Why a store is not made, or not recovered.
 ghost use Rattle.std.specs.Prelude.{◌≡◌};
-ghost use Rattle.recovery.specs.declared.errors.OpenError.TheVariants.{Nvm};
+ghost use Rattle.recovery.specs.declared.errors.OpenError.TheVariants.{Nvm, NoMemory as Short};
+ghost use Rattle.recovery.specs.Errors.{open_error};
 
 use devices::Failed;
 use line_pages::Evidence;
+use nvm_layout::SuperError;
+use nvm_model::NoMemory;
 
 /// Why a store was not made.
 #[derive(Clone, Copy, Debug, PartialEq, Eq)]
@@ -40,5 +43,27 @@ impl From<Failed> for OpenError {
 
     fn from(_failed: Failed) -> OpenError {
         OpenError::Nvm
+    }
+}
+
+impl From<SuperError> for OpenError {
+    ghost from_gives = { λ error why. why ≡ open_error error };
+
+    fn from(error: SuperError) -> OpenError {
+        match error {
+            SuperError::Nvm => OpenError::Nvm,
+            SuperError::NotAStore => OpenError::NotAStore,
+            SuperError::TooSmall => OpenError::TooSmall,
+            SuperError::LogEnded => OpenError::LogEnded,
+            SuperError::Damaged(evidence) => OpenError::Damaged(evidence),
+        }
+    }
+}
+
+impl From<NoMemory> for OpenError {
+    ghost from_gives = { λ _ why. why ≡ Short };
+
+    fn from(_short: NoMemory) -> OpenError {
+        OpenError::NoMemory
     }
 }

@@ -5,8 +5,10 @@
 mod checking;
 mod errors;
 mod formatting;
+mod opening;
 mod replaying;
 mod storing;
 
 pub use errors::{FormatError, OpenError};
 pub use formatting::{format, format_at};
+pub use opening::{Parts, recover};
