@@ -9,4 +9,5 @@ pub mod HeadLaws
 pub mod ReplayingLaws
 pub mod GroupLaws
 pub mod ReopenLaws
+pub mod OpeningLaws
 pub mod RecoverLaws

@@ -25,6 +25,7 @@ use Rattle.store_meaning.proofs.RecoveredLaws.{lines_of-same}
 use Rattle.store_meaning.proofs.StartLaws.{start_facts, start_done, start_single, start_super, start_empty}
 use Rattle.store_laws.specs.Calls.{checkpoint_calls}
 use Rattle.store_laws.specs.OpenFacts.{OpenFacts, keeping, super_with}
+use Rattle.store_laws.specs.Steps.{KeepsOpen}
 use Rattle.store_laws.specs.ShownPages.{words_in, pages_in, committed_in}
 use Rattle.store_laws.proofs.CheckpointLaws.{grown_leaves, grown_facts}
 use Rattle.store_laws.proofs.OpenLaws.{pages_by, facts_can_store}
@@ -199,3 +200,17 @@ module _ (g : Sizes) (start tail lines blocks : ℕ) (s : State) (stands : Stand
       ]
     ]
   ]
+
+  -- So the calls keep the facts of an open store, and make the current lines what recovery gave before.
+  pub recover_step : KeepsOpen g tail tail (λ lines. committed_in s) (recover_calls g log₀ tail) s
+  recover_step = record { leads = record { facts = recover_open; moments = λ mid amid i left. (recover_moment mid amid i left).pages }; current = recover_current }
+
+-- Devices that stand for a store leave no image but such a store.
+pub stands_leave : (lines blocks : ℕ) (s : State) → Stands whole_lines lines blocks s → LeavesStores (super_of (current s)).sizes (committed_in s) s
+stands_leave lines blocks s stands i left =
+    let facts : StoreFacts (keeping (super_of (current s)).sizes (recovered whole_lines (current s)) (recovered whole_lines (current s))) s = stands_facts lines blocks s stands in
+    record {
+      store = facts.stores i left;
+      sizes = facts.sizes i left;
+      pages = pages_by (keeping (super_of (current s)).sizes (recovered whole_lines (current s)) (recovered whole_lines (current s))) s facts (recovered whole_lines (current s)) (λ n p l w. refl) i left;
+    }

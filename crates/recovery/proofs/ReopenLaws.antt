@@ -75,6 +75,10 @@ module _ (gates : Gates) (log : Log) (of : IsOf log gates) (a b : Standing) (goe
   calls_are e =
       ap (λ (x : Super). recover_calls x.sizes (grouped no_log (entries whole_lines 0 (from (log_line x.sizes x.drained i) x.start (x.tail - x.start)))) x.tail) (sym (super_is e))
 
+  -- where a check fails, it is not found that none does
+  no_refusal : super_of i ≡ gates_of gates → (fault : LogFault) → image_log_check whole_lines i ≡ Some fault → fault_in log (held_lines log a) ≡ None → ⊥
+  no_refusal e fault some none = let both : Some fault ≡ None = sym some ∙ sym (fault_is e) ∙ none in absurd (cc)
+
   -- the check stops
   pub check_stops : {T U : Type 0} (why : OpenError) (r : Result T OpenError) → r ≡ Err why → ChecksLog {T = U} log a (Err why) → ReopensLog gates a b r
   check_stops {T} why r is checks =
@@ -86,6 +90,7 @@ module _ (gates : Gates) (log : Log) (of : IsOf log gates) (a b : Standing) (goe
           only = only_fault g log.tail (fault_in log (held_lines log a)) (held_lines log a) why checks.keeps (checks.finds told) (fault_is e ∙ none);
         };
         nothing = λ told e other. stays;
+        refused = λ told e fault some. stays;
       })
 
   -- no check fails, and the log is replayed
@@ -108,6 +113,7 @@ module _ (gates : Gates) (log : Log) (of : IsOf log gates) (a b : Standing) (goe
           let made : Writes {T = Unit {0}} (replay_calls g (grouped no_log (entries_from (held_lines log a) log.tail log.start))) a d (Err why) = replayed (Err why) replays told in
           record { makes = makes_as (calls_are e) (makes_stop (settle_calls g log.tail) {e = why} (Err why) (err_is T why) made.makes); only = made.only };
       nothing = λ told e other. absurd (other (replayed (Err why) replays told).only);
+      refused = λ told e fault some. absurd (no_refusal e fault some (checks.finds told));
     })
 
     -- and emptied
@@ -123,6 +129,7 @@ module _ (gates : Gates) (log : Log) (of : IsOf log gates) (a b : Standing) (goe
             let made = makes_as (calls_are e) both in
             record { makes = record { whole = λ told. tt; part = made.part }; only = refl };
         nothing = λ told e other. absurd (other refl);
+        refused = λ told e fault some. absurd (no_refusal e fault some (checks.finds told));
       })
 
       pub reopened : {T : Type 0} (done : T) → MakesAll {T = Unit {0}} {E = Failed} (settle_calls g log.tail) d f (Ok tt) → ReopensLog gates a f (Ok done)
@@ -136,6 +143,7 @@ module _ (gates : Gates) (log : Log) (of : IsOf log gates) (a b : Standing) (goe
             let made = makes_as (calls_are e) both in
             record { makes = record { whole = made.whole; part = made.part }; only = tt };
         nothing = λ told e. tt;
+        refused = λ told e fault some. absurd (no_refusal e fault some (checks.finds told));
       }
 
 -- the ring of a superblock that passes its checks

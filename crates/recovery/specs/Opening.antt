@@ -1,5 +1,5 @@
 -- What a recovery answers, what it leaves, and what stays at each of its moments.
-use Rattle.std.specs.Prelude.{◌≡◌, ◌≢◌, ◌⊎◌, ℕ, ◌^◌, ◌≤◌, true, List, slice_index, IsTrue, Result, Ok, Err, IfOk, IfErr, None}
+use Rattle.std.specs.Prelude.{◌≡◌, ◌≢◌, ◌⊎◌, ℕ, ◌^◌, ◌≤◌, true, List, slice_index, IsTrue, Result, Ok, Err, IfOk, IfErr, Some, None}
 use Rattle.devices.specs.State.{Image, current, fresh}
 use Rattle.devices.specs.World.{Standing, Moments, Stays, now}
 use Rattle.line_pages.specs.Pairs.{no_pairs}
@@ -13,6 +13,7 @@ use Rattle.nvm_layout.specs.Sizes.{sizes_of}
 use Rattle.nvm_layout.specs.declared.superblock.Super.{Super as Gates}
 use Rattle.nvm_log.specs.declared.log.Log.{Log}
 use Rattle.store_meaning.specs.Layout.{is_allowed, pages, nvm_lines, ssd_blocks}
+use Rattle.store_meaning.specs.Format.{LogFault}
 use Rattle.store_meaning.specs.Format.Format.{whole_lines}
 use Rattle.store_meaning.specs.Recovered.{super_of, log_of, log_line, image_log_check}
 use Rattle.store_meaning.specs.InOrder.{Stands}
@@ -106,6 +107,7 @@ pub record ReopensLog {T : Type 0} (gates : Gates) (old new : Standing) (result 
   pub writes : IsTrue old.told → super_of (current (now old)) ≡ gates_of gates → image_log_check whole_lines (current (now old)) ≡ None
       → Writes (recover_calls (super_of (current (now old))).sizes (log_of whole_lines (current (now old))) (super_of (current (now old))).tail) old new result
   pub nothing : IsTrue old.told → super_of (current (now old)) ≡ gates_of gates → IfErr result (λ why. why ≢ Nvm → Stays old new)
+  pub refused : IsTrue old.told → super_of (current (now old)) ≡ gates_of gates → (fault : LogFault) → image_log_check whole_lines (current (now old)) ≡ Some fault → Stays old new
 
 -- the log is that of the superblock, empty
 abbrev pub IsReopened : Gates → Result Log OpenError → Type 0
