@@ -10,4 +10,5 @@ pub mod ReplayingLaws
 pub mod GroupLaws
 pub mod ReopenLaws
 pub mod OpeningLaws
+pub mod CompleteLaws
 pub mod RecoverLaws

@@ -15,7 +15,7 @@ use Rattle.nvm_log.specs.declared.log.Log.{Log}
 use Rattle.store_meaning.specs.Layout.{is_allowed, pages, nvm_lines, ssd_blocks}
 use Rattle.store_meaning.specs.Format.{LogFault}
 use Rattle.store_meaning.specs.Format.Format.{whole_lines}
-use Rattle.store_meaning.specs.Recovered.{super_of, log_of, log_line, image_log_check}
+use Rattle.store_meaning.specs.Recovered.{super_of, log_of, log_line, image_log_check, IsStore}
 use Rattle.store_meaning.specs.InOrder.{Stands}
 use Rattle.store_laws.specs.OpenFacts.{OpenFacts}
 use Rattle.store_laws.specs.ShownPages.{pages_in, committed_in}
@@ -69,6 +69,18 @@ IsFound i (Err NoMemory) = Unit {0}
 
 abbrev pub FindsInLog : Standing → Result Parts OpenError → Type 0
 FindsInLog old result = IsTrue old.told → IsFound (current (now old)) result
+
+-- The devices are told, and hold a store that fits them and passes its checks, and whose offsets go on.
+pub record HoldsStore (old : Standing) : Type 0 where
+  pub told : IsTrue old.told
+  pub store : IsStore whole_lines (current (now old))
+  pub nvm : nvm_lines (super_of (current (now old))).sizes ≤ old.lines
+  pub ssd : ssd_blocks (super_of (current (now old))).sizes ≤ old.blocks
+  pub tail : (super_of (current (now old))).tail ≤ 2 ^ 61
+
+-- then only a fault or want of memory stops the opening
+abbrev pub IsComplete : Standing → Result Parts OpenError → Type 0
+IsComplete old result = HoldsStore old → IfErr result (λ why. (why ≡ Nvm) ⊎ (why ≡ NoMemory))
 
 -- but for a fault, a refusal changes no device
 abbrev pub ChangesNothing : {T : Type 0} → Standing → Standing → Result T OpenError → Type 0

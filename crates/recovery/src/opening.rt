@@ -30,7 +30,7 @@ pub struct Parts {
     pub geometry: Geometry,
 }
 
-ghost use Rattle.recovery.specs.Opening.{Answers, FindsInLog, ChangesNothing, KeepsStore, Recovered, AreParts, ReopensLog, IsReopened};
+ghost use Rattle.recovery.specs.Opening.{Answers, FindsInLog, IsComplete, ChangesNothing, KeepsStore, Recovered, AreParts, ReopensLog, IsReopened};
 
 /// Recovers the store that the devices hold. The superblock is read and checked; then all memory is taken; then each head of
 /// the log is read and checked; then the log is replayed over the homes, group by group. Every line of every page is flushed, a
@@ -42,6 +42,7 @@ pub fn recover<D: Devices>(alloc: Global, dev: &mut D) -> Result<Parts, OpenErro
     ensures answers { 4 ≤ (D.standing dev.old).lines → Answers (D.standing dev.old) result }
     ensures small { (D.standing dev.old).lines < 4 → result ≡ Err OpenError.TooSmall }
     ensures finds { FindsInLog (D.standing dev.old) result }
+    ensures complete { IsComplete (D.standing dev.old) result }
     ensures cause { OpenCause (D.standing dev.old) (D.standing dev.new) result }
 
     // What is recovered.

@@ -2,6 +2,7 @@
 use Rattle.std.proofs.Common.{◌≡◌, ◌≢◌, ap, ◌∙◌, Err, Ok, Result}
 use Rattle.std.proofs.lemmas.Result.{err_from_is_err_and}
 use Rattle.recovery.specs.declared.errors.OpenError.{OpenError}
+use Rattle.recovery.proofs.CompleteLaws.{complete}
 use Rattle.recovery.proofs.OpeningLaws.{keeps_still, reopened_keeps, reopened_nothing, reopened_parts, found_done, found_fault, found_super, super_answers, memory_answers, log_answers}
 use Rattle.recovery.proofs.opening.recover.Goals as goal
 
@@ -66,3 +67,9 @@ returns-in_err-log-clause-finds g c = λ told.
     let exit = err_from_is_err_and c.from_residual-in_err-log.result c.from_residual-in_err-log.ensures.1 in
     found_fault c.in_ok-gates.gates _ _ _ read.goes read.stays c.in_err-log.ensures.goes told (read.opened told) read.sound c.in_err-log.field-0.0 c.from_residual-in_err-log.result
     (exit.1 ∙ ap (λ (why : OpenError). Err why) exit.2) c.in_err-log.ensures.reopens
+
+pub returns-in_err-gates-clause-complete : goal.returns-in_err-gates-clause-complete
+returns-in_err-gates-clause-complete g c = complete _ c.from_residual.result (returns-in_err-gates-clause-answers g c) (returns-in_err-gates-clause-finds g c)
+
+pub returns-in_err-log-clause-complete : goal.returns-in_err-log-clause-complete
+returns-in_err-log-clause-complete g c = complete _ c.from_residual-in_err-log.result (returns-in_err-log-clause-answers g c) (returns-in_err-log-clause-finds g c)
