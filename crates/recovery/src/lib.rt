@@ -8,6 +8,8 @@ mod formatting;
 mod opening;
 mod replaying;
 mod storing;
+#[cfg(test)]
+mod tests;
 
 pub use errors::{FormatError, OpenError};
 pub use formatting::{format, format_at};
