@@ -4,7 +4,7 @@ use Rattle.line_pages.specs.Lines.{Lines}
 use Rattle.line_pages.specs.Bytes.{bytes_of}
 use Rattle.line_pages.specs.Standing.{Standing, KeepsLines}
 use Rattle.slotted_page.specs.declared.root.Expect.{Expect}
-use Rattle.slotted_page.specs.declared.lookup.Spot.TheVariants.{Child}
+use Rattle.slotted_page.specs.declared.spot.Spot.TheVariants.{Child}
 use Rattle.slotted_page.specs.Search.{IsSafeSpot}
 use Rattle.slotted_page.specs.Spans.{spans}
 use Rattle.slotted_page.specs.Node.{children, IsWellFormed}

@@ -18,7 +18,7 @@ use Rattle.slotted_page.specs.Node.{page_kind, page_level, entry_count, heap_sta
 use Rattle.bplus_tree.specs.Edit.{loose}
 use Rattle.bplus_tree.specs.Tree.{IsTree}
 use Rattle.bplus_tree.proofs.SearchLaws.{well_formed_top}
-use Rattle.slotted_page.specs.Search.{ShowsDamage}
+use Rattle.page_search.specs.Answers.{ShowsDamage}
 use Rattle.bplus_tree.specs.Space.{word, high_of, free_head, is_free_page, FitsHeader, IsFreeList, IsPageEvidence, IsSpaceDamage, header_checks, take_checks}
 use Rattle.bplus_tree.specs.Damage.{IsFault, IsShort, spare_pages}
 use Rattle.bplus_tree.specs.Moves.{ArePart, Moves}

@@ -4,7 +4,8 @@ ghost use Rattle.line_pages.specs.Bytes.{bytes_of};
 ghost use Rattle.line_pages.specs.Standing.{Continues, HasCause, ReadsPage, KeepsLines, AddsReads};
 ghost use Rattle.slotted_page.specs.Rows.{Row, row_next, last_key};
 ghost use Rattle.slotted_page.specs.Node.{IsWellFormed, leaf_rows, children as children_of};
-ghost use Rattle.slotted_page.specs.Search.{is_root_span, IsNodeDamage, ShowsDamage};
+ghost use Rattle.slotted_page.specs.Search.{is_root_span, IsNodeDamage};
+ghost use Rattle.page_search.specs.Answers.{ShowsDamage};
 ghost use Rattle.bplus_tree.specs.Tree.{IsTree, IsRooted, tree_rows, tree_pages};
 ghost use Rattle.bplus_tree.specs.Way.{AreReadsIn};
 ghost use Rattle.bplus_tree.specs.Damage.{IsFault};
@@ -13,7 +14,8 @@ ghost use Rattle.bplus_tree.specs.Next.{Reaches, most_visits};
 use crate::root::{Root, child_expect, root_expect};
 use crate::row::row_at;
 use line_pages::{Pages, Stop, read_word};
-use slotted_page::{Expect, Spot, Value, Work, find};
+use page_search::find;
+use slotted_page::{Expect, Spot, Value, Work};
 
 /// The row at a place of a leaf, whose access is open, if it has so many.
 fn row_from<P: Pages>(

@@ -11,7 +11,7 @@ use Rattle.bplus_tree.specs.Next.{most_visits}
 use Rattle.bplus_tree.proofs.SearchLaws.{well_formed_top, sound_child}
 use Rattle.bplus_tree.proofs.NextLaws.{most_some, most_twice, next_past, next_gap, next_row, after_child, child_answer, some_in_child, none_in_child}
 use Rattle.bplus_tree.proofs.OrderLaws.{tree_rows-ascend}
-use Rattle.slotted_page.proofs.OpenLaws.{then_reads}
+use Rattle.page_search.proofs.OpenLaws.{then_reads}
 use Rattle.bplus_tree.proofs.NextReads.{child_tree, reads_under, reads_child, reads_on, reads_top}
 use Rattle.bplus_tree.proofs.next.+next_in.Goals as goal
 
