@@ -1,12 +1,11 @@
 -- The end of a transaction, by what it does to the book and the device of a store.
 use Rattle.std.proofs.Common.{◌≡◌, ◌+◌, ◌-◌, ◌*◌, ◌^◌, ◌≤◌, true, false, refl, sym, ap, ◌∙◌, subst, arith, IsTrue, Result}
-use Rattle.std.specs.Prelude.{OnOk, IfErr}
+use Rattle.std.specs.Prelude.{OnOk}
 use Rattle.devices.specs.State.{State, current, fresh}
 use Rattle.devices.specs.World.{Standing as Device, Goes, MakesAll, now}
 use Rattle.line_pages.specs.Lines.{Lines}
 use Rattle.line_pages.specs.LineSets.{pages_of}
 use Rattle.line_pages.specs.declared.stop.Stop.{Stop}
-use Rattle.line_pages.specs.declared.stop.Stop.TheVariants.{Nvm}
 use Rattle.store_meaning.specs.Layout.{pages, nvm_lines, ring_lines, is_allowed}
 use Rattle.store_meaning.specs.Put.{append_calls}
 use Rattle.store_meaning.specs.Append.{commit_lines}

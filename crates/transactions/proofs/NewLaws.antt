@@ -1,13 +1,11 @@
 -- The book of a store just opened, whose log is empty.
-use Rattle.std.proofs.Common.{◌≡◌, ℕ, ◌-◌, ◌^◌, ◌≤◌, true, [], sym, ap, ◌∙◌, subst, arith, IsTrue}
+use Rattle.std.proofs.Common.{◌≡◌, ℕ, ◌^◌, ◌≤◌, true, sym, ap, ◌∙◌, subst, arith, IsTrue}
 use Rattle.devices.specs.State.{State, current, fresh}
 use Rattle.devices.specs.World.{Standing as Device, now}
 use Rattle.line_pages.specs.LineSets.{pages_of}
 use Rattle.line_pages.specs.declared.line_set.LineSet.{LineSet}
 use Rattle.store_meaning.specs.Layout.{Sizes, pages, nvm_lines, is_allowed}
-use Rattle.store_meaning.specs.Recovered.{Super, from, log_line, log_lines}
 use Rattle.store_laws.specs.OpenFacts.{OpenFacts}
-use Rattle.store_laws.proofs.GroupLaws.{group_none}
 use Rattle.nvm_layout.specs.Sizes.{sizes_of}
 use Rattle.nvm_log.specs.declared.log.Log.{Log}
 use Rattle.transactions.specs.declared.book.Book.{Book}
