@@ -1,9 +1,8 @@
 -- The path of a key ends at its leaf, and a value of the same length is written there alone.
-use Rattle.std.proofs.Common.{◌≡◌, ℕ, zero, suc, ◌+◌, ◌-◌, ◌≤◌, Bool, true, false, List, [], ◌∷◌, IsTrue, refl, sym, ap, subst, ◌∙◌, arith}
+use Rattle.std.proofs.Common.{◌≡◌, ℕ, zero, suc, ◌-◌, Bool, true, List, [], ◌∷◌, IsTrue, sym, ap, subst, ◌∙◌, arith}
 use Rattle.line_pages.specs.Lines.{Lines}
 use Rattle.line_pages.specs.Bytes.{bytes_of}
 use Rattle.line_pages.specs.Standing.{Standing}
-use Rattle.slotted_page.specs.declared.root.Expect.{Expect}
 use Rattle.slotted_page.specs.Rows.{Row, row_get, last_key}
 use Rattle.slotted_page.specs.Spans.{Span}
 use Rattle.slotted_page.specs.Node.{leaf_rows, children}
@@ -13,7 +12,7 @@ use Rattle.bplus_tree.specs.declared.root.Root.{Root}
 use Rattle.bplus_tree.specs.declared.path.Place.{Place}
 use Rattle.bplus_tree.specs.declared.path.Passed.{Passed}
 use Rattle.bplus_tree.specs.Tree.{IsTree, IsRooted, tree_rows, path, child_for, leaf_for}
-use Rattle.bplus_tree.specs.Path.{Leads, LeadsTo, root_place}
+use Rattle.bplus_tree.specs.Path.{Leads, root_place}
 use Rattle.bplus_tree.specs.Record.{HoldsLength, WritesRecord, PutsAgain, PutsRecord, record_at}
 use Rattle.bplus_tree.specs.Written.{Meets, WritesOnly, WritesNothing}
 use Rattle.bplus_tree.proofs.SearchLaws.{well_formed_top}

@@ -1,5 +1,5 @@
 -- The search for the next row reads pages of the tree alone.
-use Rattle.std.proofs.Common.{◌≡◌, ℕ, zero, suc, ◌+◌, ◌-◌, ◌≤◌, Bool, true, false, cond, inl, inr, List, [], ◌∷◌, ◌++◌, filter, flat_map, append-nil, length, Option, Some, None, Result, Ok, Err, OnOk, refl, sym, ap, subst, ◌∙◌, arith, slice_get}
+use Rattle.std.proofs.Common.{◌≡◌, ℕ, zero, suc, ◌+◌, ◌-◌, ◌≤◌, false, cond, inl, inr, List, [], ◌∷◌, ◌++◌, flat_map, append-nil, length, Option, Some, None, Result, Ok, Err, OnOk, refl, sym, ap, subst, ◌∙◌, arith, slice_get}
 use Rattle.std.proofs.lemmas.Bool.{cases_Bool, eq-eqb}
 use Rattle.std.proofs.lemmas.List.Concat.{flat_map-append}
 use Rattle.line_pages.specs.Lines.{Lines}
@@ -10,7 +10,7 @@ use Rattle.line_pages.proofs.TouchLaws.{same_access, accesses_from-begun, stays_
 use Rattle.line_pages.proofs.StandingLaws.{page_adds, AddsReads-trans}
 use Rattle.slotted_page.specs.declared.root.Expect.{Expect}
 use Rattle.slotted_page.specs.Rows.{Each}
-use Rattle.slotted_page.specs.Spans.{Span, spans}
+use Rattle.slotted_page.specs.Spans.{spans}
 use Rattle.slotted_page.specs.Node.{Child, children}
 use Rattle.bplus_tree.specs.Tree.{times, IsTree, tree_pages}
 use Rattle.bplus_tree.specs.Way.{AreReadsIn}

@@ -1,5 +1,5 @@
 -- The tree of a root: what its calls may lack.
-use Rattle.std.proofs.Common.{◌≡◌, ℕ, suc, ◌+◌, ◌-◌, ◌/◌, ◌<◌, ◌≤◌, inl, inr, Bool, true, List, [], ◌∷◌, ◌++◌, length, Result, IfErr, refl, sym, ap, subst, ◌∙◌, arith, nat_lt}
+use Rattle.std.proofs.Common.{◌≡◌, ℕ, ◌+◌, ◌-◌, ◌/◌, ◌<◌, ◌≤◌, inl, inr, true, List, [], ◌∷◌, ◌++◌, length, Result, IfErr, refl, sym, ap, subst, ◌∙◌, arith}
 use Rattle.std.proofs.lemmas.Bool.{cases_lt, cases_eq, lt-ltb, le-ltb, eq-eqb, ne_eqb}
 use Rattle.line_pages.specs.declared.stop.Stop.{Stop}
 use Rattle.line_pages.specs.Lines.{Lines}
@@ -8,7 +8,7 @@ use Rattle.bplus_tree.specs.declared.root.Root.{Root}
 use Rattle.bplus_tree.specs.declared.path.Place.{Place}
 use Rattle.bplus_tree.specs.declared.outcome.Outcome.TheVariants.{Cut}
 use Rattle.bplus_tree.specs.Space.{IsFreeList, FitsHeader}
-use Rattle.bplus_tree.specs.Tree.{tree_pages, tree_rows}
+use Rattle.bplus_tree.specs.Tree.{tree_rows}
 use Rattle.bplus_tree.specs.Moves.{ArePart}
 use Rattle.bplus_tree.specs.Damage.{StandsIn, StopsFor, IsShort, IsLack, spare_pages, pages_at_hand}
 use Rattle.bplus_tree.specs.Edit.{Edits}

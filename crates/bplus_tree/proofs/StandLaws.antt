@@ -1,21 +1,20 @@
 -- Trees beside a free list along the way to a key.
-use Rattle.std.proofs.Common.{◌≡◌, ◌≢◌, ℕ, suc, ◌+◌, ◌-◌, ◌<◌, ◌≤◌, Bool, false, List, [], ◌∷◌, ◌++◌, length, Some, IsTrue, Result, IfErr, refl, sym, ap, subst, ◌∙◌, arith, slice_get}
+use Rattle.std.proofs.Common.{◌≡◌, ℕ, suc, ◌+◌, ◌≤◌, Bool, false, List, [], ◌∷◌, ◌++◌, IsTrue, Result, IfErr, refl, sym, ap, subst, arith}
 use Rattle.line_pages.specs.declared.stop.Stop.{Stop}
 use Rattle.line_pages.specs.Lines.{Lines}
-use Rattle.line_pages.specs.Bytes.{bytes_of, page_bytes}
-use Rattle.slotted_page.specs.declared.root.Expect.{Expect}
+use Rattle.line_pages.specs.Bytes.{bytes_of}
 use Rattle.slotted_page.specs.Rows.{Row}
-use Rattle.slotted_page.specs.Spans.{Span, spans}
+use Rattle.slotted_page.specs.Spans.{spans}
 use Rattle.slotted_page.specs.Node.{Child, children, IsWellFormed}
 use Rattle.bplus_tree.specs.declared.outcome.Outcome.{Outcome}
 use Rattle.bplus_tree.specs.declared.outcome.Outcome.TheVariants.{Whole, Short, Cut, Alone}
 use Rattle.bplus_tree.specs.declared.path.Place.{Place}
 use Rattle.bplus_tree.specs.declared.path.Passed.{Passed}
-use Rattle.bplus_tree.specs.Space.{high_of, free_head, IsFreeList, FitsHeader}
-use Rattle.bplus_tree.specs.Tree.{times, IsTree, tree_pages, tree_rows, SameOn}
+use Rattle.bplus_tree.specs.Space.{free_head, IsFreeList, FitsHeader}
+use Rattle.bplus_tree.specs.Tree.{times, IsTree, tree_pages, tree_rows}
 use Rattle.bplus_tree.specs.Moves.{ArePart, Moves}
 use Rattle.bplus_tree.specs.Damage.{StopsFor, IsShort, spare_pages}
-use Rattle.bplus_tree.specs.Edit.{pages_of, Became, Edits, Stored, own, AddsChild}
+use Rattle.bplus_tree.specs.Edit.{pages_of, Became, Edits, own}
 use Rattle.bplus_tree.specs.Path.{LeadsTo, Leads, Settles, MayFollow, StandsAt, TakesFor}
 use Rattle.bplus_tree.proofs.TreeLaws.{times-append, SameOn-first}
 use Rattle.bplus_tree.proofs.OrderLaws.{IsChildTree, Each-get}

@@ -1,15 +1,13 @@
 -- The lines that the touches of calls write.
-use Rattle.std.proofs.Common.{◌≡◌, ◌≢◌, ℕ, ◌+◌, ◌*◌, ◌<◌, ◌≤◌, Bool, true, false, inl, inr, List, [], ◌∷◌, ◌++◌, cond, filter, append_assoc, append-nil, length, Result, Ok, Err, OnOk, refl, sym, ap, subst, ◌∙◌, arith}
-use Rattle.std.specs.Str.{bytes_eq}
-use Rattle.std.proofs.lemmas.Slice.Eq.{bytes_eq-Decides}
-use Rattle.std.proofs.lemmas.Bool.{cases_Bool, cases_lt}
+use Rattle.std.proofs.Common.{◌≡◌, ℕ, true, false, inl, inr, List, [], ◌∷◌, ◌++◌, cond, filter, append_assoc, append-nil, Result, Ok, Err, OnOk, refl, sym, ap, subst, ◌∙◌}
+use Rattle.std.proofs.lemmas.Bool.{cases_Bool}
 use Rattle.nvm_model.specs.declared.line.Line.{Line}
 use Rattle.line_pages.specs.declared.stop.Stop.{Stop}
 use Rattle.line_pages.specs.Touch.{Touch, touch_of, writes_line}
 use Rattle.line_pages.specs.Standing.{Standing, Writes, ReadsPage}
 use Rattle.line_pages.proofs.TouchLaws.{writes-append, alone_reads}
 use Rattle.slotted_page.specs.Rows.{Each}
-use Rattle.bplus_tree.specs.Written.{Differs, WritesOnly, WritesNothing, line_part}
+use Rattle.bplus_tree.specs.Written.{WritesOnly, WritesNothing}
 
 only-append : (page : ℕ) (Fact : ℕ → Type 0) (xs ys : List Touch) → Each (λ (t : Touch). t.writes ≡ true → (t.page ≡ page) × Fact t.line) xs
     → Each (λ (t : Touch). t.writes ≡ true → (t.page ≡ page) × Fact t.line) ys → Each (λ (t : Touch). t.writes ≡ true → (t.page ≡ page) × Fact t.line) (xs ++ ys)

@@ -25,6 +25,9 @@ fn main(rt: HostRuntime) -> Result<(), Ended> {
     for _ in 0..rounds {
         found = found.saturating_add(grown.get_all(rows)?);
     }
-    println!(rt; "new rows {fresh}, found {found}, levels {}", grown.levels())?;
+    println!(rt;
+        "new rows {fresh}, found {found}, levels {}",
+        grown.levels()
+    )?;
     Ok(())
 }

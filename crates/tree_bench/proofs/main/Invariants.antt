@@ -1,5 +1,4 @@
 -- The counts are any numbers.
-use Rattle.std.proofs.Common.{ℕ}
 use Rattle.tree_bench.proofs.main.Given as goal
 
 abbrev pub invariant-loop : goal.invariant-loop

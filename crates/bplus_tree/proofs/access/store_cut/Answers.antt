@@ -5,7 +5,7 @@ use Rattle.bplus_tree.specs.Written.{Rewrites}
 use Rattle.bplus_tree.proofs.WrittenLaws.{changed_most}
 use Rattle.slotted_page.specs.declared.work.Work.{Work}
 use Rattle.bplus_tree.proofs.Storing.{stored_cut}
-use Rattle.bplus_tree.proofs.SoundLaws.{fault_short, sound_cut}
+use Rattle.bplus_tree.proofs.SoundLaws.{sound_cut}
 use Rattle.bplus_tree.proofs.access.store_cut.Goals as goal
 
 pub write_changes-requires-clause-room : goal.write_changes-requires-clause-room

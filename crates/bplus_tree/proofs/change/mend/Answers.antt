@@ -1,4 +1,4 @@
-use Rattle.std.proofs.Common.{rules, ◌≡◌, ◌-◌, refl, IfErr, IsTrue, sym, subst, ap, ◌∙◌}
+use Rattle.std.proofs.Common.{rules, ◌≡◌, refl, IfErr, IsTrue, sym, subst, ◌∙◌}
 use Rattle.line_pages.specs.Lines.{Lines}
 use Rattle.bplus_tree.specs.Space.{FitsHeader}
 use Rattle.bplus_tree.specs.Damage.{IsFault}

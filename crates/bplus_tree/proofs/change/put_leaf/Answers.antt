@@ -6,8 +6,7 @@ use Rattle.bplus_tree.specs.Written.{lines_changed}
 use Rattle.bplus_tree.proofs.WrittenLaws.{changed_most}
 use Rattle.bplus_tree.proofs.Storing.{spent_most, leaf_spent, leaf_edits, if_both}
 use Rattle.slotted_page.specs.Node.{leaf_rows}
-use Rattle.bplus_tree.specs.declared.outcome.Outcome.TheVariants.{Whole}
-use Rattle.bplus_tree.specs.Record.{HoldsLength, record_at}
+use Rattle.bplus_tree.specs.Record.{HoldsLength}
 use Rattle.bplus_tree.proofs.SameLength.{uncut_whole, outcome_whole, record_written}
 use Rattle.bplus_tree.proofs.LackLaws.{stored_sound}
 use Rattle.bplus_tree.proofs.change.put_leaf.Goals as goal

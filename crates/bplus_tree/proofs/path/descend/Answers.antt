@@ -1,8 +1,6 @@
-use Rattle.std.proofs.Common.{rules, ◌≡◌, ◌++◌, ◌∷◌, [], arith, refl, IsTrue, sym, subst, ap, ◌∙◌}
+use Rattle.std.proofs.Common.{rules, arith, refl, IsTrue, sym, subst, ◌∙◌}
 use Rattle.line_pages.proofs.StandingLaws.{Continues-refl, Continues-trans}
 use Rattle.bplus_tree.specs.declared.path.Passed.{Passed}
-use Rattle.slotted_page.specs.declared.root.Expect.{Expect}
-use Rattle.bplus_tree.specs.Path.{Leads}
 use Rattle.std.specs.Prelude.{List}
 use Rattle.bplus_tree.proofs.PathLaws.{Descended, descended_on}
 use Rattle.std.proofs.Common.{IfErr}

@@ -1,19 +1,15 @@
-use Rattle.std.proofs.Common.{length, ◌≡◌, ◌++◌, ◌∷◌, [], inr, IsTrue, refl, sym, subst, ap, ◌∙◌, arith}
+use Rattle.std.proofs.Common.{length, inr, IsTrue, sym, subst, ◌∙◌}
 use Rattle.std.specs.Prelude.{List}
-use Rattle.line_pages.specs.Lines.{Lines}
 use Rattle.line_pages.proofs.StandingLaws.{Continues-trans}
 use Rattle.slotted_page.specs.Rows.{row_put}
 use Rattle.bplus_tree.specs.declared.path.Passed.{Passed}
 use Rattle.bplus_tree.proofs.Editing.{put_local}
-use Rattle.bplus_tree.proofs.PathLaws.{Climbing, CanSettle, Climbed, climb_start, climb_on, climb_end, can_settle}
+use Rattle.bplus_tree.proofs.PathLaws.{Climbing, CanSettle, climb_start, climb_on, climb_end, can_settle}
 use Rattle.std.proofs.Common.{rules, IfErr, ℕ, length, ◌<◌, ◌≤◌}
-use Rattle.line_pages.specs.Bytes.{bytes_of}
-use Rattle.slotted_page.specs.Node.{IsWellFormed}
 use Rattle.bplus_tree.specs.Space.{FitsHeader}
 use Rattle.bplus_tree.specs.Tree.{tree_rows}
-use Rattle.bplus_tree.specs.Damage.{IsFault, StopsFor, spare_pages}
+use Rattle.bplus_tree.specs.Damage.{StopsFor, spare_pages}
 use Rattle.bplus_tree.specs.Path.{StandsAbove, StopsAbove}
-use Rattle.bplus_tree.proofs.SearchLaws.{well_formed_top}
 use Rattle.bplus_tree.proofs.LackLaws.{fault_stops}
 use Rattle.bplus_tree.proofs.StandLaws.{leads_stands, leaf_stops}
 use Rattle.bplus_tree.proofs.PathLaws.{climb_stops, emptied}

@@ -1,4 +1,4 @@
-use Rattle.std.proofs.Common.{rules, length, IfErr, ◌≡◌, ◌≢◌, ◌≤◌, ◌-◌, ℕ, arith, refl, IsTrue, sym, subst, ap, ◌∙◌}
+use Rattle.std.proofs.Common.{rules, length, IfErr, ◌≢◌, ◌≤◌, ◌-◌, ℕ, arith, refl, IsTrue, sym, subst}
 use Rattle.slotted_page.specs.Rows.{row_put}
 use Rattle.bplus_tree.specs.declared.path.Place.{Place}
 use Rattle.bplus_tree.specs.declared.outcome.Outcome.TheVariants.{Whole, Short, Cut, Alone}
