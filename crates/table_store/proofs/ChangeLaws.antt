@@ -19,7 +19,7 @@ use Rattle.table_store.specs.declared.entry.Place.{Place}
 use Rattle.table_store.specs.Catalog.{entry_in, entries_from, entries, table_count, name_of, table_of, place_of, tables, catalog_checks, entry_rows, entry_pages}
 use Rattle.table_store.specs.Stored.{HasTree, all_pages, IsStore, with_rows}
 use Rattle.table_store.proofs.CatalogLaws.{AllHold, all_hold}
-use Rattle.table_store.proofs.LookupLaws.{root_at}
+use Rattle.table_store.specs.Changed.{root_at}
 use Rattle.table_store.proofs.TableLaws.{pages_of_place}
 use Rattle.table_store.proofs.RoomLaws.{length-entries}
 use Rattle.table_store.proofs.FrameLaws.{table_changed}
@@ -97,13 +97,13 @@ module _ (limits : Limits) (count : ℕ) (old mid new : Lines) (store : IsStore 
   header : new 0 0 ≡ mid 0 0
   header = ap (λ (all : Lines). all 0 0) after ∙ with_line-other_line 0 (2 + place.at) line mid 0 0 (λ e. omega (arith, e))
 
-  other_pages : (n : ℕ) → n ≢ 0 → new n ≡ mid n
+  pub other_pages : (n : ℕ) → n ≢ 0 → new n ≡ mid n
   other_pages n other = ap (λ (all : Lines). all n) after ∙ (λ i l. same l i)
     where
       same : (l : ℕ) → with_line 0 (2 + place.at) line mid n l ≡ mid n l
       same l = with_line-other_page 0 (2 + place.at) line mid n l other
 
-  high_new : high_of new ≡ high_of mid
+  pub high_new : high_of new ≡ high_of mid
   high_new = ap (λ (h : Line). word h 2) header
 
   entries_new : entries new ≡ part.front ++ entry' ∷ part.back

@@ -8,3 +8,5 @@ pub mod CreateLaws
 pub mod RoomLaws
 pub mod TouchesLaws
 pub mod ChangeLaws
+pub mod RowsLaws
+pub mod ScanLaws

@@ -1,5 +1,5 @@
 -- A look-up of a key in a table.
-use Rattle.std.proofs.Common.{Bool, Ok, Err, ◌≡◌, ◌≢◌, ℕ, ◌+◌, inl, inr, true, false, not, List, [], ◌∷◌, ◌++◌, map, length, refl, sym, ap, subst, ◌∙◌, arith, None, Some, Result, IfOk, IfErr, OnOk, nat_eq}
+use Rattle.std.proofs.Common.{Bool, Ok, Err, ◌≡◌, ◌≢◌, ℕ, ◌+◌, inl, inr, true, false, not, List, [], ◌∷◌, ◌++◌, map, length, refl, sym, ap, subst, ◌∙◌, arith, None, Option, Some, Result, IfOk, IfErr, OnOk, nat_eq}
 use Rattle.std.proofs.lemmas.Bool.{cases_Bool, ne_eqb, and_left}
 use Rattle.line_pages.specs.declared.stop.Stop.{Stop}
 use Rattle.line_pages.specs.Lines.{Lines}
@@ -7,40 +7,39 @@ use Rattle.line_pages.specs.Touch.{Access, begins, accesses_from, begun_from, la
 use Rattle.line_pages.specs.Standing.{Standing, ReadsPage, AddsReads}
 use Rattle.line_pages.proofs.TouchLaws.{accesses_from-begun}
 use Rattle.line_pages.proofs.StandingLaws.{page_adds, AddsReads-trans}
-use Rattle.slotted_page.specs.Rows.{Row, row_get}
-use Rattle.bplus_tree.specs.declared.root.Root.{Root}
+use Rattle.slotted_page.specs.Rows.{Row}
 use Rattle.bplus_tree.specs.Tree.{IsRooted}
 use Rattle.bplus_tree.specs.Way.{IsPath}
 use Rattle.bplus_tree.specs.Damage.{IsFault}
 use Rattle.bplus_tree.proofs.SearchLaws.{on_ok, from_ok}
 use Rattle.table_store.specs.declared.limits.Limits.{Limits}
 use Rattle.table_store.specs.declared.entry.Place.{Place}
-use Rattle.table_store.specs.declared.answer.Got.{Got}
-use Rattle.table_store.specs.declared.answer.Got.TheVariants.{NoTable}
 use Rattle.table_store.specs.Catalog.{entries, tables, place_of, entry_rows, entry_pages, FitsEntry}
-use Rattle.table_store.specs.Stored.{is_no_table, IsStore, IsLookup, rows_of, place_levels, place_path, found_value, got_of}
+use Rattle.table_store.specs.Changed.{root_at}
+use Rattle.table_store.specs.Stored.{IsStore, IsLookup, rows_of, place_levels, place_path}
 use Rattle.table_store.proofs.TableLaws.{rooted, rows_by}
 
-pub no_table : (key : ℕ) (name : List ℕ) (lines : Lines) → place_of name 0 (entries lines) ≡ None → NoTable ≡ got_of key (rows_of name (tables lines))
-no_table key name lines none = ap (got_of key) (sym (rows_by name lines 0 (entries lines) None none))
+-- the answers at a name that no table has, and at one that a table has
+pub named_none : {N : Type 0} (no_table : N) (of : Option (List Row) → N) (name : List ℕ) (lines : Lines) → no_table ≡ of None → place_of name 0 (entries lines) ≡ None → no_table ≡ of (rows_of name (tables lines))
+named_none no_table of name lines is none = is ∙ ap of (sym (rows_by name lines 0 (entries lines) None none))
 
--- the root of an entry's tree
-abbrev pub root_at : Place → Root
-root_at place = record { page = place.entry.root; levels = place.entry.levels }
+pub known_some : {N E : Type 0} (is_no_table : N → Bool) (known : Bool) (result : Result N E) → known ≡ true → IfOk result (λ answer. is_no_table answer ≡ false) → IfOk result (λ answer. is_no_table answer ≡ not known)
+known_some is_no_table known (Ok answer) is named = named ∙ sym (ap not is)
+known_some is_no_table known (Err e) is named = tt
 
 -- a tree that was found in pages that are the same
-rooted_now : (limits : Limits) (n0 n1 : ℕ) (old now : Lines) (name : List ℕ) (place : Place) → n1 ≡ n0 → now ≡ old → IsStore limits n0 old → place_of name 0 (entries old) ≡ Some place → FitsEntry limits n0 place.entry
+pub rooted_now : (limits : Limits) (n0 n1 : ℕ) (old now : Lines) (name : List ℕ) (place : Place) → n1 ≡ n0 → now ≡ old → IsStore limits n0 old → place_of name 0 (entries old) ≡ Some place → FitsEntry limits n0 place.entry
     → IsRooted n1 now (root_at place) (entry_rows old place.entry) (entry_pages old place.entry)
 rooted_now limits n0 n1 old now name place count same store is fits =
     subst (λ (n : ℕ). IsRooted n now (root_at place) (entry_rows old place.entry) (entry_pages old place.entry)) (sym count)
     (subst (λ (all : Lines). IsRooted n0 all (root_at place) (entry_rows old place.entry) (entry_pages old place.entry)) (sym same) (rooted limits n0 n0 old name place (root_at place) store is fits refl))
 
-pub value_in : {E : Type 0} (limits : Limits) (n0 n1 : ℕ) (old now : Lines) (name : List ℕ) (key : ℕ) (place : Place) (result : Result Got E) → n1 ≡ n0 → now ≡ old
+pub answer_in : {N E : Type 0} (of : Option (List Row) → N) (limits : Limits) (n0 n1 : ℕ) (old now : Lines) (name : List ℕ) (place : Place) (result : Result N E) → n1 ≡ n0 → now ≡ old
     → place_of name 0 (entries old) ≡ Some place → FitsEntry limits n0 place.entry
-    → ((rows : List Row) (used : List ℕ) → IsRooted n1 now (root_at place) rows used → IfOk result (λ got. got ≡ found_value (row_get key rows)))
-    → IsStore limits n0 old → IfOk result (λ got. got ≡ got_of key (rows_of name (tables old)))
-value_in limits n0 n1 old now name key place result count same is fits answers store =
-    subst (λ (x : Got). IfOk result (λ got. got ≡ x)) (ap (got_of key) (sym (rows_by name old 0 (entries old) (Some place) is)))
+    → ((rows : List Row) (used : List ℕ) → IsRooted n1 now (root_at place) rows used → IfOk result (λ answer. answer ≡ of (Some rows)))
+    → IsStore limits n0 old → IfOk result (λ answer. answer ≡ of (rows_of name (tables old)))
+answer_in {N = N} of limits n0 n1 old now name place result count same is fits answers store =
+    subst (λ (x : N). IfOk result (λ answer. answer ≡ x)) (ap of (sym (rows_by name old 0 (entries old) (Some place) is)))
     (answers (entry_rows old place.entry) (entry_pages old place.entry) (rooted_now limits n0 n1 old now name place count same store is fits))
 
 pub sound_in : {T : Type 0} (limits : Limits) (n0 n1 : ℕ) (old now : Lines) (name : List ℕ) (place : Place) (result : Result T Stop) → n1 ≡ n0 → now ≡ old
@@ -51,7 +50,7 @@ sound_in limits n0 n1 old now name place result count same is fits answers store
     answers (entry_rows old place.entry) (entry_pages old place.entry) (rooted_now limits n0 n1 old now name place count same store is fits)
 
 -- another fact about the same reads
-with_fact : {A : Type 0} {First Then : List Access → Type 0} {a b : Standing A} → (reads : AddsReads First a b) → Then (accesses_from None reads.added) → AddsReads Then a b
+pub with_fact : {A : Type 0} {First Then : List Access → Type 0} {a b : Standing A} → (reads : AddsReads First a b) → Then (accesses_from None reads.added) → AddsReads Then a b
 with_fact reads then_is = record {
   added = reads.added;
   touches = reads.touches;
@@ -113,8 +112,3 @@ way_some limits name key place s0 s1 s2 result is fits closed count same first w
           ∙ ap (λ (all : Lines). map (λ p. (p, false)) (place_path all key (Some place))) same
           ∙ sym (ap (λ o. map (λ p. (p, false)) (place_path old key o)) is);
     }
-
--- an answer of a known table
-pub known_answer : {E : Type 0} (known : Bool) (result : Result Got E) → known ≡ true → IfOk result (λ got. is_no_table got ≡ false) → IfOk result (λ got. is_no_table got ≡ not known)
-known_answer known (Ok got) is named = named ∙ sym (ap not is)
-known_answer known (Err e) is named = tt

@@ -28,7 +28,7 @@ sound_catalog limits count lines told buffer old new (Err Ssd) t store cause = t
 sound_catalog limits count lines told buffer old new (Err (Damaged e)) t store cause = let broken = sym (cause.failed t).first ∙ store.catalog in absurd (cc)
 
 -- the tree of the entry that a name has
-tree_of_place : (count : ℕ) (lines : Lines) (name : List ℕ) (i : ℕ) (es : List Entry) (place : Place) → place_of name i es ≡ Some place → Each (HasTree count lines) es → HasTree count lines place.entry
+pub tree_of_place : (count : ℕ) (lines : Lines) (name : List ℕ) (i : ℕ) (es : List Entry) (place : Place) → place_of name i es ≡ Some place → Each (HasTree count lines) es → HasTree count lines place.entry
 tree_of_place count lines name i [] place is trees = absurd (cc)
 tree_of_place count lines name i (e ∷ es) place is trees =
     elim (cases_Bool (bytes_eq (name_of e) name)) [

@@ -6,7 +6,7 @@ ghost use Rattle.table_store.specs.Catalog.{entry_in as entry_of_line, field_in 
 use crate::limits::Limits;
 use crate::name::{Name, all_name_bytes};
 use bplus_tree::Root;
-use line_pages::put_word;
+use line_pages::{get_word, put_word};
 use nvm_model::Line;
 
 /// The entry of a table: the bytes that keep its name, its root page, the levels of its tree, and the number of its rows.
@@ -103,5 +103,28 @@ pub(crate) fn root_of(entry: &Entry) -> Root
     Root {
         page: entry.root,
         levels: entry.levels as u8,
+    }
+}
+
+/// The line that keeps an entry.
+#[tactic(auto, using(crate::proofs::EntryLaws::four_parts))]
+pub(crate) fn line_of(entry: Entry) -> Line
+    ensures { entry_of_line result ≡ entry }
+{
+    let first = get_word(&entry.field, 0);
+    let second = get_word(&entry.field, 8);
+    let third = get_word(&entry.field, 16);
+    let fourth = get_word(&entry.field, 24);
+    Line {
+        words: [
+            first,
+            second,
+            third,
+            fourth,
+            entry.root,
+            entry.levels,
+            entry.rows,
+            0,
+        ],
     }
 }

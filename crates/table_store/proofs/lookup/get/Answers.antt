@@ -1,14 +1,14 @@
-use Rattle.std.proofs.Common.{not, ap, IsTrue, sym, subst, ◌∙◌}
+use Rattle.std.proofs.Common.{not, ap, refl, IsTrue, sym, subst, ◌∙◌}
 use Rattle.table_store.proofs.CreateLaws.{unknown_by, present_is}
 use Rattle.table_store.specs.Catalog.{tables}
-use Rattle.table_store.specs.Stored.{is_known}
-use Rattle.table_store.proofs.LookupLaws.{known_answer, no_table, value_in, sound_in, way_none, way_some}
+use Rattle.table_store.specs.Stored.{is_known, is_no_table, got_of}
+use Rattle.table_store.proofs.LookupLaws.{known_some, named_none, answer_in, sound_in, way_none, way_some}
 use Rattle.table_store.proofs.TouchesLaws.{first_on}
 use Rattle.table_store.proofs.lookup.get.Goals as goal
 
 pub returns-in-None-clause-value : goal.returns-in-None-clause-value
 returns-in-None-clause-value g c = λ told store.
-    no_table c.args.key c.args.name.now (g.P.Pages.standing c.args.pages.now).current (sym (c.in_ok-find_entry.ensures.place told) ∙ c.in-None.is)
+    named_none _ (got_of c.args.key) c.args.name.now (g.P.Pages.standing c.args.pages.now).current refl (sym (c.in_ok-find_entry.ensures.place told) ∙ c.in-None.is)
 
 pub returns-in-None-clause-way : goal.returns-in-None-clause-way
 returns-in-None-clause-way g c = λ told closed.
@@ -20,7 +20,7 @@ returns-in-Some-clause-value g c = λ told.
     let old = g.P.Pages.standing c.args.pages.now in
     let now = g.P.Pages.standing c.find_entry.new.pages in
     let found = c.in_ok-find_entry.ensures in
-    value_in c.args.limits.now old.count now.count old.current now.current c.args.name.now c.args.key c.in-Some.place c.get_in.result found.continues.count (found.reads.current told)
+    answer_in (got_of c.args.key) c.args.limits.now old.count now.count old.current now.current c.args.name.now c.in-Some.place c.get_in.result found.continues.count (found.reads.current told)
     (sym (found.place told) ∙ c.in-Some.is) (rw c.in-Some.is at found.fits).entry
     (rw c.root_of-root.ensures at (c.get_in.ensures.value (subst IsTrue (sym found.continues.told) told)))
 
@@ -56,5 +56,5 @@ returns-in-None-clause-known g c = λ told.
 pub returns-in-Some-clause-known : goal.returns-in-Some-clause-known
 returns-in-Some-clause-known g c = λ told.
     let old = g.P.Pages.standing c.args.pages.now in
-    known_answer (is_known c.args.name.now (tables old.current)) c.get_in.result
+    known_some is_no_table (is_known c.args.name.now (tables old.current)) c.get_in.result
     (present_is c.args.name.now old.current c.in-Some.place (sym (c.in_ok-find_entry.ensures.place told) ∙ c.in-Some.is)) c.get_in.ensures.named

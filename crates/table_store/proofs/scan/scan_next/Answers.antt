@@ -1,0 +1,53 @@
+use Rattle.std.proofs.Common.{not, ap, refl, IsTrue, sym, subst, ◌∙◌}
+use Rattle.table_store.specs.Catalog.{tables}
+use Rattle.table_store.specs.Stored.{is_known}
+use Rattle.table_store.specs.Scanning.{next_of, is_no_table}
+use Rattle.table_store.proofs.CreateLaws.{unknown_by, present_is}
+use Rattle.table_store.proofs.LookupLaws.{known_some, named_none, answer_in, sound_in}
+use Rattle.table_store.proofs.ScanLaws.{scan_none, scan_some}
+use Rattle.table_store.proofs.scan.scan_next.Goals as goal
+
+pub returns-in-None-clause-row : goal.returns-in-None-clause-row
+returns-in-None-clause-row g c = λ told store.
+    named_none _ (next_of c.args.from c.args.to) c.args.name.now (g.P.Pages.standing c.args.pages.now).current refl (sym (c.in_ok-find_entry.ensures.place told) ∙ c.in-None.is)
+
+pub returns-in-None-clause-known : goal.returns-in-None-clause-known
+returns-in-None-clause-known g c = λ told.
+    sym (ap not (unknown_by c.args.name.now (g.P.Pages.standing c.args.pages.now).current (sym (c.in_ok-find_entry.ensures.place told) ∙ c.in-None.is)))
+
+pub returns-in-Some-clause-row : goal.returns-in-Some-clause-row
+returns-in-Some-clause-row g c = λ told.
+    let old = g.P.Pages.standing c.args.pages.now in
+    let now = g.P.Pages.standing c.find_entry.new.pages in
+    let found = c.in_ok-find_entry.ensures in
+    answer_in (next_of c.args.from c.args.to) c.args.limits.now old.count now.count old.current now.current c.args.name.now c.in-Some.place c.next_in.result found.continues.count (found.reads.current told)
+    (sym (found.place told) ∙ c.in-Some.is) (rw c.in-Some.is at found.fits).entry
+    (rw c.root_of-root.ensures at (c.next_in.ensures.row (subst IsTrue (sym found.continues.told) told)))
+
+pub returns-in-Some-clause-known : goal.returns-in-Some-clause-known
+returns-in-Some-clause-known g c = λ told.
+    let old = g.P.Pages.standing c.args.pages.now in
+    known_some is_no_table (is_known c.args.name.now (tables old.current)) c.next_in.result
+    (present_is c.args.name.now old.current c.in-Some.place (sym (c.in_ok-find_entry.ensures.place told) ∙ c.in-Some.is)) c.next_in.ensures.named
+
+pub returns-in-Some-clause-sound : goal.returns-in-Some-clause-sound
+returns-in-Some-clause-sound g c = λ told.
+    let old = g.P.Pages.standing c.args.pages.now in
+    let now = g.P.Pages.standing c.find_entry.new.pages in
+    let found = c.in_ok-find_entry.ensures in
+    sound_in c.args.limits.now old.count now.count old.current now.current c.args.name.now c.in-Some.place c.next_in.result found.continues.count (found.reads.current told)
+    (sym (found.place told) ∙ c.in-Some.is) (rw c.in-Some.is at found.fits).entry
+    (rw c.root_of-root.ensures at (c.next_in.ensures.sound (subst IsTrue (sym found.continues.told) told)))
+
+pub returns-in-None-clause-touches : goal.returns-in-None-clause-touches
+returns-in-None-clause-touches g c = λ told closed store.
+    scan_none c.args.name.now (g.P.Pages.standing c.args.pages.now) (g.P.Pages.standing c.find_entry.new.pages) closed c.in_ok-find_entry.ensures.reads
+
+pub returns-in-Some-clause-touches : goal.returns-in-Some-clause-touches
+returns-in-Some-clause-touches g c = λ told closed.
+    let old = g.P.Pages.standing c.args.pages.now in
+    let now = g.P.Pages.standing c.find_entry.new.pages in
+    let found = c.in_ok-find_entry.ensures in
+    scan_some c.args.limits.now c.args.name.now c.in-Some.place old now (g.P.Pages.standing c.next_in.new.pages) c.next_in.result
+    (sym (found.place told) ∙ c.in-Some.is) (rw c.in-Some.is at found.fits).entry closed found.continues.count (found.reads.current told) found.reads
+    (rw c.root_of-root.ensures at (c.next_in.ensures.touches (subst IsTrue (sym found.continues.told) told)))

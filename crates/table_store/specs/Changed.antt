@@ -1,0 +1,35 @@
+-- A table whose rows change.
+use Rattle.std.specs.Prelude.{◌≡◌, ℕ, ◌+◌, ◌≤◌, List, Some, IsTrue, Bool, ◌⊎◌}
+use Rattle.nvm_model.specs.declared.line.Line.{Line}
+use Rattle.line_pages.specs.declared.stop.Evidence.{Evidence}
+use Rattle.line_pages.specs.Lines.{Lines, with_line}
+use Rattle.slotted_page.specs.Rows.{Row}
+use Rattle.bplus_tree.specs.declared.root.Root.{Root}
+use Rattle.bplus_tree.specs.Space.{high_of}
+use Rattle.bplus_tree.specs.Damage.{IsTreeDamage}
+use Rattle.table_store.specs.declared.limits.Limits.{Limits}
+use Rattle.table_store.specs.declared.entry.Place.{Place}
+use Rattle.table_store.specs.Catalog.{entry_in, tables, IsCatalogDamage}
+use Rattle.table_store.specs.Stored.{IsStore, rows_of, with_rows}
+
+-- the root of an entry's tree
+abbrev pub root_at : Place → Root
+root_at place = record { page = place.entry.root; levels = place.entry.levels }
+
+-- The entry of a table was written anew: its tree has this root, and the table so many rows.
+pub record Enters (old new : Lines) (place : Place) (root : Root) (rows : ℕ) : Type 0 where
+  pub line : Line
+  pub entry : entry_in line ≡ record { field = place.entry.field; root = root.page; levels = root.levels; rows = rows }
+  pub after : new ≡ with_line 0 (2 + place.at) line old
+
+-- The store is in order again: the table with the name has its rows after this step, and all others are as they were. No
+-- page above those in use changed.
+pub record ChangesTable (limits : Limits) (count : ℕ) (old new : Lines) (name : List ℕ) (step : List Row → List Row) : Type 0 where
+  pub store : IsStore limits count new
+  pub tables_are : (rows : List Row) → rows_of name (tables old) ≡ Some rows → tables new ≡ with_rows name (step rows) (tables old)
+  pub beyond : (n : ℕ) → high_of new ≤ n → new n ≡ old n
+
+-- The evidence shows damage of the catalog, or what a call on a tree that changes it may show.
+abbrev pub IsChangeDamage : Bool → Limits → ℕ → Lines → List ℕ → Evidence → Type 0
+IsChangeDamage told limits count lines buffer evidence =
+    (IsTrue told → IsCatalogDamage limits count lines buffer evidence) ⊎ IsTreeDamage told count buffer evidence

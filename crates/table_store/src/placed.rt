@@ -1,0 +1,90 @@
+//! A table at a known place of the catalog: the row of a key, and its entry written anew.
+ghost use Rattle.std.specs.Prelude.{◌≡◌, ◌+◌, ◌<◌, ◌≤◌, ℕ, List, is_some, IsTrue, OnOk, IfOk, IfErr};
+ghost use Rattle.line_pages.specs.Standing.{Continues, HasCause, KeepsLines, Never};
+ghost use Rattle.slotted_page.specs.Rows.{Row, row_get};
+ghost use Rattle.bplus_tree.specs.Tree.{IsRooted};
+ghost use Rattle.bplus_tree.specs.Damage.{IsFault, IsTreeDamage};
+ghost use Rattle.table_store.specs.Catalog.{FitsRoot};
+ghost use Rattle.table_store.specs.Changed.{root_at, Enters};
+
+use crate::entry::{Entry, Place, line_of, root_of};
+use crate::limits::Limits;
+use bplus_tree::{Root, get};
+use line_pages::{Pages, Stop};
+use slotted_page::{Value, Work};
+
+/// The value of a key of a table, with damage in the words of the calls that change a tree.
+fn value_at<P: Pages>(
+    pages: &mut P,
+    _limits: &Limits,
+    place: &Place,
+    key: u64,
+    work: &mut Work,
+) -> Result<Option<Value>, Stop>
+    requires ready { P.is_ready pages.old }
+    requires fits { FitsRoot _limits.now (P.standing pages.old).count place.now }
+    ensures value { IsTrue (P.standing pages.old).told → (rows : List Row) (used : List ℕ) → IsRooted (P.standing pages.old).count (P.standing pages.old).current (root_at place.now) rows used → IfOk result (λ value. value ≡ row_get key rows) }
+    ensures sound { IsTrue (P.standing pages.old).told → (rows : List Row) (used : List ℕ) → IsRooted (P.standing pages.old).count (P.standing pages.old).current (root_at place.now) rows used → IfErr result IsFault }
+    ensures cause { HasCause (IsTreeDamage (P.standing pages.old).told (P.standing pages.old).count work.new.page) (P.standing pages.old) (P.standing pages.new) result }
+    ensures continues { Continues (P.may_leave pages.old) (P.may_leave pages.new) (P.is_steady pages.old) (P.standing pages.old) (P.standing pages.new) }
+    ensures keeps { OnOk result (KeepsLines (P.standing pages.old) (P.standing pages.new)) }
+    ensures few { (P.standing pages.new).visits ≤ (P.standing pages.old).visits + 4 }
+    ensures ready { OnOk result (P.is_ready pages.new) }
+    ensures steady { P.is_steady pages.old → OnOk result (P.is_steady pages.new) }
+{
+    let root = root_of(&place.entry);
+    get(pages, &root, key, work)
+}
+
+/// Whether a table has a row with the key.
+pub(crate) fn has_row<P: Pages>(
+    pages: &mut P,
+    _limits: &Limits,
+    place: &Place,
+    key: u64,
+    work: &mut Work,
+) -> Result<bool, Stop>
+    requires ready { P.is_ready pages.old }
+    requires fits { FitsRoot _limits.now (P.standing pages.old).count place.now }
+    ensures found { IsTrue (P.standing pages.old).told → (rows : List Row) (used : List ℕ) → IsRooted (P.standing pages.old).count (P.standing pages.old).current (root_at place.now) rows used → IfOk result (λ found. found ≡ is_some (row_get key rows)) }
+    ensures sound { IsTrue (P.standing pages.old).told → (rows : List Row) (used : List ℕ) → IsRooted (P.standing pages.old).count (P.standing pages.old).current (root_at place.now) rows used → IfErr result IsFault }
+    ensures cause { HasCause (IsTreeDamage (P.standing pages.old).told (P.standing pages.old).count work.new.page) (P.standing pages.old) (P.standing pages.new) result }
+    ensures continues { Continues (P.may_leave pages.old) (P.may_leave pages.new) (P.is_steady pages.old) (P.standing pages.old) (P.standing pages.new) }
+    ensures keeps { OnOk result (KeepsLines (P.standing pages.old) (P.standing pages.new)) }
+    ensures few { (P.standing pages.new).visits ≤ (P.standing pages.old).visits + 4 }
+    ensures ready { OnOk result (P.is_ready pages.new) }
+    ensures steady { P.is_steady pages.old → OnOk result (P.is_steady pages.new) }
+{
+    match value_at(pages, _limits, place, key, work)? {
+        Some(_) => Ok(true),
+        None => Ok(false),
+    }
+}
+
+/// Writes the entry of a table anew: its tree has this root now, and the table so many rows.
+pub(crate) fn write_place<P: Pages>(
+    pages: &mut P,
+    place: &Place,
+    root: &Root,
+    rows: u64,
+) -> Result<(), Stop>
+    requires ready { P.is_ready pages.old }
+    requires at { place.now.at < 62 }
+    requires some { 1 ≤ (P.standing pages.old).count }
+    requires room { 1 ≤ (P.standing pages.old).room }
+    ensures after { IsTrue (P.standing pages.old).told → OnOk result (Enters (P.standing pages.old).current (P.standing pages.new).current place.now root.now rows) }
+    ensures cause { HasCause Never (P.standing pages.old) (P.standing pages.new) result }
+    ensures continues { Continues (P.may_leave pages.old) (P.may_leave pages.new) (P.is_steady pages.old) (P.standing pages.old) (P.standing pages.new) }
+    ensures room { OnOk result ((P.standing pages.new).room + 1 ≡ (P.standing pages.old).room) }
+    ensures few { (P.standing pages.new).visits ≤ (P.standing pages.old).visits + 1 }
+    ensures ready { OnOk result (P.is_ready pages.new) }
+    ensures steady { P.is_steady pages.old → OnOk result (P.is_steady pages.new) }
+{
+    let entry = Entry {
+        field: place.entry.field,
+        root: root.page,
+        levels: root.levels as u64,
+        rows,
+    };
+    pages.write_line(0, 2 + place.at as usize, &line_of(entry))
+}

@@ -1,0 +1,92 @@
+//! The next row of a table.
+ghost use Rattle.std.specs.Prelude.{◌≡◌, ◌+◌, ◌∷◌, ◌++◌, ◌<◌, ◌≤◌, ℕ, List, None, Some, false, not, IsTrue, OnOk, IfOk, IfErr};
+ghost use Rattle.line_pages.specs.Touch.{Touch, touch_of};
+ghost use Rattle.line_pages.specs.Standing.{Continues, HasCause, KeepsLines, AddsReads};
+ghost use Rattle.slotted_page.specs.Rows.{Row, row_next};
+ghost use Rattle.slotted_page.specs.Search.{IsNodeDamage};
+ghost use Rattle.bplus_tree.specs.Tree.{IsRooted};
+ghost use Rattle.bplus_tree.specs.Way.{AreReadsIn};
+ghost use Rattle.bplus_tree.specs.Damage.{IsFault};
+ghost use Rattle.table_store.specs.Catalog.{tables};
+ghost use Rattle.table_store.specs.Stored.{rows_of, is_known, IsStore, IsLookupDamage};
+ghost use Rattle.table_store.specs.Scanning.{row_up_to, next_of, is_no_table, IsScan};
+
+use crate::answer::Next;
+use crate::catalog::find_entry;
+use crate::entry::root_of;
+use crate::limits::Limits;
+use crate::name::Name;
+use bplus_tree::{Root, next_from};
+use line_pages::{Pages, Stop};
+use slotted_page::Work;
+
+/// The first row from a key on in the tree of a table, unless its key is above `to`.
+fn next_in<P: Pages>(
+    pages: &mut P,
+    root: &Root,
+    from: u64,
+    to: u64,
+    work: &mut Work,
+) -> Result<Next, Stop>
+    requires ready { P.is_ready pages.old }
+    requires some { 1 ≤ root.now.page }
+    requires page { root.now.page < (P.standing pages.old).count }
+    requires some_levels { 1 ≤ root.now.levels }
+    requires few_levels { root.now.levels ≤ 4 }
+    ensures row { IsTrue (P.standing pages.old).told → (rows : List Row) (used : List ℕ) → IsRooted (P.standing pages.old).count (P.standing pages.old).current root.now rows used → IfOk result (λ next. next ≡ row_up_to to (row_next from rows)) }
+    ensures touches { IsTrue (P.standing pages.old).told → (rows : List Row) (used : List ℕ) → IsRooted (P.standing pages.old).count (P.standing pages.old).current root.now rows used → OnOk result (AddsReads (AreReadsIn used) (P.standing pages.old) (P.standing pages.new)) }
+    ensures named { IfOk result (λ next. is_no_table next ≡ false) }
+    ensures sound { IsTrue (P.standing pages.old).told → (rows : List Row) (used : List ℕ) → IsRooted (P.standing pages.old).count (P.standing pages.old).current root.now rows used → IfErr result IsFault }
+    ensures cause { HasCause (λ e. IsTrue (P.standing pages.old).told → IsNodeDamage (P.standing pages.old).count (P.standing pages.old).current work.new.page e) (P.standing pages.old) (P.standing pages.new) result }
+    ensures continues { Continues (P.may_leave pages.old) (P.may_leave pages.new) (P.is_steady pages.old) (P.standing pages.old) (P.standing pages.new) }
+    ensures keeps { OnOk result (KeepsLines (P.standing pages.old) (P.standing pages.new)) }
+    ensures few { (P.standing pages.new).visits ≤ (P.standing pages.old).visits + 22 }
+    ensures ready { OnOk result (P.is_ready pages.new) }
+    ensures steady { P.is_steady pages.old → OnOk result (P.is_steady pages.new) }
+{
+    match next_from(pages, root, from, work)? {
+        Some((key, value)) => {
+            if key <= to {
+                Ok(Next::Row(key, value))
+            } else {
+                Ok(Next::End)
+            }
+        }
+        None => Ok(Next::End),
+    }
+}
+
+/// The row of a table with the least key not below `from` and not above `to`. `Damaged` comes only where the catalog fails one
+/// of the checks 31 to 35, or a page of the table's tree fails a check, and in a store in order not at all.
+pub fn scan_next<P: Pages>(
+    pages: &mut P,
+    limits: &Limits,
+    name: &Name,
+    from: u64,
+    to: u64,
+    work: &mut Work,
+) -> Result<Next, Stop>
+    requires ready { P.is_ready pages.old }
+    // the answer
+    ensures row { IsTrue (P.standing pages.old).told → IsStore limits.now (P.standing pages.old).count (P.standing pages.old).current → IfOk result (λ next. next ≡ next_of from to (rows_of name.now (tables (P.standing pages.old).current))) }
+    ensures known { IsTrue (P.standing pages.old).told → IfOk result (λ next. is_no_table next ≡ not (is_known name.now (tables (P.standing pages.old).current))) }
+    // why it stops
+    ensures sound { IsTrue (P.standing pages.old).told → IsStore limits.now (P.standing pages.old).count (P.standing pages.old).current → IfErr result IsFault }
+    ensures cause { HasCause (λ e. IsTrue (P.standing pages.old).told → IsLookupDamage limits.now (P.standing pages.old).count (P.standing pages.old).current work.new.page e) (P.standing pages.old) (P.standing pages.new) result }
+    // what is read, and what stays
+    ensures touches { IsTrue (P.standing pages.old).told → (P.standing pages.old).access ≡ None → IsStore limits.now (P.standing pages.old).count (P.standing pages.old).current → OnOk result (AddsReads (IsScan (P.standing pages.old).current name.now) (P.standing pages.old) (P.standing pages.new)) }
+    ensures first { IsTrue (P.standing pages.old).told → OnOk result ((rest : List Touch) × ((P.standing pages.new).touches ≡ (P.standing pages.old).touches ++ touch_of (P.standing pages.old).access 0 0 false ∷ rest)) }
+    ensures keeps { OnOk result (KeepsLines (P.standing pages.old) (P.standing pages.new)) }
+    ensures continues { Continues (P.may_leave pages.old) (P.may_leave pages.new) (P.is_steady pages.old) (P.standing pages.old) (P.standing pages.new) }
+    ensures few { (P.standing pages.new).visits ≤ (P.standing pages.old).visits + 23 }
+    ensures ready { OnOk result (P.is_ready pages.new) }
+    ensures steady { P.is_steady pages.old → OnOk result (P.is_steady pages.new) }
+{
+    match find_entry(pages, limits, name, work)? {
+        None => Ok(Next::NoTable),
+        Some(place) => {
+            let root = root_of(&place.entry);
+            next_in(pages, &root, from, to, work)
+        }
+    }
+}

@@ -1,0 +1,122 @@
+//! A row that is put into a table.
+ghost use Rattle.std.specs.Prelude.{◌≡◌, ◌+◌, ◌*◌, ◌/◌, ◌≤◌, ℕ, List, Some, false, not, is_some, IsTrue, OnOk, IfOk, IfErr, if◌then◌else◌};
+ghost use Rattle.line_pages.specs.Standing.{Continues, HasCause};
+ghost use Rattle.slotted_page.specs.Rows.{row_get, row_put};
+ghost use Rattle.bplus_tree.specs.Damage.{IsFault, IsTreeDamage};
+ghost use Rattle.table_store.specs.Catalog.{entries, tables, place_of, entry_rows, FitsRoot};
+ghost use Rattle.table_store.specs.Stored.{is_known, rows_of, IsStore};
+ghost use Rattle.table_store.specs.Changed.{ChangesTable, IsChangeDamage};
+ghost use Rattle.table_store.specs.Putting.{stored_of, is_no_table, PutsIfDone, KeepsUnlessDone};
+
+use crate::answer::Stored;
+use crate::catalog::find_entry;
+use crate::entry::{Place, root_of};
+use crate::limits::Limits;
+use crate::name::Name;
+use crate::placed::{has_row, write_place};
+use bplus_tree::put_row;
+use line_pages::{Pages, Stop};
+use slotted_page::{Value, Work};
+
+/// How many rows there are after a put, the key being found or new.
+fn rows_after(rows: u64, found: bool) -> u64
+    requires { rows ≤ 1000000 }
+    ensures { result ≡ (if found then rows else rows + 1) }
+{
+    if found { rows } else { rows + 1 }
+}
+
+/// Puts a row into the tree of a table, which has so many rows then, and writes its entry.
+fn store_row<P: Pages>(
+    pages: &mut P,
+    limits: &Limits,
+    place: &Place,
+    key: u64,
+    value: &Value,
+    found: bool,
+    work: &mut Work,
+) -> Result<(), Stop>
+    requires ready { P.is_ready pages.old }
+    requires fits { FitsRoot limits.now (P.standing pages.old).count place.now }
+    requires left { found ≡ false → place.now.entry.rows + 1 ≤ limits.now.rows }
+    requires room { 640 ≤ (P.standing pages.old).room }
+    ensures changed { IsTrue (P.standing pages.old).told → (name : List ℕ) → IsStore limits.now (P.standing pages.old).count (P.standing pages.old).current → place_of name 0 (entries (P.standing pages.old).current) ≡ Some place.now → found ≡ is_some (row_get key (entry_rows (P.standing pages.old).current place.now.entry)) → OnOk result (ChangesTable limits.now (P.standing pages.old).count (P.standing pages.old).current (P.standing pages.new).current name (row_put key value.now)) }
+    ensures sound { IsTrue (P.standing pages.old).told → (name : List ℕ) → IsStore limits.now (P.standing pages.old).count (P.standing pages.old).current → place_of name 0 (entries (P.standing pages.old).current) ≡ Some place.now → found ≡ is_some (row_get key (entry_rows (P.standing pages.old).current place.now.entry)) → 1 + limits.now.tables * (limits.now.rows / 2 + 8) ≤ (P.standing pages.old).count → IfErr result IsFault }
+    ensures cause { HasCause (IsTreeDamage (P.standing pages.old).told (P.standing pages.old).count work.new.page) (P.standing pages.old) (P.standing pages.new) result }
+    ensures continues { Continues (P.may_leave pages.old) (P.may_leave pages.new) (P.is_steady pages.old) (P.standing pages.old) (P.standing pages.new) }
+    ensures room { OnOk result ((P.standing pages.old).room ≤ (P.standing pages.new).room + 601) }
+    ensures few { (P.standing pages.new).visits ≤ (P.standing pages.old).visits + 59 }
+    ensures ready { OnOk result (P.is_ready pages.new) }
+    ensures steady { P.is_steady pages.old → OnOk result (P.is_steady pages.new) }
+{
+    let mut root = root_of(&place.entry);
+    put_row(pages, &mut root, key, value.bytes(), work)?;
+    let rows = rows_after(place.entry.rows, found);
+    write_place(pages, place, &root, rows)
+}
+
+/// Puts a row into a table, if the key is there or the table may have one row more.
+fn put_at<P: Pages>(
+    pages: &mut P,
+    limits: &Limits,
+    place: &Place,
+    key: u64,
+    value: &Value,
+    work: &mut Work,
+) -> Result<Stored, Stop>
+    requires ready { P.is_ready pages.old }
+    requires fits { FitsRoot limits.now (P.standing pages.old).count place.now }
+    requires room { 640 ≤ (P.standing pages.old).room }
+    ensures answer { IsTrue (P.standing pages.old).told → (name : List ℕ) → IsStore limits.now (P.standing pages.old).count (P.standing pages.old).current → place_of name 0 (entries (P.standing pages.old).current) ≡ Some place.now → IfOk result (λ answer. answer ≡ stored_of limits.now key (rows_of name (tables (P.standing pages.old).current))) }
+    ensures changed { IsTrue (P.standing pages.old).told → (name : List ℕ) → IsStore limits.now (P.standing pages.old).count (P.standing pages.old).current → place_of name 0 (entries (P.standing pages.old).current) ≡ Some place.now → IfOk result (PutsIfDone limits.now (P.standing pages.old).count (P.standing pages.old).current (P.standing pages.new).current name key value.now) }
+    ensures named { IfOk result (λ answer. is_no_table answer ≡ false) }
+    ensures keeps { IfOk result (KeepsUnlessDone (P.standing pages.old) (P.standing pages.new)) }
+    ensures sound { IsTrue (P.standing pages.old).told → (name : List ℕ) → IsStore limits.now (P.standing pages.old).count (P.standing pages.old).current → place_of name 0 (entries (P.standing pages.old).current) ≡ Some place.now → 1 + limits.now.tables * (limits.now.rows / 2 + 8) ≤ (P.standing pages.old).count → IfErr result IsFault }
+    ensures cause { HasCause (IsTreeDamage (P.standing pages.old).told (P.standing pages.old).count work.new.page) (P.standing pages.old) (P.standing pages.new) result }
+    ensures continues { Continues (P.may_leave pages.old) (P.may_leave pages.new) (P.is_steady pages.old) (P.standing pages.old) (P.standing pages.new) }
+    ensures room { OnOk result ((P.standing pages.old).room ≤ (P.standing pages.new).room + 601) }
+    ensures few { (P.standing pages.new).visits ≤ (P.standing pages.old).visits + 63 }
+    ensures ready { OnOk result (P.is_ready pages.new) }
+    ensures steady { P.is_steady pages.old → OnOk result (P.is_steady pages.new) }
+{
+    let found = has_row(pages, limits, place, key, work)?;
+    if !found && place.entry.rows >= limits.rows {
+        return Ok(Stored::TableFull);
+    }
+    store_row(pages, limits, place, key, value, found, work)?;
+    Ok(Stored::Done)
+}
+
+/// Puts a value at a key of a table. `Damaged` comes only where the catalog fails one of the checks 31 to 35, a page of the
+/// table's tree fails a check, no page is left (37), or a root of 240 children at level 3 would have to be cut (39), and in a
+/// store in order with pages for all its tables not at all.
+pub fn put<P: Pages>(
+    pages: &mut P,
+    limits: &Limits,
+    name: &Name,
+    key: u64,
+    value: &Value,
+    work: &mut Work,
+) -> Result<Stored, Stop>
+    requires ready { P.is_ready pages.old }
+    requires room { 640 ≤ (P.standing pages.old).room }
+    // the answer, and what changes
+    ensures answer { IsTrue (P.standing pages.old).told → IsStore limits.now (P.standing pages.old).count (P.standing pages.old).current → IfOk result (λ answer. answer ≡ stored_of limits.now key (rows_of name.now (tables (P.standing pages.old).current))) }
+    ensures known { IsTrue (P.standing pages.old).told → IfOk result (λ answer. is_no_table answer ≡ not (is_known name.now (tables (P.standing pages.old).current))) }
+    ensures changed { IsTrue (P.standing pages.old).told → IsStore limits.now (P.standing pages.old).count (P.standing pages.old).current → IfOk result (PutsIfDone limits.now (P.standing pages.old).count (P.standing pages.old).current (P.standing pages.new).current name.now key value.now) }
+    ensures keeps { IfOk result (KeepsUnlessDone (P.standing pages.old) (P.standing pages.new)) }
+    // why it stops
+    ensures sound { IsTrue (P.standing pages.old).told → IsStore limits.now (P.standing pages.old).count (P.standing pages.old).current → 1 + limits.now.tables * (limits.now.rows / 2 + 8) ≤ (P.standing pages.old).count → IfErr result IsFault }
+    ensures cause { HasCause (IsChangeDamage (P.standing pages.old).told limits.now (P.standing pages.old).count (P.standing pages.old).current work.new.page) (P.standing pages.old) (P.standing pages.new) result }
+    // what stays
+    ensures continues { Continues (P.may_leave pages.old) (P.may_leave pages.new) (P.is_steady pages.old) (P.standing pages.old) (P.standing pages.new) }
+    ensures room { OnOk result ((P.standing pages.old).room ≤ (P.standing pages.new).room + 601) }
+    ensures few { (P.standing pages.new).visits ≤ (P.standing pages.old).visits + 64 }
+    ensures ready { OnOk result (P.is_ready pages.new) }
+    ensures steady { P.is_steady pages.old → OnOk result (P.is_steady pages.new) }
+{
+    match find_entry(pages, limits, name, work)? {
+        None => Ok(Stored::NoTable),
+        Some(place) => put_at(pages, limits, &place, key, value, work),
+    }
+}
