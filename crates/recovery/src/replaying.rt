@@ -148,12 +148,7 @@ fn undo<D: Devices>(dev: &mut D, log: &Log, group: &Group) -> Result<(), OpenErr
 }
 
 /// Stores a line of a record in its place. Where an end is read in place of the record nothing is stored.
-fn store_record<D: Devices>(
-    dev: &mut D,
-    log: &Log,
-    at: u64,
-    side: Side,
-) -> Result<(), OpenError>
+fn store_record<D: Devices>(dev: &mut D, log: &Log, at: u64, side: Side) -> Result<(), OpenError>
     requires above { log.now.start ≤ at }
     requires below { at + 3 ≤ log.now.tail }
     requires fits { nvm_lines (sizes_of log.now.geometry) ≤ (D.standing dev.old).lines }
@@ -185,12 +180,7 @@ fn side_place(side: Side) -> u64
 }
 
 /// Stores the line of the log at an offset.
-fn copy_line<D: Devices>(
-    dev: &mut D,
-    log: &Log,
-    from: u64,
-    place: u64,
-) -> Result<(), OpenError>
+fn copy_line<D: Devices>(dev: &mut D, log: &Log, from: u64, place: u64) -> Result<(), OpenError>
     requires above { log.now.start ≤ from }
     requires below { from < log.now.tail }
     requires fits { nvm_lines (sizes_of log.now.geometry) ≤ (D.standing dev.old).lines }

@@ -1,5 +1,7 @@
 //! Worked examples over a world in memory: empty stores, each refusal, each fault, and stops at each event while a log is written
 //! and while it is recovered.
+ghost use Rattle.std.specs.Prelude.{◌<◌};
+
 use crate::{FormatError, OpenError, format, format_at, recover};
 use devices::{Devices, Fault, FaultKind, MemWorld};
 use line_pages::Evidence;
@@ -177,7 +179,12 @@ fn an_empty_store_is_opened(rt: HostRuntime) {
         } else {
             None
         };
-        assert_eq!(rt; header, Some(Line { words: [4, 0, 1, 0, 0, 0, 0, 0] }));
+        assert_eq!(rt;
+            header,
+            Some(Line {
+                words: [4, 0, 1, 0, 0, 0, 0, 0]
+            })
+        );
     }
 }
 
@@ -326,22 +333,37 @@ fn rewritten(alloc: Global, kind: EndKind) -> Option<(MemWorld, u64)> {
     Some((world, before))
 }
 
+/// What a recovery gives after a stop.
+fn after_stop(world: &MemWorld, alloc: Global, events: u64, choice: Choice) -> Option<(u64, u64)> {
+    let mut left = stopped(world, alloc, events, choice)?;
+    recovered(&mut left, alloc)
+}
+
+/// Whether each choice gives the old lines or the new ones after a stop.
+fn gives_either(world: &MemWorld, alloc: Global, events: u64, old: u64, new: u64) -> bool {
+    for choice in CHOICES {
+        match after_stop(world, alloc, events, choice) {
+            Some((first, fifth)) => {
+                if fifth != first.wrapping_add(1) || (first != old && first != new) {
+                    return false;
+                }
+            }
+            None => return false,
+        }
+    }
+    true
+}
+
 #[test]
 fn a_commit_is_recovered_whole_or_not_at_all(rt: HostRuntime) {
     let Some((world, before)) = rewritten(rt.alloc(), EndKind::Commit) else {
         return assert!(rt; false, "no memory");
     };
-    for events in before..world.events() + 1 {
-        for choice in CHOICES {
-            let Some(mut left) = stopped(&world, rt.alloc(), events, choice) else {
-                return assert!(rt; false, "no memory");
-            };
-            let found = recovered(&mut left, rt.alloc());
-            let done = found == Some((9, 10));
-            let old = found == Some((7, 8)) && events < world.events();
-            assert!(rt; done || old, "at {events}");
-        }
+    let last = world.events();
+    for events in before..last {
+        assert!(rt; gives_either(&world, rt.alloc(), events, 7, 9));
     }
+    assert!(rt; gives_either(&world, rt.alloc(), last, 9, 9));
 }
 
 #[test]
@@ -349,30 +371,32 @@ fn an_abort_leaves_the_old_lines(rt: HostRuntime) {
     let Some((world, before)) = rewritten(rt.alloc(), EndKind::Abort) else {
         return assert!(rt; false, "no memory");
     };
-    for events in before..world.events() + 1 {
-        for choice in CHOICES {
-            let Some(mut left) = stopped(&world, rt.alloc(), events, choice) else {
-                return assert!(rt; false, "no memory");
-            };
-            assert!(rt; recovered(&mut left, rt.alloc()) == Some((7, 8)), "at {events}");
-        }
+    let last = world.events();
+    for events in before..last {
+        assert!(rt; gives_either(&world, rt.alloc(), events, 7, 7));
     }
+    assert!(rt; gives_either(&world, rt.alloc(), last, 7, 7));
 }
 
 /// Whether a recovery gives the committed lines after stops of a world, this many events apart.
-fn recovers_from_stops(world: &MemWorld, alloc: Global, apart: usize) -> bool {
-    for events in (0..world.events() + 1).step_by(apart) {
-        for choice in CHOICES {
-            let found = match stopped(world, alloc, events, choice) {
-                Some(mut left) => recovered(&mut left, alloc),
-                None => None,
-            };
-            if found != Some((7, 8)) {
-                return false;
-            }
+fn recovers_from_stops(world: &MemWorld, alloc: Global, apart: u64) -> bool
+    requires { 0 < apart }
+{
+    let last = world.events();
+    for events in 0..last {
+        if events % apart == 0 && !gives_either(world, alloc, events, 7, 7) {
+            return false;
         }
     }
-    true
+    gives_either(world, alloc, last, 7, 7)
+}
+
+/// Whether a recovery that is stopped after so many events is recovered, wherever that is stopped again.
+fn recovers_twice(world: &MemWorld, alloc: Global, events: u64) -> bool {
+    let Some(mut left) = stopped(world, alloc, events, Choice::Oldest) else {
+        return false;
+    };
+    recovered(&mut left, alloc) == Some((7, 8)) && recovers_from_stops(&left, alloc, 331)
 }
 
 #[test]
@@ -384,11 +408,7 @@ fn a_recovery_is_recovered(rt: HostRuntime) {
     assert!(rt; recovered(&mut world, rt.alloc()) == Some((7, 8)));
     assert!(rt; recovers_from_stops(&world, rt.alloc(), 83));
     // the superblock, the heads and the three stores are the first 21 events
-    for events in (9..22).step_by(3) {
-        let Some(mut left) = stopped(&world, rt.alloc(), events, Choice::Oldest) else {
-            return assert!(rt; false, "no memory");
-        };
-        assert!(rt; recovered(&mut left, rt.alloc()) == Some((7, 8)));
-        assert!(rt; recovers_from_stops(&left, rt.alloc(), 331));
+    for events in [9, 12, 15, 18, 21] {
+        assert!(rt; recovers_twice(&world, rt.alloc(), events));
     }
 }

@@ -18,4 +18,4 @@ returns-clause-makes g c =
     let two = c.in_ok-put_line-2.ensures in
     let three = c.put_line-3.ensures in
     makes_then one.goes (Goes-trans two.goes three.goes) (put_is 1 c.number.ensures one.makes)
-    (makes_then two.goes three.goes (put_is 2 c.number-2.ensures two.makes) (put_is 3 c.number-3.ensures three.makes))
+    (makes_then two.goes three.goes (put_is 2 c.number-2.ensures two.makes) (put_is {r = c.put_line-3.result} 3 c.number-3.ensures three.makes))
