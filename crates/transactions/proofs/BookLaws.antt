@@ -66,7 +66,7 @@ reads_over old touched a b book_name device_name added touches goes reads stays 
     continues_by old (record old { accesses = touched }) a b book_name device_name refl refl refl refl refl added touches goes reads
     (λ told. ap committed_in (at_end goes stays told))
     (λ told steady m low high lines left. open_left (book_sizes old) old.log.start old.log.tail (now a) (steady told).facts lines left.0
-        (subst (λ (s : State). Leaves s left.0) ((stays told).each m (omega arith) high) left.1) left.2)
+    (subst (λ (s : State). Leaves s left.0) ((stays told).each m (omega arith) high) left.1) left.2)
 
 -- the touch of a call
 pub touched_by : {T E : Type 0} (old new : Book) (a b : Device) (book_name device_name page line : ℕ) (writes : Bool) (r : Result T E) → new.accesses.open_access ≡ Some (page, writes)
