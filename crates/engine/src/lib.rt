@@ -1,0 +1,8 @@
+//! The engine: an opened store of tables, one step a line of a script.
+#![tactic(auto)]
+
+mod engine;
+mod scan;
+
+pub use engine::Engine;
+pub use scan::{Scan, Step};
