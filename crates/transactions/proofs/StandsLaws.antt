@@ -76,9 +76,9 @@ pub after_read : {T E : Type 0} (calls : List Call) (a b : Standing) (r : Result
     → (Facts : State → Type 0) → ((s : State) → Facts s → Facts (fresh (current s))) → Facts (after_all calls (fresh (current (now a)))) → OnOk r (Facts (fresh (current (now b))))
 after_read calls a b r makes told Facts reads facts =
     OnOk_map r (λ (done : now b ≡ after_all calls (now a)).
-        subst (λ (i : Image). Facts (fresh i))
-        (sym (ap current done ∙ current_as (after_all calls (now a)) (after_all calls (fresh (current (now a)))) (after_as calls (now a) (fresh (current (now a))) (fresh_as (now a)))))
-        (reads (after_all calls (fresh (current (now a)))) facts)) (makes.whole told)
+    subst (λ (i : Image). Facts (fresh i))
+    (sym (ap current done ∙ current_as (after_all calls (now a)) (after_all calls (fresh (current (now a)))) (after_as calls (now a) (fresh (current (now a))) (fresh_as (now a)))))
+    (reads (after_all calls (fresh (current (now a)))) facts)) (makes.whole told)
 
 pub after_steady : {T E : Type 0} (calls : List Call) (a b : Standing) (r : Result T E) → MakesAll calls a b r → IsTrue a.told
     → (Facts : State → Type 0) → Facts (after_all calls (now a)) → OnOk r (Facts (now b))
