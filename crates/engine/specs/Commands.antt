@@ -6,4 +6,4 @@ use Rattle.engine.specs.declared.engine.Engine.{Engine}
 
 -- the pages of an engine, the references to its parts being of no name
 abbrev pub shown : Engine → Device → Standing Apart
-shown engine d = standing_of engine.book d 0 0
+shown engine d = standing_of engine.book d 0 0 0

@@ -1,4 +1,4 @@
-use Rattle.std.proofs.Common.{◌≡◌, refl}
+use Rattle.engine.proofs.TableLaws.{put_done}
 use Rattle.engine.proofs.engine.Engine.get.Goals as goal
 
 pub returns-in_err-value-clause-does : goal.returns-in_err-value-clause-does
@@ -11,7 +11,7 @@ pub returns-in-Found-clause-does : goal.returns-in-Found-clause-does
 returns-in-Found-clause-does g c = ?
 
 pub returns-in-Found-clause-replies : goal.returns-in-Found-clause-replies
-returns-in-Found-clause-replies g c = let h = c.world-1.given in let k : c.world-1.given.0 ≡ c.get.new.pages.dev.now = refl in ?
+returns-in-Found-clause-replies g c = ?
 
 pub returns-in-Absent-clause-does : goal.returns-in-Absent-clause-does
 returns-in-Absent-clause-does g c = ?
