@@ -1,1 +1,2 @@
 pub mod HoldsLaws
+pub mod DoesLaws
