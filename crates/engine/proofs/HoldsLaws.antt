@@ -1,5 +1,6 @@
 -- When devices are in order with the tables of a store.
 use Rattle.std.proofs.Common.{◌≡◌, ℕ, ◌<◌, ◌≤◌, refl, sym, ap, ◌∙◌, subst, arith, false, true, IsTrue, Option, Some, None, List}
+use Rattle.std.proofs.Math.Bridge.{le_prop}
 use Rattle.devices.specs.State.{State, Image, Leaves, current, fresh}
 use Rattle.devices.specs.World.{Standing, now}
 use Rattle.devices.proofs.FreshLaws.{fresh_only}
@@ -24,11 +25,22 @@ use Rattle.table_store.specs.Stored.{IsStore}
 use Rattle.engine.specs.Holds.{AreLimits, HoldsTables, Holds, InOrder}
 
 -- The limits of a store are the only ones.
+abbrev with_facts : (t r : ℕ) → 1 ≤ t → t ≤ 62 → 1 ≤ r → r ≤ 1000000 → Limits
+with_facts t r h1 h2 h3 h4 = record { tables = t; rows = r; tables_some = h1; tables_few = h2; rows_some = h3; rows_few = h4 }
+
+limits_at : (b : Limits) (t : ℕ) → b.tables ≡ t → (r : ℕ) → b.rows ≡ r → (h1 : 1 ≤ t) (h2 : t ≤ 62) (h3 : 1 ≤ r) (h4 : r ≤ 1000000)
+    → b ≡ record { tables = t; rows = r; tables_some = h1; tables_few = h2; rows_some = h3; rows_few = h4 }
+limits_at b t same_tables r same_rows =
+    subst (λ (x : ℕ). (h1 : 1 ≤ x) (h2 : x ≤ 62) (h3 : 1 ≤ r) (h4 : r ≤ 1000000) → b ≡ record { tables = x; rows = r; tables_some = h1; tables_few = h2; rows_some = h3; rows_few = h4 }) same_tables
+    (subst (λ (x : ℕ). (h1 : 1 ≤ b.tables) (h2 : b.tables ≤ 62) (h3 : 1 ≤ x) (h4 : x ≤ 1000000) → b ≡ record { tables = b.tables; rows = x; tables_some = h1; tables_few = h2; rows_some = h3; rows_few = h4 }) same_rows
+    (λ h1 h2 h3 h4.
+        ap (λ (h : 1 ≤ b.tables). with_facts b.tables b.rows h b.tables_few b.rows_some b.rows_few) (le_prop b.tables_some h1)
+        ∙ ap (λ (h : b.tables ≤ 62). with_facts b.tables b.rows h1 h b.rows_some b.rows_few) (le_prop b.tables_few h2)
+        ∙ ap (λ (h : 1 ≤ b.rows). with_facts b.tables b.rows h1 h2 h b.rows_few) (le_prop b.rows_some h3)
+        ∙ ap (λ (h : b.rows ≤ 1000000). with_facts b.tables b.rows h1 h2 h3 h) (le_prop b.rows_few h4)))
+
 pub same_limits : (g : Sizes) (a b : Limits) → AreLimits g a → AreLimits g b → a ≡ b
-same_limits g a b ha hb =
-    let tables : a.tables ≡ b.tables = ha.tables ∙ sym hb.tables in
-    let rows : a.rows ≡ b.rows = ha.rows ∙ sym hb.rows in
-    cc
+same_limits g a b ha hb = limits_at a b.tables (ha.tables ∙ sym hb.tables) b.rows (ha.rows ∙ sym hb.rows) b.tables_some b.tables_few b.rows_some b.rows_few
 
 -- so what holds tables does it with these limits
 pub holds_with : (g : Sizes) (lines : Lines) (T : List Table) (limits : Limits) → AreLimits g limits → HoldsTables g lines T → IsStore limits (pages g) lines
