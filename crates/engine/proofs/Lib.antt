@@ -1,3 +1,4 @@
 pub mod HoldsLaws
 pub mod DoesLaws
 pub mod TableLaws
+pub mod CommandLaws

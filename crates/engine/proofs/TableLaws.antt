@@ -22,6 +22,7 @@ use Rattle.script.specs.declared.command.Reason.{Reason}
 use Rattle.script.specs.declared.command.Reason.TheVariants as reason
 use Rattle.script.specs.declared.command.Reply.{Reply}
 use Rattle.script.specs.declared.command.Reply.TheVariants as reply
+use Rattle.engine.specs.Commands.{reply_of}
 
 -- a name is known where it has rows
 pub known_is : (name : List ℕ) (T : List Table) → is_known name T ≡ is_some (rows_of name T)
@@ -95,12 +96,6 @@ done_deleted key (Some rows) is = elim (cases_Bool (is_some (row_get key rows)))
   | inl e ↦ (refl, e)
   | inr e ↦ let bad : deleted.Done ≡ deleted.Absent = rw e at is in absurd (cc)
 ]
-
--- what a look-up found
-abbrev pub reply_of : Got → Reply
-reply_of (got.Found v) = reply.Found v
-reply_of got.Absent = reply.Absent
-reply_of got.NoTable = reply.Refused reason.Table
 
 -- ---- the first of five tests that holds
 
@@ -224,24 +219,22 @@ module _ (bounds : Bounds) (s : State) where
 
   -- reads, in a transaction or out of one
 
+  abbrev answered : Reply → State × List Reply
+  answered r = (s, r ∷ [])
+
+  as_reply : (v : Option (List ℕ)) → found v ≡ reply_of (found_value v)
+  as_reply None = refl
+  as_reply (Some w) = refl
+
+  get_from : (name : List ℕ) (key : ℕ) (o : Option (List Row)) → rows_of name (current s) ≡ o → step bounds s (Some (command.Get name key)) ≡ answered (reply_of (got_of key o))
+  get_from name key None no_rows = is_table bounds s (command.Get name key) refl (unknown name no_rows)
+  get_from name key (Some rows) has =
+      is_accepted bounds s (command.Get name key) refl (known name (ap (λ (x : Option (List Row)). is_some x) has)) refl refl refl
+      ∙ ap (λ (x : Option (List Row)). answered (found (row_get key (unwrap_or x [])))) has
+      ∙ ap answered (as_reply (row_get key rows))
+
   pub get_gives : (name : List ℕ) (key : ℕ) (answer : Got) → answer ≡ got_of key (rows_of name (current s)) → step bounds s (Some (command.Get name key)) ≡ (s, reply_of answer ∷ [])
-  get_gives name key answer is = gives (rows_of name (current s)) refl
-    where
-      gives : (o : Option (List Row)) → rows_of name (current s) ≡ o → step bounds s (Some (command.Get name key)) ≡ (s, reply_of answer ∷ [])
-      gives None no_rows =
-          is_table bounds s (command.Get name key) refl (unknown name no_rows)
-          ∙ ap (λ (x : Got). (s, reply_of x ∷ [])) (sym (is ∙ ap (got_of key) no_rows))
-      gives (Some rows) has =
-          is_accepted bounds s (command.Get name key) refl (known name (ap (λ (x : Option (List Row)). is_some x) has)) refl refl refl
-          ∙ ap (λ (x : Option (List Row)). (s, found (row_get key (unwrap_or x [])) ∷ [])) has
-          ∙ same (row_get key rows) refl
-        where
-          same : (v : Option (List ℕ)) → row_get key rows ≡ v → (s, found (row_get key rows) ∷ []) ≡ (s, reply_of answer ∷ [])
-          same v e = ap (λ (x : Option (List ℕ)). (s, found x ∷ [])) e ∙ ap (λ (x : Reply). (s, x ∷ [])) (as_reply v) ∙ ap (λ (x : Got). (s, reply_of x ∷ [])) (sym (is ∙ ap (got_of key) has ∙ ap found_value e))
-            where
-              as_reply : (v : Option (List ℕ)) → found v ≡ reply_of (found_value v)
-              as_reply None = refl
-              as_reply (Some w) = refl
+  get_gives name key answer is = get_from name key (rows_of name (current s)) refl ∙ ap (λ (x : Got). answered (reply_of x)) (sym is)
 
   pub scan_unknown : (name : List ℕ) (low high : ℕ) → is_known name (current s) ≡ false → step bounds s (Some (command.Scan name low high)) ≡ (s, reply.Refused reason.Table ∷ [])
   scan_unknown name low high is = is_table bounds s (command.Scan name low high) refl (ap not is)

@@ -8,7 +8,7 @@ ghost use Rattle.table_store.specs.Created.{IsCreateDamage};
 ghost use Rattle.table_store.specs.Stored.{IsLookupDamage};
 ghost use Rattle.table_store.specs.Changed.{IsChangeDamage};
 ghost use Rattle.script.specs.declared.command.Command.TheVariants.{Create, Put, Del, Get};
-ghost use Rattle.engine.specs.Commands.{shown};
+ghost use Rattle.engine.specs.Commands.{shown, reply_of};
 ghost use Rattle.engine.specs.Engine.{engine_sizes, StandsFor};
 ghost use Rattle.engine.specs.Steps.{Does, Replies, after_command};
 
@@ -20,6 +20,17 @@ use slotted_page::Value;
 use table_store::{Got, Name, Stored};
 use transactions::Store;
 
+/// The reply to a look-up.
+fn reply_to(got: Got) -> Reply
+    ensures { result ≡ reply_of got }
+{
+    match got {
+        Got::Found(value) => Reply::Found(value),
+        Got::Absent => Reply::Absent,
+        Got::NoTable => Reply::Refused(Reason::Table),
+    }
+}
+
 impl Engine {
     /// `get`: the value at a key.
     pub(crate) fn get<W: World>(&mut self, world: &mut W, name: &Name, key: u64) -> Result<Reply, Stop>
@@ -28,12 +39,9 @@ impl Engine {
         ensures replies { Replies self.old (W.Devices.standing world.old) (Some (Get name.now key)) result }
         ensures cause { HasCause (λ e. IsTrue (W.Devices.standing world.old).told → IsLookupDamage self.old.limits (shown self.old (W.Devices.standing world.old)).count (shown self.old (W.Devices.standing world.old)).current self.new.work.page e) (shown self.old (W.Devices.standing world.old)) (shown self.new (W.Devices.standing world.new)) result }
     {
-        let mut store = Store::over(&mut self.book, &mut *world);
-        match table_store::get(&mut store, &self.limits, name, key, &mut self.work)? {
-            Got::Found(value) => Ok(Reply::Found(value)),
-            Got::Absent => Ok(Reply::Absent),
-            Got::NoTable => Ok(Reply::Refused(Reason::Table)),
-        }
+        let mut store = Store::over(&mut self.book, world);
+        let got = table_store::get(&mut store, &self.limits, name, key, &mut self.work)?;
+        Ok(reply_to(got))
     }
 
     /// `put`: a value at a key, in a transaction that may have one more write.
@@ -45,7 +53,7 @@ impl Engine {
         ensures replies { Replies self.old (W.Devices.standing world.old) (Some (Put name.now key value.now)) result }
         ensures cause { HasCause (IsChangeDamage (W.Devices.standing world.old).told self.old.limits (shown self.old (W.Devices.standing world.old)).count (shown self.old (W.Devices.standing world.old)).current self.new.work.page) (shown self.old (W.Devices.standing world.old)) (shown self.new (W.Devices.standing world.new)) result }
     {
-        let mut store = Store::over(&mut self.book, &mut *world);
+        let mut store = Store::over(&mut self.book, world);
         match table_store::put(&mut store, &self.limits, name, key, value, &mut self.work)? {
             Stored::Done => {
                 store.next_write();
