@@ -2,3 +2,4 @@ pub mod HoldsLaws
 pub mod DoesLaws
 pub mod TableLaws
 pub mod CommandLaws
+pub mod AnswerLaws
