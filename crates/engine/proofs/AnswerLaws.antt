@@ -1,5 +1,5 @@
 -- What the answers of tables mean for the state that an engine shows.
-use Rattle.std.proofs.Common.{◌≡◌, ◌×◌, ℕ, ◌+◌, ◌*◌, ◌/◌, ◌<◌, ◌≤◌, Bool, true, false, List, [], ◌∷◌, ◌++◌, length, refl, sym, ap, subst, ◌∙◌, arith, Some, None, Option, is_some, IsTrue}
+use Rattle.std.proofs.Common.{◌≡◌, ℕ, ◌+◌, ◌*◌, ◌/◌, ◌<◌, ◌≤◌, Bool, true, false, List, [], ◌∷◌, ◌++◌, length, refl, sym, ap, subst, ◌∙◌, arith, Some, None, Option, is_some, IsTrue}
 use Rattle.std.specs.Prelude.{unwrap_or}
 use Rattle.devices.specs.World.{Standing as Device, now}
 use Rattle.line_pages.specs.Lines.{Lines}
