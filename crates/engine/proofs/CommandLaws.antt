@@ -1,6 +1,6 @@
 -- What a command on tables makes of an engine, by what its call of pages did.
-use Rattle.std.proofs.Common.{◌≡◌, ℕ, ◌+◌, ◌*◌, ◌<◌, ◌≤◌, Bool, true, false, cond, List, refl, sym, ap, subst, ◌∙◌, arith, inl, inr, Some, None, Option, IsTrue, Result, Ok, Err}
-use Rattle.std.specs.Prelude.{OnOk, IfErr, IsErr, IsErrAnd, ◌==◌}
+use Rattle.std.proofs.Common.{◌≡◌, ℕ, ◌+◌, ◌*◌, ◌<◌, ◌≤◌, Bool, true, false, cond, List, [], ◌∷◌, refl, sym, ap, subst, ◌∙◌, arith, inl, inr, Some, None, Option, IsTrue, Result, Ok, Err}
+use Rattle.std.specs.Prelude.{OnOk, IfOk, IfErr, IsErr, IsErrAnd, ◌==◌}
 use Rattle.std.proofs.lemmas.Bool.{cases_eq, ne_eqb}
 use Rattle.devices.specs.World.{Standing as Device, Goes, now}
 use Rattle.line_pages.specs.Lines.{Lines}
@@ -21,6 +21,7 @@ use Rattle.transactions.specs.declared.book.Book.{Book}
 use Rattle.transactions.specs.StoreStanding.{standing_of, book_sizes, reach, IsReady, IsSteady}
 use Rattle.transactions.specs.StoreCalls.{NextWrite}
 use Rattle.script.specs.Machine.{State, Open, current, written}
+use Rattle.script.specs.declared.command.Reply.{Reply}
 use Rattle.engine.specs.declared.engine.Engine.{Engine}
 use Rattle.engine.specs.Holds.{AreLimits, HoldsTables}
 use Rattle.engine.specs.Engine.{engine_sizes, StandsFor, Shows, IsTransaction, IsFault}
@@ -225,3 +226,7 @@ does_err {T} {U} after old a new b r why is it =
 pub cause_err : {A T U : Type 0} (Damage : Evidence → Type 0) (old new : Shown A) (r : Result U Stop) (why : Stop) → IsErr r × IsErrAnd r (λ found. found ≡ why)
     → HasCause {T = T} Damage old new (Err why) → HasCause {T = U} Damage old new r
 cause_err {A} {T} {U} Damage old new r why is it = subst (λ (x : Result U Stop). HasCause {T = U} Damage old new x) (sym (handed_on r why is)) (record { failed = it.failed; kept = tt })
+
+pub replies_by : (r : Result Reply Stop) (x : Reply) (all : List Reply) → all ≡ x ∷ [] → IfOk r (λ y. y ≡ x) → IfOk r (λ y. all ≡ y ∷ [])
+replies_by (Ok y) x all is same = is ∙ ap (λ (z : Reply). z ∷ []) (sym same)
+replies_by (Err e) x all is same = tt

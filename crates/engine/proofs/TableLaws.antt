@@ -1,5 +1,5 @@
 -- What the answers of tables mean for the plain machine.
-use Rattle.std.proofs.Common.{◌≡◌, ℕ, ◌+◌, ◌<◌, ◌≤◌, Bool, true, false, not, List, [], ◌∷◌, length, refl, sym, ap, subst, ◌∙◌, arith, inl, inr, Some, None, Option, is_some, cond}
+use Rattle.std.proofs.Common.{◌≡◌, ℕ, ◌+◌, ◌<◌, ◌≤◌, Bool, true, false, not, List, [], ◌∷◌, ◌++◌, map, zero-add, length, refl, sym, ap, subst, ◌∙◌, arith, inl, inr, Some, None, Option, is_some, cond}
 use Rattle.std.specs.Prelude.{◌&&◌, ◌||◌, nat_le, nat_lt, bytes_eq, unwrap_or}
 use Rattle.std.proofs.lemmas.Bool.{cases_Bool, cases_lt, le-leb, lt-leb, lt-ltb, le-ltb}
 use Rattle.slotted_page.specs.Rows.{Row, row_get, row_put, row_delete}
@@ -242,6 +242,13 @@ module _ (bounds : Bounds) (s : State) where
   pub scan_known : (name : List ℕ) (low high : ℕ) → is_known name (current s) ≡ true → step bounds s (Some (command.Scan name low high)) ≡ (s, scanned (row_range low high (rows_in name s)))
   scan_known name low high is = is_accepted bounds s (command.Scan name low high) refl (ap not is) refl refl refl
 
+  -- neither changes anything
+  pub scan_stays : (name : List ℕ) (low high : ℕ) → (step bounds s (Some (command.Scan name low high))).0 ≡ s
+  scan_stays name low high = elim (cases_Bool (is_known name (current s))) [
+    | inl e ↦ ap (λ (p : State × List Reply). p.0) (scan_known name low high e)
+    | inr e ↦ ap (λ (p : State × List Reply). p.0) (scan_unknown name low high e)
+  ]
+
   -- a write in a transaction that has had the most
 
   module _ (o : Open) (is_open : s.transaction ≡ Some o) (spent : bounds.writes ≤ o.writes) where
@@ -266,3 +273,7 @@ module _ (bounds : Bounds) (s : State) where
 
     pub spent_create : (name : List ℕ) → step bounds s (Some (command.Create name)) ≡ (s, reply.Refused (reason_of (is_known name (current s)) true) ∷ [])
     spent_create name = spent_by (command.Create name) true (is_known name (current s)) (shut o is_open) none_left refl
+
+-- the rows of a scan that has given none, and its end
+pub scanned_from : (rows : List Row) (low high : ℕ) → scanned (row_range low high rows) ≡ map (λ (row : Row). reply.Row row.0 row.1) (row_range low high rows) ++ reply.Finish (0 + length (row_range low high rows)) ∷ []
+scanned_from rows low high = ap (λ (n : ℕ). map (λ (row : Row). reply.Row row.0 row.1) (row_range low high rows) ++ reply.Finish n ∷ []) (sym (zero-add (length (row_range low high rows))))
