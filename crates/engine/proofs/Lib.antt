@@ -1,2 +1,3 @@
 pub mod HoldsLaws
 pub mod DoesLaws
+pub mod TransactionLaws

@@ -3,6 +3,7 @@
 
 mod engine;
 mod scan;
+mod transaction;
 
 pub use engine::Engine;
 pub use scan::{Scan, Step};

@@ -1,0 +1,103 @@
+-- What the calls that open and end transactions mean for the plain machine.
+use Rattle.std.proofs.Common.{◌≡◌, ◌⊎◌, ℕ, ◌+◌, ◌*◌, ◌^◌, ◌<◌, ◌≤◌, List, refl, sym, ap, ◌∙◌, subst, inl, inr, arith, true, false, Bool, IsTrue, Result, Ok, Err, Option, Some, None, [], ◌∷◌, is_some}
+use Rattle.std.specs.Prelude.{OnOk, IfErr, IfOk, IsErr, IsErrAnd}
+use Rattle.devices.specs.World.{Standing, Goes, now}
+use Rattle.line_pages.specs.Lines.{Lines}
+use Rattle.line_pages.specs.declared.stop.Stop.{Stop}
+use Rattle.line_pages.specs.declared.stop.Stop.TheVariants.{Nvm, Ssd, Damaged}
+use Rattle.store_meaning.specs.Layout.{Sizes, pages, nvm_lines, ssd_blocks}
+use Rattle.store_laws.specs.ShownPages.{pages_in, committed_in}
+use Rattle.store_laws.specs.Steps.{MayLeave}
+use Rattle.nvm_layout.specs.Sizes.{sizes_of}
+use Rattle.nvm_layout.specs.declared.geometry.Geometry.{Geometry}
+use Rattle.table_store.specs.Catalog.{Table}
+use Rattle.transactions.specs.declared.book.Book.{Book}
+use Rattle.transactions.specs.StoreStanding.{book_sizes, reach, kept_lines, reserve, IsReady, IsSteady}
+use Rattle.transactions.specs.StoreCalls as store
+use Rattle.transactions.specs.StoreCalls.{StoreCall, IsCommitted, IsOldOrNew, KeepsLines, CommitsLines, AbortsLines, Begins, Ends, Checkpoints, FaultCause}
+use Rattle.script.specs.Machine.{Bounds, State, Open, current, step, accepted}
+use Rattle.script.specs.declared.command.Command.{Command}
+use Rattle.script.specs.declared.command.Command.TheVariants as command
+use Rattle.script.specs.declared.command.Reply.TheVariants as reply
+use Rattle.engine.specs.declared.engine.Engine.{Engine}
+use Rattle.engine.specs.Holds.{AreLimits, HoldsTables, bounds_in}
+use Rattle.engine.specs.Engine.{engine_sizes, StandsFor, IsSteadyFor, IsTransaction, Shows, IsFault}
+use Rattle.engine.specs.Steps.{Does, Replies, after_command}
+use Rattle.engine.proofs.HoldsLaws.{holds_same}
+use Rattle.engine.proofs.DoesLaws.{does_same, does_kept, does_chosen}
+
+-- ---- the machine's state, by the book
+
+pub none_open : (book : Book) (t : Option Open) → IsTransaction book t → book.is_open ≡ false → t ≡ None
+none_open book None is closed = refl
+none_open book (Some o) is closed = absurd (bad (sym is.0 ∙ closed))
+  where
+    bad : true ≡ false → ⊥
+    bad e = absurd (cc)
+
+pub some_open : (book : Book) (t : Option Open) → IsTransaction book t → book.is_open ≡ true → (o : Open) × (t ≡ Some o) × (o.writes ≡ book.accepted)
+some_open book None is open_now = absurd (bad (sym is ∙ open_now))
+  where
+    bad : false ≡ true → ⊥
+    bad e = absurd (cc)
+some_open book (Some o) is open_now = (o, refl, is.1)
+
+pub closed_transaction : (book : Book) (t : Option Open) → t ≡ None → book.is_open ≡ false → IsTransaction book t
+closed_transaction book t none closed = subst (λ (x : Option Open). IsTransaction book x) (sym none) closed
+
+pub current_closed : (s : State) → s.transaction ≡ None → current s ≡ s.tables
+current_closed s none = rw none refl
+
+-- each command, where it is not refused
+pub step_begin : (bounds : Bounds) (s : State) → s.transaction ≡ None → step bounds s (Some command.Begin) ≡ accepted s command.Begin
+step_begin bounds s none = rw none refl
+
+pub step_commit : (bounds : Bounds) (s : State) (o : Open) → s.transaction ≡ Some o → step bounds s (Some command.Commit) ≡ accepted s command.Commit
+step_commit bounds s o some = rw some refl
+
+pub step_abort : (bounds : Bounds) (s : State) (o : Open) → s.transaction ≡ Some o → step bounds s (Some command.Abort) ≡ accepted s command.Abort
+step_abort bounds s o some = rw some refl
+
+pub step_checkpoint : (bounds : Bounds) (s : State) → s.transaction ≡ None → step bounds s (Some command.Checkpoint) ≡ accepted s command.Checkpoint
+step_checkpoint bounds s none = rw none refl
+
+-- ---- what an engine stands for and shows behind a call
+
+pub stands_by : (old new : Engine) (a b : Standing) → StandsFor old a → new.book.log.geometry ≡ old.book.log.geometry → new.limits ≡ old.limits → new.writes ≡ old.writes → Goes a b → IsReady new.book b
+    → (new.book.is_open ≡ true → new.book.accepted ≤ old.writes) → (new.book.is_open ≡ true → new.book.accepted < old.writes → 640 ≤ new.book.room) → new.commits ≤ new.book.log.tail → StandsFor new b
+stands_by old new a b stands geometry limits writes goes ready few room counted = record {
+  ready = ready;
+  disk = subst (λ n. ssd_blocks (engine_sizes new) ≤ n) (sym goes.blocks) (subst (λ (x : Geometry). ssd_blocks (sizes_of x) ≤ a.blocks) (sym geometry) stands.disk);
+  limits = record {
+    tables = ap (λ x. x.tables) limits ∙ stands.limits.tables ∙ sym (ap (λ (x : Geometry). (sizes_of x).tables) geometry);
+    rows = ap (λ x. x.rows) limits ∙ stands.limits.rows ∙ sym (ap (λ (x : Geometry). (sizes_of x).rows) geometry);
+  };
+  writes = writes ∙ stands.writes ∙ sym (ap (λ (x : Geometry). x.writes) geometry);
+  few = λ is. subst (λ n. new.book.accepted ≤ n) (sym writes) (few is);
+  room = λ is more. room is (subst (λ n. new.book.accepted < n) writes more);
+  counted = counted;
+}
+
+pub shows_by : (old new : Engine) (b : Standing) (t : State) (kept seen : Lines) → new.book.log.geometry ≡ old.book.log.geometry → committed_in (now b) ≡ kept → pages_in (engine_sizes new) (now b) ≡ seen
+    → HoldsTables (engine_sizes old) kept t.tables → HoldsTables (engine_sizes old) seen (current t) → IsTransaction new.book t.transaction → new.commits ≡ t.commits → Shows new b t
+shows_by old new b t kept seen geometry kept_is seen_is holds sees transaction commits = record {
+  committed = subst (λ (x : Geometry). HoldsTables (sizes_of x) (committed_in (now b)) t.tables) (sym geometry) (holds_same (engine_sizes old) kept (committed_in (now b)) t.tables kept_is holds);
+  seen = subst (λ (x : Geometry). HoldsTables (sizes_of x) (pages_in (engine_sizes new) (now b)) (current t)) (sym geometry) (holds_same (engine_sizes old) seen (pages_in (engine_sizes new) (now b)) (current t) seen_is sees);
+  transaction = transaction;
+  commits = commits;
+}
+
+-- ---- faults
+
+pub fault_is : (a b : Standing) (why : Stop) → store.IsFault a b why → IsFault why
+fault_is a b Nvm is = tt
+fault_is a b Ssd is = absurd is
+fault_is a b (Damaged evidence) is = absurd is
+
+pub nvm_fault : (why : Stop) → why ≡ Nvm → IsFault why
+nvm_fault why is = subst IsFault (sym is) tt
+
+-- a stop that was handed on
+pub handed_on : {T : Type 0} (r : Result T Stop) (why : Stop) (P : Stop → Type 0) → IsErr r × IsErrAnd r (λ found. found ≡ why) → P why → IfErr r P
+handed_on (Ok v) why P is p = tt
+handed_on (Err found) why P is p = subst P (sym is.1) p
