@@ -101,3 +101,39 @@ nvm_fault why is = subst IsFault (sym is) tt
 pub handed_on : {T : Type 0} (r : Result T Stop) (why : Stop) (P : Stop → Type 0) → IsErr r × IsErrAnd r (λ found. found ≡ why) → P why → IfErr r P
 handed_on (Ok v) why P is p = tt
 handed_on (Err found) why P is p = subst P (sym is.1) p
+
+-- where a store's call answers ok, and where it stops
+pub does_stopped : {T : Type 0} (after : State → State) (old : Engine) (a : Standing) (new : Engine) (b : Standing) (r : Result T Stop) (why : Stop) → IsErr r × IsErrAnd r (λ found. found ≡ why) → StandsFor old a
+    → new.book.log.geometry ≡ old.book.log.geometry → Goes a b
+    → (IsTrue a.told → IsSteady old.book a → (m : ℕ) → a.clock < m → m ≤ b.clock → (lines : Lines) → MayLeave (engine_sizes old) b m lines → lines ≡ committed_in (now a))
+    → (IsTrue a.told → (s : State) → Shows old a s → IsFault why) → Does after old a new b r
+does_stopped after old a new b (Ok v) why is stands geometry goes during fault = absurd is.0
+does_stopped after old a new b (Err found) why is stands geometry goes during fault =
+    does_kept after old a new b (Err found) stands geometry goes during tt (λ steady. tt) tt (λ told s shows. subst IsFault (sym is.1) (fault told s shows)) (λ told s shows. tt)
+
+-- ---- the calls
+
+module _ (old : Engine) (a : Standing) (stands : StandsFor old a) (book : Book) (b : Standing) where
+  abbrev with_book : Engine
+  with_book = record old { book = book }
+
+  below : old.book.log.tail ≤ 2 ^ 62
+  below = let all : reach old.book + kept_lines old.book ≤ 2 ^ 62 = stands.ready.below in omega (arith, all)
+
+  module _ (closed : old.book.is_open ≡ false) (call : StoreCall (IsCommitted a) old.book a book b) where
+    was_closed : (s : State) → Shows old a s → s.transaction ≡ None
+    was_closed s is = none_open old.book s.transaction is.transaction closed
+
+    pub begin_does : (lines : IsTrue a.told → KeepsLines old.book a book b) → Begins old.book book → IsReady book b → (IsSteady old.book a → IsSteady book b)
+        → Does (after_command old (Some command.Begin)) old a with_book b (Ok reply.Fine)
+    begin_does lines begins ready steady =
+        does_kept (after_command old (Some command.Begin)) old a with_book b (Ok reply.Fine) stands call.geometry call.goes call.during begins.reach_rises steady
+        (stands_by old with_book a b stands call.geometry refl refl call.goes ready (λ is. subst (λ n. n ≤ old.writes) (sym begins.accepted) (omega arith)) (λ is more. subst (λ n. 640 ≤ n) (sym begins.room) (omega arith))
+        (subst (λ n. old.commits ≤ n) (sym begins.tail) stands.counted)) (λ told s is. tt)
+        (λ told s is.
+            subst (λ (t : State). Shows with_book b t) (sym (ap (λ x. x.0) (step_begin (bounds_in (engine_sizes old)) s (was_closed s is))))
+            (shows_by old with_book b (accepted s command.Begin).0 (committed_in (now a)) (pages_in (engine_sizes old) (now a)) call.geometry (lines told).committed (lines told).current is.committed
+            (subst (λ (T : List Table). HoldsTables (engine_sizes old) (pages_in (engine_sizes old) (now a)) T) (current_closed s (was_closed s is)) is.seen) (begins.is_open, sym begins.accepted) is.commits))
+
+    pub begin_replies : Replies old a (Some command.Begin) (Ok reply.Fine)
+    begin_replies = λ told s is. ap (λ x. x.1) (step_begin (bounds_in (engine_sizes old)) s (was_closed s is))

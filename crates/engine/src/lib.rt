@@ -3,6 +3,7 @@
 
 mod engine;
 mod scan;
+mod storing;
 mod transaction;
 
 pub use engine::Engine;
