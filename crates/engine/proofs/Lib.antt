@@ -1,3 +1,5 @@
 pub mod HoldsLaws
 pub mod DoesLaws
 pub mod TransactionLaws
+pub mod TableLaws
+pub mod CommandLaws

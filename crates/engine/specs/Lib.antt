@@ -1,3 +1,4 @@
 pub mod Holds
 pub mod Engine
 pub mod Steps
+pub mod Commands

@@ -1,6 +1,7 @@
 //! The engine: an opened store of tables, one step a line of a script.
 #![tactic(auto)]
 
+mod commands;
 mod engine;
 mod scan;
 mod storing;

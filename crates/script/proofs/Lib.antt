@@ -6,4 +6,5 @@ pub mod ValuesLaws
 pub mod ScriptLaws
 pub mod TransactionLaws
 pub mod LoopLaws
+pub mod ScanLaws
 pub mod Worked

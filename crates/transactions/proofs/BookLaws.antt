@@ -152,12 +152,14 @@ module _ (old : Book) (touched : Accesses) (new : Book) (a b : Device) (page lin
       let behind : old.first ≤ old.log.tail = ready.within in
       let kept : kept_lines new ≡ kept_lines old = same_kept in
       let under : reach old + kept_lines old ≤ 2 ^ 62 = ready.below in
+      let most : old.room ≤ 640 = ready.few in
       record {
         fits = subst (λ (x : Geometry). nvm_lines (sizes_of x) ≤ b.lines) (sym written.geometry) (subst (λ n. nvm_lines (book_sizes old) ≤ n) (sym goes.lines) ready.fits);
         allowed = subst (λ (x : Geometry). is_allowed (sizes_of x) ≡ true) (sym written.geometry) ready.allowed;
         sized = omega (arith, enough, lines, count);
         room = omega (arith, all, reaches, kept, start, ring);
         below = omega (arith, under, reaches, kept);
+        few = omega (arith, most, reaches, tail);
         begins = omega (arith, begins, start, first);
         within = omega (arith, behind, tail, first);
         closed = λ shut. let none : old.room ≡ 0 = (ready.closed (sym written.is_open ∙ shut)).room in absurd (omega (arith, none, some));

@@ -96,14 +96,15 @@ pub record NoneOpen (book : Book) : Type 0 where
   pub first : book.first ≡ book.log.tail
 
 -- The book stands for the device: its sizes are allowed and fit, the log has room for a record of each line that may still
--- be written, now and with each further write, and for the end of an open transaction, and as one reads the device the
--- facts of an open store hold.
+-- be written, at most 640 now, and with each further write, and for the end of an open transaction, and as one reads the
+-- device the facts of an open store hold.
 pub record IsReady (book : Book) (d : Device) : Type 0 where
   pub fits : nvm_lines (book_sizes book) ≤ d.lines
   pub allowed : is_allowed (book_sizes book) ≡ true
   pub sized : pages (book_sizes book) ≤ pages_of book.loose
   pub room : reach book + kept_lines book ≤ book.log.start + ring_lines (book_sizes book)
   pub below : reach book + kept_lines book ≤ 2 ^ 62
+  pub few : book.room ≤ 640
   pub begins : book.log.start ≤ book.first
   pub within : book.first ≤ book.log.tail
   pub closed : book.is_open ≡ false → NoneOpen book
