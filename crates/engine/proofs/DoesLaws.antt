@@ -119,13 +119,13 @@ pub does_chosen : {T : Type 0} (after : State → State) (old : Engine) (a : Sta
     → (IsSteadyFor old a → OnOk r (IsSteadyFor new b)) → OnOk r (StandsFor new b)
     → (IsTrue a.told → (s : State) → Shows old a s → IfErr r IsFault)
     → (IsTrue a.told → (s : State) → Shows old a s → OnOk r (Shows new b (after s)))
-    → ((s : State) → (after s).tables ≡ current_tables s)
+    → ((s : State) → Shows old a s → (after s).tables ≡ current_tables s)
     → Does after old a new b r
 does_chosen after old a new b r stands geometry goes during rises steady ready sound shows chosen = record {
   shows = shows;
   sound = sound;
   moments = λ told is_steady s is. chosen_moments old.book a b s.tables (after s).tables stands.ready stands.disk told is_steady goes is.committed
-      (subst (λ (T : List Table). HoldsTables (engine_sizes old) (pages_in (engine_sizes old) (now a)) T) (sym (chosen s)) is.seen) (during told is_steady);
+      (subst (λ (T : List Table). HoldsTables (engine_sizes old) (pages_in (engine_sizes old) (now a)) T) (sym (chosen s is)) is.seen) (during told is_steady);
   steady = steady;
   ready = ready;
   sizes = sizes_by old new geometry;

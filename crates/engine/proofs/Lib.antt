@@ -1,5 +1,6 @@
 pub mod HoldsLaws
 pub mod DoesLaws
+pub mod TransactionLaws
 pub mod TableLaws
 pub mod CommandLaws
 pub mod AnswerLaws

@@ -4,6 +4,8 @@
 mod commands;
 mod engine;
 mod scan;
+mod storing;
+mod transaction;
 
 pub use engine::Engine;
 pub use scan::{Scan, Step};

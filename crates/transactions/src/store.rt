@@ -68,6 +68,6 @@ impl<'a, D: Devices> Pages for Store<'a, D> {
 
     fn rest(&mut self) {
         let book = &mut *self.book;
-        book.accesses.end();
+        book.rest();
     }
 }

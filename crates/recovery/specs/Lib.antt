@@ -1,0 +1,9 @@
+pub mod Calls
+pub mod Empty
+pub mod Causes
+pub mod Recovering
+pub mod Reading
+pub mod Heads
+pub mod Replaying
+pub mod Errors
+pub mod Opening

@@ -1,0 +1,17 @@
+-- What recovery leaves: the images on the way, and the store at its end.
+use Rattle.std.specs.Prelude.{◌≡◌, ℕ, List, [], ◌∷◌}
+use Rattle.devices.specs.State.{State, Image, Leaves}
+use Rattle.line_pages.specs.Lines.{Lines}
+use Rattle.store_meaning.specs.Layout.{Sizes}
+use Rattle.store_meaning.specs.Format.Format.{whole_lines}
+use Rattle.store_meaning.specs.Recovered.{super_of, recovered_pages, IsStore}
+
+-- the image is a store of these sizes that recovers to these lines
+pub record IsStoreOf (g : Sizes) (lines : Lines) (i : Image) : Type 0 where
+  pub store : IsStore whole_lines i
+  pub sizes : (super_of i).sizes ≡ g
+  pub pages : recovered_pages whole_lines i ≡ lines
+
+-- so is each image that a crash leaves of the state
+abbrev pub LeavesStores : Sizes → Lines → State → Type 0
+LeavesStores g lines s = (i : Image) → Leaves s i → IsStoreOf g lines i
