@@ -69,7 +69,7 @@ pub store_shown : (old : Engine) (a : Device) (s : State) → StandsFor old a �
 store_shown old a s stands shows = holds_with (engine_sizes old) (pages_in (engine_sizes old) (now a)) (current s) old.limits stands.limits shows.seen
 
 -- the open transaction by another book
-transaction_by : (old new : Book) (o : Option Open) → new.is_open ≡ old.is_open → new.accepted ≡ old.accepted → IsTransaction old o → IsTransaction new o
+pub transaction_by : (old new : Book) (o : Option Open) → new.is_open ≡ old.is_open → new.accepted ≡ old.accepted → IsTransaction old o → IsTransaction new o
 transaction_by old new None is_open accepted it = is_open ∙ it
 transaction_by old new (Some o) is_open accepted it = (is_open ∙ it.0, it.1 ∙ sym accepted)
 

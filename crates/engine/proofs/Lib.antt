@@ -4,3 +4,4 @@ pub mod TransactionLaws
 pub mod TableLaws
 pub mod CommandLaws
 pub mod AnswerLaws
+pub mod ScanningLaws

@@ -4,6 +4,7 @@
 mod commands;
 mod engine;
 mod scan;
+mod scanning;
 mod storing;
 mod transaction;
 
