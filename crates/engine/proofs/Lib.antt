@@ -3,3 +3,4 @@ pub mod DoesLaws
 pub mod TransactionLaws
 pub mod TableLaws
 pub mod CommandLaws
+pub mod OpenLaws

@@ -2,3 +2,4 @@ pub mod Holds
 pub mod Engine
 pub mod Steps
 pub mod Commands
+pub mod Opening

@@ -3,9 +3,11 @@
 
 mod commands;
 mod engine;
+mod opening;
 mod scan;
 mod storing;
 mod transaction;
 
 pub use engine::Engine;
+pub use recovery::OpenError;
 pub use scan::{Scan, Step};
