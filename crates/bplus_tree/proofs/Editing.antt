@@ -19,7 +19,7 @@ use Rattle.bplus_tree.specs.Space.{high_of, IsFreeList}
 use Rattle.bplus_tree.specs.Tree.{times, IsTree, tree_rows, tree_pages, SameOn}
 use Rattle.bplus_tree.specs.Moves.{below, ArePart, Moves, SameEntries, Gives}
 use Rattle.bplus_tree.specs.Written.{Rewrites}
-use Rattle.bplus_tree.specs.Edit.{part, loose, Holds, Fits, child_put, rows_of, pages_of, Became, Edits, both, joined, Joins, IsPairAt, PairsUp, Mended, Mends, own, after_fit, Rewritten}
+use Rattle.bplus_tree.specs.Edit.{part, loose, Holds, Fits, child_put, rows_of, pages_of, Became, Edits, both, joined, Joins, IsPairAt, PairsUp, Mended, IsMendable, Mends, own, after_fit, Rewritten}
 use Rattle.bplus_tree.proofs.TreeLaws.{times-append, SameOn-first, tree_pages-same, tree_rows-same, IsTree-same}
 use Rattle.bplus_tree.proofs.OrderLaws.{IsChildTree, length-children, Each-get}
 use Rattle.bplus_tree.proofs.RowLaws.{row_put-amid, row_delete-amid}
@@ -113,7 +113,7 @@ three_rows : (lines : Lines) (level : ℕ) (xs ss ys : List Child) → rows_of l
 three_rows lines level xs ss ys =
     flat_map-append (λ (child : Child). tree_rows lines level child.1) xs (ss ++ ys) ∙ ap (λ r. rows_of lines level xs ++ r) (flat_map-append (λ (child : Child). tree_rows lines level child.1) ss ys)
 
-three_pages : (lines : Lines) (level : ℕ) (xs ss ys : List Child) (n : ℕ)
+pub three_pages : (lines : Lines) (level : ℕ) (xs ss ys : List Child) (n : ℕ)
     → times n (pages_of lines level (xs ++ (ss ++ ys))) ≡ times n (pages_of lines level xs) + (times n (pages_of lines level ss) + times n (pages_of lines level ys))
 three_pages lines level xs ss ys n =
     let all = flat_map-append (λ (child : Child). tree_pages lines level child.1) xs (ss ++ ys) ∙ ap (λ r. pages_of lines level xs ++ r) (flat_map-append (λ (child : Child). tree_pages lines level child.1) ss ys) in
@@ -223,23 +223,25 @@ edits_alone e old mid new page child low high at other step some same found dele
     free below is (child_part old level page l.xs l.ys (low, child) free l.is whole) bound in
     let never = d.tree.0 in absurd (cc))
 
--- the child fell below the floor, and the page above is mended
-pub edits_short : (e : Expect) (old first mid new : Lines) (page key child low high at : ℕ) (outcome : Outcome) (step : List Row → List Row) → IsLocal key step → 1 ≤ e.level → first ≡ old
-    → (IsWellFormed (bytes_of old page) e → slice_get (spans (children (bytes_of old page)) e.high) at ≡ Some (record { page = child; low = low; high = high })) → low ≤ key → key ≤ high
-    → Edits first mid child (record { level = e.level - 1; low = low; high = high; root = false; pages = e.pages }) Short step
-    → Mends mid new page e low outcome → Edits old new page e outcome step
-edits_short e old first mid new page key child low high at outcome step local some same found above within deletes mends =
-    let is_level = one_above e.level some in
-    let level = e.level - 1 in
+-- the page above a child that fell below the floor
+pub record ShortBelow (e : Expect) (old mid : Lines) (level page low : ℕ) (free : List ℕ) (rows' : List Row) : Type 0 where
+  pub rest : List ℕ
+  pub mendable : IsMendable mid page (at_level e (suc level)) low level rest
+  pub moves : Moves e.pages old mid (tree_pages old (suc level) page) (tree_pages mid (suc level) page) free rest
+  pub entries : SameEntries old mid
+  pub rows : rows_of mid level (children (bytes_of mid page)) ≡ rows'
+
+pub short_below : (e : Expect) (old mid : Lines) (level page key child low high at : ℕ) (step : List Row → List Row) (free : List ℕ) → IsLocal key step
+    → slice_get (spans (children (bytes_of old page)) e.high) at ≡ Some (record { page = child; low = low; high = high }) → low ≤ key → key ≤ high
+    → Edits old mid child (record { level = level; low = low; high = high; root = false; pages = e.pages }) Short step
+    → IsTree e.pages old (suc level) page e.low e.high e.root → IsFreeList old free → ArePart old (tree_pages old (suc level) page ++ free) → high_of old ≤ e.pages
+    → ShortBelow e old mid level page low free (step (tree_rows old (suc level) page))
+short_below e old mid level page key child low high at step free local spot above within deletes tree is whole bound =
     let s : Span = record { page = child; low = low; high = high } in
-    subst (λ l. Mends mid new page (at_level e l) low outcome → Edits old new page (at_level e l) outcome step) (sym is_level)
-    (λ mending free tree is whole bound.
-    let spot = found (subst (λ l. IsWellFormed (bytes_of old page) (at_level e l)) (sym is_level) tree.0) in
     let l = located (children (bytes_of old page)) e.high at s spot in
     let c : Child = (low, child) in
     let below = Each-get (IsChildTree e.pages old level) (spans (children (bytes_of old page)) e.high) at s tree.1 spot in
-    let d = subst (λ lines. Edits lines mid child (record { level = level; low = low; high = high; root = false; pages = e.pages }) Short step) same deletes
-    free below is (child_part old level page l.xs l.ys c free l.is whole) bound in
+    let d = deletes free below is (child_part old level page l.xs l.ys c free l.is whole) bound in
     let b = turn e.pages old mid level page l.xs (c ∷ []) (c ∷ []) l.ys (step (tree_rows old level child)) free d.rest l.is whole (one_child e.pages old mid level c free d.rest d.moves) d.entries
     (append-nil (tree_rows mid level child) ∙ d.rows) in
     let rows = step_at e.pages old mid level page e.low e.high e.root l.xs l.ys c key step free local tree l.is above (omega (arith, within, l.reach_is)) b in
@@ -249,14 +251,48 @@ edits_short e old first mid new page key child low high at outcome step local so
     let back = b.back.trees e.high (spans-parts (IsChildTree e.pages old level) (c ∷ []) l.ys e.high parts.1).1 in
     let own : IsTree e.pages mid level child low (reach l.ys e.high) true = subst (λ h. IsTree e.pages mid level child low h true) (sym l.reach_is) d.tree in
     let moves = subst (λ ps. Moves e.pages old mid (tree_pages old (suc level) page) ps free b.rest) (ap (λ all. page ∷ pages_of mid level all) (sym kids)) b.moves in
-    let m = mending level refl b.rest l.xs l.ys c refl kids (subst (λ x. IsWellFormed x (at_level e (suc level))) (sym bytes) tree.0) (b.front.trees (low - 1) parts.0) own back
-    b.moves.is_free (part_after whole moves) b.moves.within in
+    record {
+      rest = b.rest;
+      mendable = record {
+        is_level = refl;
+        xs = l.xs;
+        ys = l.ys;
+        s = c;
+        at_key = refl;
+        are = kids;
+        well = subst (λ x. IsWellFormed x (at_level e (suc level))) (sym bytes) tree.0;
+        front = b.front.trees (low - 1) parts.0;
+        short = own;
+        back = back;
+        is_free = b.moves.is_free;
+        parted = part_after whole moves;
+        within = b.moves.within;
+      };
+      moves = moves;
+      entries = b.entries;
+      rows = ap (rows_of mid level) kids ∙ rows;
+    }
+
+-- the child fell below the floor, and the page above is mended
+pub edits_short : (e : Expect) (old first mid new : Lines) (page key child low high at : ℕ) (outcome : Outcome) (step : List Row → List Row) → IsLocal key step → 1 ≤ e.level → first ≡ old
+    → (IsWellFormed (bytes_of old page) e → slice_get (spans (children (bytes_of old page)) e.high) at ≡ Some (record { page = child; low = low; high = high })) → low ≤ key → key ≤ high
+    → Edits first mid child (record { level = e.level - 1; low = low; high = high; root = false; pages = e.pages }) Short step
+    → Mends mid new page e low outcome → Edits old new page e outcome step
+edits_short e old first mid new page key child low high at outcome step local some same found above within deletes mends =
+    let is_level = one_above e.level some in
+    let level = e.level - 1 in
+    let lower : Expect = record { level = level; low = low; high = high; root = false; pages = e.pages } in
+    subst (λ l. Mends mid new page (at_level e l) low outcome → Edits old new page (at_level e l) outcome step) (sym is_level)
+    (λ mending free tree is whole bound.
+    let spot = found (subst (λ l. IsWellFormed (bytes_of old page) (at_level e l)) (sym is_level) tree.0) in
+    let s = short_below e old mid level page key child low high at step free local spot above within (subst (λ lines. Edits lines mid child lower Short step) same deletes) tree is whole bound in
+    let m = mending level s.rest s.mendable in
     record {
       rest = m.rest;
-      moves = Moves-trans moves m.moves;
-      entries = λ i ne. m.entries i ne ∙ b.entries i ne;
+      moves = Moves-trans {free1 = s.rest} {free2 = m.rest} s.moves m.moves;
+      entries = λ i ne. m.entries i ne ∙ s.entries i ne;
       tree = m.tree;
-      rows = m.rows ∙ ap (rows_of mid level) kids ∙ rows;
+      rows = m.rows ∙ s.rows;
     })
     mends
 
@@ -307,6 +343,13 @@ segment count old level all high xs (y ∷ ys) s pair p was front own back =
       one = inr refl;
     })
 
+-- the pair that a page to be mended gives
+pub mend_segment : (e : Expect) (old : Lines) (page key level : ℕ) (free : List ℕ) (pair : Pair) (buffer : List ℕ) → buffer ≡ bytes_of old page → PairsUp (children buffer) e.high key pair → IsMendable old page e key level free
+    → Segment e.pages old level (children (bytes_of old page)) e.high pair
+mend_segment e old page key level free pair buffer are pairs m =
+    let pairs_old = subst (λ b. PairsUp (children b) e.high key pair) are pairs in
+    segment e.pages old level (children (bytes_of old page)) e.high m.xs m.ys m.s pair (pairs_old m.xs m.ys m.s m.at_key m.are) m.are m.front m.short m.back
+
 pair_part : (old : Lines) (level page : ℕ) (xs ss ys : List Child) (free : List ℕ) → children (bytes_of old page) ≡ xs ++ (ss ++ ys)
     → ArePart old (tree_pages old (suc level) page ++ free) → ArePart old (pages_of old level ss ++ free)
 pair_part old level page xs ss ys free was whole =
@@ -317,7 +360,7 @@ reach_joined pair None ys high = refl
 reach_joined pair (Some key) ys high = refl
 
 -- the join, before the page above is written
-joins_over : (count : ℕ) (old mid : Lines) (level page high : ℕ) (pair : Pair) (cut : Option ℕ) (free : List ℕ) → (g : Segment count old level (children (bytes_of old page)) high pair) → Joins count old mid level pair cut
+pub joins_over : (count : ℕ) (old mid : Lines) (level page high : ℕ) (pair : Pair) (cut : Option ℕ) (free : List ℕ) → (g : Segment count old level (children (bytes_of old page)) high pair) → Joins count old mid level pair cut
     → IsFreeList old free → ArePart old (tree_pages old (suc level) page ++ free) → high_of old ≤ count
     → Beside count old mid level page g.front (joined pair cut) g.back (rows_of old level (both pair)) free × Each (IsChildTree count mid level) (spans (joined pair cut) pair.high)
 joins_over count old mid level page high pair cut free g joins is whole bound =
@@ -375,10 +418,14 @@ mend_written e old mid new level page pair cut fit bytes free g joins holds wrot
 pub mends_written : (e : Expect) (old first mid new : Lines) (page key count : ℕ) (pair : Pair) (cut : Option ℕ) (fit : Fit) (buffer bytes : List ℕ) → count ≡ e.pages → first ≡ old → buffer ≡ bytes_of old page
     → ((k : ℕ) → fit ≢ fits.Cut k) → PairsUp (children buffer) e.high key pair → Joins count first mid (e.level - 1) pair cut → Mended e (bytes_of mid page) bytes pair cut fit → Rewrites page bytes mid new
     → Mends old new page e key (after_fit fit)
-mends_written e old first mid new page key count pair cut fit buffer bytes is_count same are uncut pairs joins mended wrote level is_level free xs ys s at_key was well front own back is whole bound =
+mends_written e old first mid new page key count pair cut fit buffer bytes is_count same are uncut pairs joins mended wrote level free m =
+    let is_level = m.is_level in
     let lower : e.level - 1 ≡ level = omega (arith, is_level) in
-    let pairs_old = subst (λ b. PairsUp (children b) e.high key pair) are pairs in
-    let g = segment e.pages old level (children (bytes_of old page)) e.high xs ys s pair (pairs_old xs ys s at_key was) was front own back in
+    let g = mend_segment e old page key level free pair buffer are pairs m in
+    let well = m.well in
+    let is = m.is_free in
+    let whole = m.parted in
+    let bound = m.within in
     let joins_old = subst (λ l. Joins e.pages old mid l pair cut) lower (subst (λ n. Joins n old mid (e.level - 1) pair cut) is_count (subst (λ lines. Joins count lines mid (e.level - 1) pair cut) same joins)) in
     let part = subst (λ l. ArePart old ((page ∷ pages_of old level (children (bytes_of old page))) ++ free)) lower whole in
     let r = joins_over e.pages old mid level page e.high pair cut free g joins_old is part bound in
@@ -461,10 +508,14 @@ mend_alone e old mid new level page pair free g joins few well gives is whole bo
 pub mends_alone : (e : Expect) (old first mid new : Lines) (page key count : ℕ) (pair : Pair) (buffer : List ℕ) → count ≡ e.pages → first ≡ old → buffer ≡ bytes_of old page
     → PairsUp (children buffer) e.high key pair → Joins count first mid (e.level - 1) pair None → entry_count (bytes_of mid page) < 3 → Gives count mid new page
     → Mends old new page e key (Alone pair.left)
-mends_alone e old first mid new page key count pair buffer is_count same are pairs joins few gives level is_level free xs ys s at_key was well front own back is whole bound =
+mends_alone e old first mid new page key count pair buffer is_count same are pairs joins few gives level free m =
+    let is_level = m.is_level in
     let lower : e.level - 1 ≡ level = omega (arith, is_level) in
-    let pairs_old = subst (λ b. PairsUp (children b) e.high key pair) are pairs in
-    let g = segment e.pages old level (children (bytes_of old page)) e.high xs ys s pair (pairs_old xs ys s at_key was) was front own back in
+    let g = mend_segment e old page key level free pair buffer are pairs m in
+    let well = m.well in
+    let is = m.is_free in
+    let whole = m.parted in
+    let bound = m.within in
     let joins_old = subst (λ l. Joins e.pages old mid l pair None) lower (subst (λ n. Joins n old mid (e.level - 1) pair None) is_count (subst (λ lines. Joins count lines mid (e.level - 1) pair None) same joins)) in
     let r = joins_over e.pages old mid level page e.high pair None free g joins_old is whole bound in
     subst (λ l. Became e.pages old new l page e.low e.high e.root (Alone pair.left) (rows_of old level (children (bytes_of old page))) free) (sym is_level)

@@ -20,3 +20,10 @@ pub mod MergeLaws
 pub mod TreeDamageLaws
 pub mod Joined
 pub mod NextLaws
+pub mod LackLaws
+pub mod StandLaws
+pub mod PathLaws
+pub mod RootLaws
+pub mod SoundLaws
+pub mod NextReads
+pub mod TouchedLaws

@@ -55,16 +55,21 @@ pages_below count lines (suc level) page low high is =
     (λ s. pages_below count lines level s.page s.low s.high) is.1 in
     omega (arith, fan_bound (tree_pages lines level) (tree_rows lines level) cs high all, facts.full refl, length-children (bytes_of lines page))
 
--- a tree of r rows uses at most r / 2 + 8 pages
-pub page_bound : (count : ℕ) (lines : Lines) (level page low high : ℕ) (root : Bool) → IsTree count lines level page low high root
-    → length (tree_pages lines level page) ≤ length (tree_rows lines level page) / 2 + 8
-page_bound count lines zero page low high root is = omega arith
-page_bound count lines (suc level) page low high root is =
+-- a tree of r rows has at most r / 2 + 1 pages
+pub page_most : (count : ℕ) (lines : Lines) (level page low high : ℕ) (root : Bool) → IsTree count lines level page low high root
+    → length (tree_pages lines level page) ≤ length (tree_rows lines level page) / 2 + 1
+page_most count lines zero page low high root is = omega arith
+page_most count lines (suc level) page low high root is =
     let cs = children (bytes_of lines page) in
     let facts = inner_facts (bytes_of lines page) _ (λ e. cc) is.0 in
     let all = Each-map (IsChildTree count lines level) (λ (s : Span). 2 * length (tree_pages lines level s.page) + 1 ≤ length (tree_rows lines level s.page)) (spans cs high)
     (λ s. pages_below count lines level s.page s.low s.high) is.1 in
     omega (arith, fan_bound (tree_pages lines level) (tree_rows lines level) cs high all, facts.some, length-children (bytes_of lines page))
+
+-- and at most r / 2 + 8, as a store keeps free for each of its tables
+pub page_bound : (count : ℕ) (lines : Lines) (level page low high : ℕ) (root : Bool) → IsTree count lines level page low high root
+    → length (tree_pages lines level page) ≤ length (tree_rows lines level page) / 2 + 8
+page_bound count lines level page low high root is = omega (arith, page_most count lines level page low high root is)
 
 fan_least : (rows_at : ℕ → List (ℕ × List ℕ)) (least : ℕ) (cs : List Child) (high : ℕ) → Each (λ (s : Span). least ≤ length (rows_at s.page)) (spans cs high)
     → least * length cs ≤ length (flat_map (λ (child : Child). rows_at child.1) cs)

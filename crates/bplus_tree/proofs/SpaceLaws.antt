@@ -41,11 +41,11 @@ free_from-not_zero lines first [] is = refl
 free_from-not_zero lines first (page ∷ pages) is = let ih = free_from-not_zero lines (next_of lines page) pages is.4 in rw (ne_eqb page 0 is.1) (omega (arith, ih))
 
 -- the list without one n
-without : ℕ → List ℕ → List ℕ
+pub without : ℕ → List ℕ → List ℕ
 without n [] = []
 without n (x ∷ xs) = cond (nat_eq x n) xs (x ∷ without n xs)
 
-times-without : (n m : ℕ) (xs : List ℕ) → n ≢ m → times m (without n xs) ≡ times m xs
+pub times-without : (n m : ℕ) (xs : List ℕ) → n ≢ m → times m (without n xs) ≡ times m xs
 unfolding without
 times-without n m [] ne = refl
 times-without n m (x ∷ xs) ne =
@@ -57,7 +57,7 @@ times-without n m (x ∷ xs) ne =
 past : (x n : ℕ) (xs : List ℕ) → x ≢ n → 1 ≤ times n (x ∷ xs) → 1 ≤ times n xs
 past x n xs other some = let there = rw (ne_eqb x n other) at some in omega (arith, there)
 
-times-without_same : (n : ℕ) (xs : List ℕ) → 1 ≤ times n xs → suc (times n (without n xs)) ≡ times n xs
+pub times-without_same : (n : ℕ) (xs : List ℕ) → 1 ≤ times n xs → suc (times n (without n xs)) ≡ times n xs
 unfolding without
 times-without_same n [] some = absurd (omega arith)
 times-without_same n (x ∷ xs) some =
@@ -69,7 +69,7 @@ times-without_same n (x ∷ xs) some =
           rw (ne_eqb x n other) (rw (ne_eqb x n other) (omega (arith, ih)))
     ]
 
-length-without : (n : ℕ) (xs : List ℕ) → 1 ≤ times n xs → suc (length (without n xs)) ≡ length xs
+pub length-without : (n : ℕ) (xs : List ℕ) → 1 ≤ times n xs → suc (length (without n xs)) ≡ length xs
 unfolding without
 length-without n [] some = absurd (omega arith)
 length-without n (x ∷ xs) some =
@@ -78,7 +78,7 @@ length-without n (x ∷ xs) some =
       | inr other ↦ let ih = length-without n xs (past x n xs other some) in rw (ne_eqb x n other) (omega (arith, ih))
     ]
 
-none_at_all : (xs : List ℕ) → ((n : ℕ) → times n xs ≡ 0) → xs ≡ []
+pub none_at_all : (xs : List ℕ) → ((n : ℕ) → times n xs ≡ 0) → xs ≡ []
 none_at_all [] none = refl
 none_at_all (x ∷ xs) none = let here : times x (x ∷ xs) ≡ 0 = none x in let more : 1 ≤ times x (x ∷ xs) = rw (eq-eqb x x refl) (omega arith) in absurd (omega (arith, here, more))
 

@@ -14,6 +14,7 @@ use Rattle.bplus_tree.specs.declared.outcome.Fit.{Fit}
 use Rattle.bplus_tree.specs.declared.outcome.Fit.TheVariants as fits
 use Rattle.bplus_tree.specs.declared.outcome.Outcome.{Outcome}
 use Rattle.bplus_tree.specs.declared.outcome.Outcome.TheVariants.{Whole, Short, Cut, Alone}
+use Rattle.bplus_tree.specs.Space.{high_of}
 use Rattle.bplus_tree.specs.Tree.{times, IsTree, Tree, tree_rows, tree_pages, SameOn}
 use Rattle.bplus_tree.specs.Moves.{ArePart, Moves, Takes, ChangesRows}
 use Rattle.bplus_tree.specs.Written.{Rewrites}
@@ -209,6 +210,21 @@ edits_cut e old first mid new page key child low high at separator right outcome
     added e old mid new level page l.xs ms l.ys seg (step (tree_rows old (suc level) page)) free a.left a.right a.fit outcome b trees rows a.stored
     (subst (λ cs. Fits children (at_level e (suc level)) a.left a.right cs a.fit) all a.held) a.is a.long)
     adds
+
+-- an inner page that has one more child and was written
+pub child_added : (e : Expect) (old mid new : Lines) (page key child count : ℕ) (bytes left right : List ℕ) (fit : Fit) (outcome : Outcome) → count ≡ e.pages → mid ≡ old → bytes ≡ bytes_of old page
+    → Fits children e left right (child_put key child (children bytes)) fit → fit ≢ fits.Short → IsOutcome count fit outcome → Stores count mid new page outcome left right → AddsChild old new page e key child outcome
+child_added e old mid new page key child count bytes left right fit outcome is_count same are fits long is stores free is_free part within =
+    record {
+      left = left;
+      right = right;
+      fit = fit;
+      stored = subst (λ n. Stored n old new page outcome left right free) is_count
+          (subst (λ lines. Stores count lines new page outcome left right) same stores free is_free part (subst (λ n. high_of old ≤ n) (sym is_count) within));
+      held = subst (λ b. Fits children e left right (child_put key child (children b)) fit) are fits;
+      is = subst (λ n. IsOutcome n fit outcome) is_count is;
+      long = long;
+    }
 
 -- the rows of a root's tree before and after
 pub root_edited : (count : ℕ) (old new : Lines) (root : Root) (outcome : Outcome) (step : List Row → List Row) → ((k r : ℕ) → outcome ≢ Cut k r) → 1 ≤ root.levels → root.levels ≤ 4

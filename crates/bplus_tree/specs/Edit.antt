@@ -155,13 +155,26 @@ abbrev pub Mended : Expect → List ℕ → List ℕ → Pair → Option ℕ →
 Mended expect old new pair cut fit =
     (xs ys : List Child) → children old ≡ xs ++ (both pair ++ ys) → reach ys expect.high ≡ pair.high → Fits children expect new new (xs ++ (joined pair cut ++ ys)) fit
 
--- A page whose child at a key may be below the floor is mended: its rows stay.
+-- A page of this tree, whose child at a key may be below the floor, beside a free list.
+pub record IsMendable (lines : Lines) (page : ℕ) (expect : Expect) (key level : ℕ) (free : List ℕ) : Type 0 where
+  pub is_level : expect.level ≡ suc level
+  pub xs : List Child
+  pub ys : List Child
+  pub s : Child
+  pub at_key : s.0 ≡ key
+  pub are : children (bytes_of lines page) ≡ xs ++ ((s ∷ []) ++ ys)
+  pub well : IsWellFormed (bytes_of lines page) expect
+  pub front : Each (λ (t : Span). IsTree expect.pages lines level t.page t.low t.high false) (spans xs (s.0 - 1))
+  pub short : IsTree expect.pages lines level s.1 s.0 (reach ys expect.high) true
+  pub back : Each (λ (t : Span). IsTree expect.pages lines level t.page t.low t.high false) (spans ys expect.high)
+  pub is_free : IsFreeList lines free
+  pub parted : ArePart lines ((page ∷ pages_of lines level (children (bytes_of lines page))) ++ free)
+  pub within : high_of lines ≤ expect.pages
+
+-- Such a page is mended: its rows stay.
 abbrev pub Mends : Lines → Lines → ℕ → Expect → ℕ → Outcome → Type 0
 Mends old new page expect key outcome =
-    (level : ℕ) → expect.level ≡ suc level → (free : List ℕ) (xs ys : List Child) (s : Child) → s.0 ≡ key → children (bytes_of old page) ≡ xs ++ ((s ∷ []) ++ ys) → IsWellFormed (bytes_of old page) expect
-    → Each (λ (s : Span). IsTree expect.pages old level s.page s.low s.high false) (spans xs (s.0 - 1)) → IsTree expect.pages old level s.1 s.0 (reach ys expect.high) true
-    → Each (λ (s : Span). IsTree expect.pages old level s.page s.low s.high false) (spans ys expect.high)
-    → IsFreeList old free → ArePart old ((page ∷ pages_of old level (children (bytes_of old page))) ++ free) → high_of old ≤ expect.pages
+    (level : ℕ) (free : List ℕ) → IsMendable old page expect key level free
     → Became expect.pages old new expect.level page expect.low expect.high expect.root outcome (rows_of old level (children (bytes_of old page))) free
 
 -- the pages that were written

@@ -6,4 +6,5 @@ pub mod Damage
 pub mod Written
 pub mod Record
 pub mod Edit
+pub mod Path
 pub mod Next

@@ -1,11 +1,11 @@
 -- The way through the pages of a tree.
-use Rattle.std.specs.Prelude.{◌≡◌, ℕ, ◌+◌, ◌-◌, false, List, ◌∷◌, length, map}
+use Rattle.std.specs.Prelude.{◌≡◌, ℕ, ◌+◌, ◌-◌, ◌≤◌, false, List, ◌∷◌, length, map}
 use Rattle.line_pages.specs.Touch.{Access}
 use Rattle.line_pages.specs.Lines.{Lines}
 use Rattle.slotted_page.specs.declared.root.Expect.{Expect}
-use Rattle.slotted_page.specs.Rows.{Row}
+use Rattle.slotted_page.specs.Rows.{Row, Each}
 use Rattle.bplus_tree.specs.declared.root.Root.{Root}
-use Rattle.bplus_tree.specs.Tree.{IsTree, IsRooted, path}
+use Rattle.bplus_tree.specs.Tree.{times, IsTree, IsRooted, path}
 
 -- The accesses of a search through the levels under a page: one to each level, and on a tree to each page of the
 -- key's path, in order.
@@ -19,3 +19,7 @@ pub record IsWay (lines : Lines) (page : ℕ) (expect : Expect) (key : ℕ) (beg
 pub record IsPath (count : ℕ) (lines : Lines) (root : Root) (key : ℕ) (begun : List Access) : Type 0 where
   pub levels : length begun ≡ root.levels
   pub pages : (rows : List Row) (used : List ℕ) → IsRooted count lines root rows used → begun ≡ map (λ p. (p, false)) (path lines (root.levels - 1) root.page key)
+
+-- reads of these pages alone
+abbrev pub AreReadsIn : List ℕ → List Access → Type 0
+AreReadsIn pages begun = Each (λ (a : Access). (a.1 ≡ false) × (1 ≤ times a.0 pages)) begun

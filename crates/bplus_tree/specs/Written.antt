@@ -1,9 +1,12 @@
 -- A page that was written, and how many lines that takes.
-use Rattle.std.specs.Prelude.{◌≡◌, ◌≢◌, ◌⊎◌, ◌≤◌, ℕ, zero, suc, ◌+◌, ◌*◌, List, Some, true, slice_range, if◌then◌else◌}
+use Rattle.std.specs.Prelude.{◌≡◌, ◌≢◌, ◌⊎◌, ◌≤◌, ℕ, zero, suc, ◌+◌, ◌*◌, ◌<◌, List, [], ◌++◌, filter, Some, true, false, slice_range, if◌then◌else◌}
 use Rattle.line_pages.specs.Standing.{Standing}
+use Rattle.line_pages.specs.Touch.{Touch, writes_line}
 use Rattle.std.specs.Str.{bytes_eq}
 use Rattle.line_pages.specs.Lines.{Lines}
 use Rattle.line_pages.specs.Bytes.{bytes_of}
+use Rattle.slotted_page.specs.Rows.{Each}
+use Rattle.slotted_page.specs.Node.{Slot}
 
 -- the page has these bytes, and no other page changed
 pub record Rewrites (page : ℕ) (bytes : List ℕ) (old new : Lines) : Type 0 where
@@ -32,3 +35,23 @@ pub record SameElsewhere (page line : ℕ) (old new : Lines) : Type 0 where
 abbrev pub Visited : {A : Type 0} → ℕ → Standing A → Standing A → Type 0
 Visited page old new =
     ((new.visits ≡ old.visits) × (new.access ≡ old.access)) ⊎ ((new.visits ≤ old.visits + 1) × (new.access ≡ Some (page, true)))
+
+-- the bytes of a line differ
+abbrev pub Differs : List ℕ → List ℕ → ℕ → Type 0
+Differs old new line = bytes_eq (line_part old line) (line_part new line) ≡ false
+
+-- the line shares a byte with the record
+abbrev pub Meets : Slot → ℕ → Type 0
+Meets slot line = (64 * line < slot.place + slot.size) × (slot.place < 64 * line + 64)
+
+-- The touches that were added and that write are of this page, and of lines of which the fact holds.
+pub record WritesOnly {A : Type 0} (page : ℕ) (Fact : ℕ → Type 0) (old new : Standing A) : Type 0 where
+  pub added : List Touch
+  pub touches : new.touches ≡ old.touches ++ added
+  pub only : Each (λ (t : Touch). t.writes ≡ true → (t.page ≡ page) × Fact t.line) added
+
+-- no touch was added that writes
+pub record WritesNothing {A : Type 0} (old new : Standing A) : Type 0 where
+  pub added : List Touch
+  pub touches : new.touches ≡ old.touches ++ added
+  pub none : filter writes_line added ≡ []

@@ -1,13 +1,15 @@
 //! The calls on pages that the changes of a tree are made of, with the damage that they show in the words of trees.
-ghost use Rattle.std.specs.Prelude.{◌≡◌, ◌≢◌, ◌+◌, ◌*◌, ◌<◌, ◌≤◌, ℕ, List, length, true, IsTrue, OnOk, IfOk};
+ghost use Rattle.std.specs.Prelude.{◌≡◌, ◌≢◌, ◌∷◌, ◌+◌, ◌*◌, ◌<◌, ◌≤◌, ℕ, List, length, true, IsTrue, OnOk, IfOk, IfErr};
 ghost use Rattle.line_pages.specs.Bytes.{bytes_of};
-ghost use Rattle.line_pages.specs.Standing.{Continues, HasCause, Never, KeepsLines};
+ghost use Rattle.line_pages.specs.Standing.{Continues, HasCause, Never, KeepsLines, ReadsPage};
 ghost use Rattle.slotted_page.specs.Node.{IsWellFormed};
 ghost use Rattle.slotted_page.specs.Search.{is_root_span, IsSpot, IsSafeSpot};
 ghost use Rattle.slotted_page.specs.Work.{KeepsOthers};
-ghost use Rattle.bplus_tree.specs.Damage.{IsTreeDamage};
-ghost use Rattle.bplus_tree.specs.Moves.{Takes, Gives};
-ghost use Rattle.bplus_tree.specs.Written.{Rewrites, lines_changed};
+ghost use Rattle.bplus_tree.specs.Damage.{IsTreeDamage, IsFault, IsShort, spare_pages};
+ghost use Rattle.bplus_tree.specs.Moves.{ArePart, Takes, Gives};
+ghost use Rattle.bplus_tree.specs.Space.{FitsHeader, IsFreeList};
+ghost use Rattle.bplus_tree.specs.Written.{Rewrites, Differs, WritesOnly, lines_changed};
+ghost use Rattle.bplus_tree.specs.declared.outcome.Fit.TheVariants as fits;
 ghost use Rattle.bplus_tree.specs.Edit.{IsOutcome, IsCutAt, Stores, spent};
 
 use crate::outcome::{Fit, Outcome};
@@ -18,6 +20,7 @@ use slotted_page::{Expect, Spot, Work, find, read_page};
 use ssd_model::PageBuf;
 
 /// Looks a key up in a page.
+#[tactic(auto, using(crate::proofs::SoundLaws::sound_page))]
 pub fn look<P: Pages>(
     pages: &mut P,
     page: u64,
@@ -33,7 +36,9 @@ pub fn look<P: Pages>(
     requires within { key ≤ expect.now.high }
     ensures spot { IsTrue (P.standing pages.old).told → IsWellFormed (bytes_of (P.standing pages.old).current page) expect.now → IfOk result (IsSpot (bytes_of (P.standing pages.old).current page) expect.now key) }
     ensures safe { IfOk result (IsSafeSpot expect.now key) }
+    ensures reads { OnOk result (ReadsPage page (P.standing pages.old) (P.standing pages.new)) }
     ensures keeps { OnOk result (KeepsLines (P.standing pages.old) (P.standing pages.new)) }
+    ensures sound { IsTrue (P.standing pages.old).told → IsWellFormed (bytes_of (P.standing pages.old).current page) expect.now → IfErr result IsFault }
     ensures cause { HasCause (IsTreeDamage (P.standing pages.old).told (P.standing pages.old).count work.new.page) (P.standing pages.old) (P.standing pages.new) result }
     ensures continues { Continues (P.may_leave pages.old) (P.may_leave pages.new) (P.is_steady pages.old) (P.standing pages.old) (P.standing pages.new) }
     ensures few { (P.standing pages.new).visits ≤ (P.standing pages.old).visits + 1 }
@@ -44,6 +49,7 @@ pub fn look<P: Pages>(
 }
 
 /// Reads a whole page and checks it.
+#[tactic(auto, using(crate::proofs::SoundLaws::sound_page))]
 pub fn load<P: Pages>(
     pages: &mut P,
     page: u64,
@@ -57,7 +63,9 @@ pub fn load<P: Pages>(
     ensures well { OnOk result (IsWellFormed work.new.page expect.now) }
     ensures bytes { IsTrue (P.standing pages.old).told → OnOk result (work.new.page ≡ bytes_of (P.standing pages.old).current page) }
     ensures others { KeepsOthers work.old work.new }
+    ensures reads { OnOk result (ReadsPage page (P.standing pages.old) (P.standing pages.new)) }
     ensures keeps { OnOk result (KeepsLines (P.standing pages.old) (P.standing pages.new)) }
+    ensures sound { IsTrue (P.standing pages.old).told → IsWellFormed (bytes_of (P.standing pages.old).current page) expect.now → IfErr result IsFault }
     ensures cause { HasCause (IsTreeDamage (P.standing pages.old).told (P.standing pages.old).count work.new.page) (P.standing pages.old) (P.standing pages.new) result }
     ensures continues { Continues (P.may_leave pages.old) (P.may_leave pages.new) (P.is_steady pages.old) (P.standing pages.old) (P.standing pages.new) }
     ensures few { (P.standing pages.new).visits ≤ (P.standing pages.old).visits + 1 }
@@ -75,6 +83,7 @@ pub fn take<P: Pages>(pages: &mut P, work: &mut Work) -> Result<u64, Stop>
     ensures in_range { IfOk result (λ page. (1 ≤ page) × (page < (P.standing pages.old).count)) }
     ensures room { OnOk result ((P.standing pages.new).room + 1 ≡ (P.standing pages.old).room) }
     ensures work { OnOk result (work.new ≡ work.old) }
+    ensures sound { IsTrue (P.standing pages.old).told → FitsHeader (P.standing pages.old).count ((P.standing pages.old).current 0 0) → (free : List ℕ) → IsFreeList (P.standing pages.old).current free → IfErr result (IsShort (spare_pages (P.standing pages.old).count (P.standing pages.old).current free) 0) }
     ensures cause { HasCause (IsTreeDamage (P.standing pages.old).told (P.standing pages.old).count work.new.page) (P.standing pages.old) (P.standing pages.new) result }
     ensures continues { Continues (P.may_leave pages.old) (P.may_leave pages.new) (P.is_steady pages.old) (P.standing pages.old) (P.standing pages.new) }
     ensures few { (P.standing pages.new).visits ≤ (P.standing pages.old).visits + 4 }
@@ -93,6 +102,7 @@ pub fn give<P: Pages>(pages: &mut P, work: &mut Work, page: u64) -> Result<(), S
     ensures moves { IsTrue (P.standing pages.old).told → OnOk result (Gives (P.standing pages.old).count (P.standing pages.old).current (P.standing pages.new).current page) }
     ensures room { OnOk result ((P.standing pages.new).room + 2 ≡ (P.standing pages.old).room) }
     ensures work { OnOk result (work.new ≡ work.old) }
+    ensures sound { IsTrue (P.standing pages.old).told → FitsHeader (P.standing pages.old).count ((P.standing pages.old).current 0 0) → IfErr result IsFault }
     ensures cause { HasCause (IsTreeDamage (P.standing pages.old).told (P.standing pages.old).count work.new.page) (P.standing pages.old) (P.standing pages.new) result }
     ensures continues { Continues (P.may_leave pages.old) (P.may_leave pages.new) (P.is_steady pages.old) (P.standing pages.old) (P.standing pages.new) }
     ensures few { (P.standing pages.new).visits ≤ (P.standing pages.old).visits + 4 }
@@ -114,6 +124,7 @@ pub fn write_new<P: Pages>(
     requires room { 64 ≤ (P.standing pages.old).room }
     ensures writes { IsTrue (P.standing pages.old).told → OnOk result (Rewrites page bytes.now (P.standing pages.old).current (P.standing pages.new).current) }
     ensures room { OnOk result ((P.standing pages.old).room ≤ (P.standing pages.new).room + 64) }
+    ensures sound { IfErr result IsFault }
     ensures cause { HasCause Never (P.standing pages.old) (P.standing pages.new) result }
     ensures continues { Continues (P.may_leave pages.old) (P.may_leave pages.new) (P.is_steady pages.old) (P.standing pages.old) (P.standing pages.new) }
     ensures few { (P.standing pages.new).visits ≤ (P.standing pages.old).visits + 2 }
@@ -125,6 +136,7 @@ pub fn write_new<P: Pages>(
 }
 
 /// Writes a page that was cut, and takes a further page for its right part.
+#[tactic(auto, using(crate::proofs::SoundLaws::sound_never))]
 fn store_cut<P: Pages>(pages: &mut P, page: u64, key: u64, work: &mut Work) -> Result<Outcome, Stop>
     requires ready { P.is_ready pages.old }
     requires page { page < (P.standing pages.old).count }
@@ -132,6 +144,7 @@ fn store_cut<P: Pages>(pages: &mut P, page: u64, key: u64, work: &mut Work) -> R
     ensures stores { IsTrue (P.standing pages.old).told → work.old.spare ≡ bytes_of (P.standing pages.old).current page → IfOk result (λ outcome. Stores (P.standing pages.old).count (P.standing pages.old).current (P.standing pages.new).current page outcome work.old.page work.old.right) }
     ensures is { IfOk result (IsCutAt (P.standing pages.old).count key) }
     ensures room { OnOk result ((P.standing pages.old).room ≤ (P.standing pages.new).room + 129) }
+    ensures sound { IsTrue (P.standing pages.old).told → work.old.spare ≡ bytes_of (P.standing pages.old).current page → (free : List ℕ) → IsFreeList (P.standing pages.old).current free → ArePart (P.standing pages.old).current (page ∷ free) → FitsHeader (P.standing pages.old).count ((P.standing pages.old).current 0 0) → IfErr result (IsShort (spare_pages (P.standing pages.old).count (P.standing pages.old).current free) 0) }
     ensures cause { HasCause (IsTreeDamage (P.standing pages.old).told (P.standing pages.old).count work.new.page) (P.standing pages.old) (P.standing pages.new) result }
     ensures continues { Continues (P.may_leave pages.old) (P.may_leave pages.new) (P.is_steady pages.old) (P.standing pages.old) (P.standing pages.new) }
     ensures few { (P.standing pages.new).visits ≤ (P.standing pages.old).visits + 7 }
@@ -146,6 +159,7 @@ fn store_cut<P: Pages>(pages: &mut P, page: u64, key: u64, work: &mut Work) -> R
 
 /// Writes a page whose old bytes stand in `spare` and its new ones in `page`, and takes a further page for those in `right`
 /// where it was cut.
+#[tactic(auto, using(crate::proofs::SoundLaws::sound_never))]
 pub fn store<P: Pages>(pages: &mut P, page: u64, fit: Fit, work: &mut Work) -> Result<Outcome, Stop>
     requires ready { P.is_ready pages.old }
     requires page { page < (P.standing pages.old).count }
@@ -153,6 +167,9 @@ pub fn store<P: Pages>(pages: &mut P, page: u64, fit: Fit, work: &mut Work) -> R
     ensures stores { IsTrue (P.standing pages.old).told → work.old.spare ≡ bytes_of (P.standing pages.old).current page → IfOk result (λ outcome. Stores (P.standing pages.old).count (P.standing pages.old).current (P.standing pages.new).current page outcome work.old.page work.old.right) }
     ensures is { IfOk result (IsOutcome (P.standing pages.old).count fit) }
     ensures room { OnOk result ((P.standing pages.old).room ≤ (P.standing pages.new).room + spent (lines_changed work.old.spare work.old.page) fit) }
+    ensures sound { IsTrue (P.standing pages.old).told → work.old.spare ≡ bytes_of (P.standing pages.old).current page → (free : List ℕ) → IsFreeList (P.standing pages.old).current free → ArePart (P.standing pages.old).current (page ∷ free) → FitsHeader (P.standing pages.old).count ((P.standing pages.old).current 0 0) → IfErr result (IsShort (spare_pages (P.standing pages.old).count (P.standing pages.old).current free) 0) }
+    ensures plain { ((key : ℕ) → fit ≢ fits.Cut key) → IfErr result IsFault }
+    ensures touches { ((key : ℕ) → fit ≢ fits.Cut key) → OnOk result (WritesOnly page (Differs work.old.spare work.old.page) (P.standing pages.old) (P.standing pages.new)) }
     ensures cause { HasCause (IsTreeDamage (P.standing pages.old).told (P.standing pages.old).count work.new.page) (P.standing pages.old) (P.standing pages.new) result }
     ensures continues { Continues (P.may_leave pages.old) (P.may_leave pages.new) (P.is_steady pages.old) (P.standing pages.old) (P.standing pages.new) }
     ensures few { (P.standing pages.new).visits ≤ (P.standing pages.old).visits + 7 }

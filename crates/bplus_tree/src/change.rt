@@ -1,29 +1,31 @@
-//! Changes of the tree under a page, by recursion on its level.
-ghost use Rattle.std.specs.Prelude.{◌≡◌, ◌≢◌, ◌+◌, ◌-◌, ◌*◌, ◌<◌, ◌≤◌, ◌==◌, ℕ, List, length, true, false, None, IsTrue, OnOk, IfOk, IfErr, Err};
+//! Changes of one page of a tree: of a leaf, and of the pages above one that was changed.
+ghost use Rattle.std.specs.Prelude.{◌≡◌, ◌≢◌, ◌+◌, ◌-◌, ◌*◌, ◌<◌, ◌≤◌, ◌==◌, ◌∷◌, ℕ, List, length, true, false, None, IsTrue, OnOk, IfOk, IfErr, Err};
 ghost use Rattle.std.specs.List.{list_all};
 ghost use Rattle.line_pages.specs.Bytes.{bytes_of};
 ghost use Rattle.line_pages.specs.Standing.{Continues, HasCause, IsCause};
 ghost use Rattle.slotted_page.specs.Rows.{row_put, row_delete};
 ghost use Rattle.slotted_page.specs.Node.{IsWellFormed, entry_count, is_printable};
 ghost use Rattle.slotted_page.specs.Search.{is_root_span};
-ghost use Rattle.bplus_tree.specs.Damage.{IsTreeDamage, IsFullRoot};
-ghost use Rattle.bplus_tree.specs.Edit.{Edits, Mends, AddsChild, IsSafe, IsSpent, StaysBelow, IsPair, IsCutIn, Rewritten, after_fit};
+ghost use Rattle.bplus_tree.specs.Space.{IsFreeList, FitsHeader};
+ghost use Rattle.bplus_tree.specs.Moves.{ArePart};
+ghost use Rattle.bplus_tree.specs.Damage.{IsTreeDamage, IsFullRoot, IsFault, IsShort, StopsFor, spare_pages};
+ghost use Rattle.bplus_tree.specs.Edit.{Edits, Mends, IsMendable, AddsChild, IsSafe, IsSpent, StaysBelow, IsPair, IsCutIn, Rewritten, after_fit};
+ghost use Rattle.bplus_tree.specs.Path.{IsFullAt};
 ghost use Rattle.bplus_tree.specs.Written.{Rewrites, lines_changed};
 
-use crate::access::{give, load, look, store};
+use crate::access::{give, load, store};
 use crate::inner_edit::{inner_put, mend_divided, mend_joined};
 use crate::joining::join;
 use crate::leaf_edit::{leaf_delete, leaf_put};
 use crate::outcome::{Fit, Outcome, Pair};
 use crate::pair::pair_of;
-use crate::root::child_expect;
 use crate::write::write_changes;
 use line_pages::{Evidence, Pages, Stop, page_word};
-use slotted_page::{Expect, Spot, Work};
+use slotted_page::{Expect, Work};
 use ssd_model::PageBuf;
 
 /// A put into a leaf.
-fn put_leaf<P: Pages>(
+pub fn put_leaf<P: Pages>(
     pages: &mut P,
     page: u64,
     expect: &Expect,
@@ -45,6 +47,7 @@ fn put_leaf<P: Pages>(
     ensures below { IfOk result (StaysBelow expect.now) }
     ensures edits { IsTrue (P.standing pages.old).told → IfOk result (λ outcome. Edits (P.standing pages.old).current (P.standing pages.new).current page expect.now outcome (row_put key value.now)) }
     ensures room { IfOk result (IsSpent 0 (P.standing pages.old).room (P.standing pages.new).room) }
+    ensures sound { IsTrue (P.standing pages.old).told → (free : List ℕ) → IsWellFormed (bytes_of (P.standing pages.old).current page) expect.now → IsFreeList (P.standing pages.old).current free → ArePart (P.standing pages.old).current (page ∷ free) → FitsHeader (P.standing pages.old).count ((P.standing pages.old).current 0 0) → IfErr result (IsShort (spare_pages (P.standing pages.old).count (P.standing pages.old).current free) 0) }
     ensures cause { HasCause (IsTreeDamage (P.standing pages.old).told (P.standing pages.old).count work.new.page) (P.standing pages.old) (P.standing pages.new) result }
     ensures continues { Continues (P.may_leave pages.old) (P.may_leave pages.new) (P.is_steady pages.old) (P.standing pages.old) (P.standing pages.new) }
     ensures few { (P.standing pages.new).visits ≤ (P.standing pages.old).visits + 8 }
@@ -58,7 +61,7 @@ fn put_leaf<P: Pages>(
 }
 
 /// A delete in a leaf.
-fn delete_leaf<P: Pages>(
+pub fn delete_leaf<P: Pages>(
     pages: &mut P,
     page: u64,
     expect: &Expect,
@@ -75,6 +78,7 @@ fn delete_leaf<P: Pages>(
     ensures edits { IsTrue (P.standing pages.old).told → IfOk result (λ outcome. Edits (P.standing pages.old).current (P.standing pages.new).current page expect.now outcome (row_delete key)) }
     ensures uncut { IfOk result (λ outcome. (k r : ℕ) → outcome ≢ Outcome.Cut k r) }
     ensures room { IfOk result (IsSpent 0 (P.standing pages.old).room (P.standing pages.new).room) }
+    ensures sound { IsTrue (P.standing pages.old).told → IsWellFormed (bytes_of (P.standing pages.old).current page) expect.now → IfErr result IsFault }
     ensures cause { HasCause (IsTreeDamage (P.standing pages.old).told (P.standing pages.old).count work.new.page) (P.standing pages.old) (P.standing pages.new) result }
     ensures continues { Continues (P.may_leave pages.old) (P.may_leave pages.new) (P.is_steady pages.old) (P.standing pages.old) (P.standing pages.new) }
     ensures few { (P.standing pages.new).visits ≤ (P.standing pages.old).visits + 8 }
@@ -98,7 +102,7 @@ fn is_full_root(page: &PageBuf, expect: &Expect) -> bool
 }
 
 /// One more child for an inner page. `Damaged` comes with check 39 where the page is a root at level 3 that has 240.
-fn add_child<P: Pages>(
+pub fn add_child<P: Pages>(
     pages: &mut P,
     page: u64,
     expect: &Expect,
@@ -122,6 +126,7 @@ fn add_child<P: Pages>(
     ensures adds { IsTrue (P.standing pages.old).told → IfOk result (λ outcome. AddsChild (P.standing pages.old).current (P.standing pages.new).current page expect.now key child outcome) }
     ensures long { IfOk result (λ outcome. outcome ≢ Outcome.Short) }
     ensures room { OnOk result ((P.standing pages.old).room ≤ (P.standing pages.new).room + 129) }
+    ensures sound { IsTrue (P.standing pages.old).told → (free : List ℕ) → IsWellFormed (bytes_of (P.standing pages.old).current page) expect.now → IsFreeList (P.standing pages.old).current free → ArePart (P.standing pages.old).current (page ∷ free) → FitsHeader (P.standing pages.old).count ((P.standing pages.old).current 0 0) → IfErr result (StopsFor (spare_pages (P.standing pages.old).count (P.standing pages.old).current free ≤ 0) (IsFullAt (P.standing pages.old).current page expect.now)) }
     ensures cause { HasCause (IsTreeDamage (P.standing pages.old).told (P.standing pages.old).count work.new.page) (P.standing pages.old) (P.standing pages.new) result }
     ensures continues { Continues (P.may_leave pages.old) (P.may_leave pages.new) (P.is_steady pages.old) (P.standing pages.old) (P.standing pages.new) }
     ensures few { (P.standing pages.new).visits ≤ (P.standing pages.old).visits + 8 }
@@ -150,95 +155,8 @@ fn full_root(page: u64, expect: &Expect) -> Stop
     })
 }
 
-/// A put into the tree under a page.
-pub fn put_in<P: Pages>(
-    pages: &mut P,
-    page: u64,
-    expect: &Expect,
-    key: u64,
-    value: &[u8],
-    work: &mut Work,
-) -> Result<Outcome, Stop>
-    requires ready { P.is_ready pages.old }
-    requires page { page < (P.standing pages.old).count }
-    requires pages { expect.now.pages ≡ (P.standing pages.old).count }
-    requires root { is_root_span expect.now.low expect.now.high ≡ true → expect.now.root ≡ true }
-    requires span { expect.now.root ≡ true → is_root_span expect.now.low expect.now.high ≡ true }
-    requires some { 1 ≤ page }
-    requires above { expect.now.low ≤ key }
-    requires within { key ≤ expect.now.high }
-    requires size { length value.now ≤ 480 }
-    requires printable { list_all is_printable value.now ≡ true }
-    requires cut_room { 129 * expect.now.level + 129 ≤ (P.standing pages.old).room }
-    requires join_room { 189 * expect.now.level + 33 ≤ (P.standing pages.old).room }
-    ensures safe { IfOk result (IsSafe (P.standing pages.old).count expect.now) }
-    ensures below { IfOk result (StaysBelow expect.now) }
-    ensures edits { IsTrue (P.standing pages.old).told → IfOk result (λ outcome. Edits (P.standing pages.old).current (P.standing pages.new).current page expect.now outcome (row_put key value.now)) }
-    ensures room { IfOk result (IsSpent expect.now.level (P.standing pages.old).room (P.standing pages.new).room) }
-    ensures cause { HasCause (IsTreeDamage (P.standing pages.old).told (P.standing pages.old).count work.new.page) (P.standing pages.old) (P.standing pages.new) result }
-    ensures continues { Continues (P.may_leave pages.old) (P.may_leave pages.new) (P.is_steady pages.old) (P.standing pages.old) (P.standing pages.new) }
-    ensures few { (P.standing pages.new).visits ≤ (P.standing pages.old).visits + 14 * expect.now.level + 10 }
-    ensures ready { OnOk result (P.is_ready pages.new) }
-    ensures steady { P.is_steady pages.old → OnOk result (P.is_steady pages.new) }
-{
-    match look(pages, page, expect, key, work)? {
-        Spot::Child(_, child, low, high) => {
-            let lower = child_expect(expect, low, high);
-            match put_in(pages, child, &lower, key, value, work)? {
-                Outcome::Whole => Ok(Outcome::Whole),
-                Outcome::Short => mend(pages, page, expect, low, work),
-                Outcome::Cut(separator, right) => {
-                    add_child(pages, page, expect, separator, right, work)
-                }
-                Outcome::Alone(_) => Ok(Outcome::Whole),
-            }
-        }
-        _ => put_leaf(pages, page, expect, key, value, work),
-    }
-}
-
-/// A delete in the tree under a page.
-pub fn delete_in<P: Pages>(
-    pages: &mut P,
-    page: u64,
-    expect: &Expect,
-    key: u64,
-    work: &mut Work,
-) -> Result<Outcome, Stop>
-    requires ready { P.is_ready pages.old }
-    requires page { page < (P.standing pages.old).count }
-    requires pages { expect.now.pages ≡ (P.standing pages.old).count }
-    requires root { is_root_span expect.now.low expect.now.high ≡ true → expect.now.root ≡ true }
-    requires some { 1 ≤ page }
-    requires above { expect.now.low ≤ key }
-    requires within { key ≤ expect.now.high }
-    requires room { 189 * expect.now.level + 33 ≤ (P.standing pages.old).room }
-    ensures safe { IfOk result (IsSafe (P.standing pages.old).count expect.now) }
-    ensures edits { IsTrue (P.standing pages.old).told → IfOk result (λ outcome. Edits (P.standing pages.old).current (P.standing pages.new).current page expect.now outcome (row_delete key)) }
-    ensures uncut { IfOk result (λ outcome. (k r : ℕ) → outcome ≢ Outcome.Cut k r) }
-    ensures room { IfOk result (IsSpent expect.now.level (P.standing pages.old).room (P.standing pages.new).room) }
-    ensures cause { HasCause (IsTreeDamage (P.standing pages.old).told (P.standing pages.old).count work.new.page) (P.standing pages.old) (P.standing pages.new) result }
-    ensures continues { Continues (P.may_leave pages.old) (P.may_leave pages.new) (P.is_steady pages.old) (P.standing pages.old) (P.standing pages.new) }
-    ensures few { (P.standing pages.new).visits ≤ (P.standing pages.old).visits + 14 * expect.now.level + 10 }
-    ensures ready { OnOk result (P.is_ready pages.new) }
-    ensures steady { P.is_steady pages.old → OnOk result (P.is_steady pages.new) }
-{
-    match look(pages, page, expect, key, work)? {
-        Spot::Child(_, child, low, high) => {
-            let lower = child_expect(expect, low, high);
-            match delete_in(pages, child, &lower, key, work)? {
-                Outcome::Whole => Ok(Outcome::Whole),
-                Outcome::Short => mend(pages, page, expect, low, work),
-                Outcome::Cut(_, _) => Ok(Outcome::Whole),
-                Outcome::Alone(_) => Ok(Outcome::Whole),
-            }
-        }
-        _ => delete_leaf(pages, page, expect, key, work),
-    }
-}
-
 /// Joins the child at a key with its right sibling, or else with its left one.
-fn mend<P: Pages>(
+pub fn mend<P: Pages>(
     pages: &mut P,
     page: u64,
     expect: &Expect,
@@ -256,6 +174,7 @@ fn mend<P: Pages>(
     ensures mends { IsTrue (P.standing pages.old).told → IfOk result (Mends (P.standing pages.old).current (P.standing pages.new).current page expect.now key) }
     ensures uncut { IfOk result (λ outcome. (k r : ℕ) → outcome ≢ Outcome.Cut k r) }
     ensures room { OnOk result ((P.standing pages.old).room ≤ (P.standing pages.new).room + 189) }
+    ensures sound { IsTrue (P.standing pages.old).told → (level : ℕ) (free : List ℕ) → IsMendable (P.standing pages.old).current page expect.now key level free → FitsHeader (P.standing pages.old).count ((P.standing pages.old).current 0 0) → IfErr result IsFault }
     ensures cause { HasCause (IsTreeDamage (P.standing pages.old).told (P.standing pages.old).count work.new.page) (P.standing pages.old) (P.standing pages.new) result }
     ensures continues { Continues (P.may_leave pages.old) (P.may_leave pages.new) (P.is_steady pages.old) (P.standing pages.old) (P.standing pages.new) }
     ensures few { (P.standing pages.new).visits ≤ (P.standing pages.old).visits + 13 }
@@ -290,6 +209,7 @@ fn rewrite<P: Pages>(
     ensures rewrites { IsTrue (P.standing pages.old).told → IfOk result (Rewritten (P.standing pages.old).count (P.standing pages.old).current (P.standing pages.new).current page expect.now pair.now cut) }
     ensures uncut { IfOk result (λ outcome. (k r : ℕ) → outcome ≢ Outcome.Cut k r) }
     ensures room { OnOk result ((P.standing pages.old).room ≤ (P.standing pages.new).room + 61) }
+    ensures sound { IsTrue (P.standing pages.old).told → IsWellFormed (bytes_of (P.standing pages.old).current page) expect.now → FitsHeader (P.standing pages.old).count ((P.standing pages.old).current 0 0) → IfErr result IsFault }
     ensures cause { HasCause (IsTreeDamage (P.standing pages.old).told (P.standing pages.old).count work.new.page) (P.standing pages.old) (P.standing pages.new) result }
     ensures continues { Continues (P.may_leave pages.old) (P.may_leave pages.new) (P.is_steady pages.old) (P.standing pages.old) (P.standing pages.new) }
     ensures few { (P.standing pages.new).visits ≤ (P.standing pages.old).visits + 5 }
@@ -328,6 +248,7 @@ fn outcome_of(fit: Fit) -> Outcome
 }
 
 /// Writes a page that was not cut.
+#[tactic(auto, using(crate::proofs::SoundLaws::sound_never))]
 fn keep<P: Pages>(pages: &mut P, page: u64, fit: Fit, work: &mut Work) -> Result<Outcome, Stop>
     requires ready { P.is_ready pages.old }
     requires page { page < (P.standing pages.old).count }
@@ -337,6 +258,7 @@ fn keep<P: Pages>(pages: &mut P, page: u64, fit: Fit, work: &mut Work) -> Result
     ensures safe { (count : ℕ) (expect : Expect) → IfOk result (IsSafe count expect) }
     ensures writes { IsTrue (P.standing pages.old).told → work.old.spare ≡ bytes_of (P.standing pages.old).current page → OnOk result (Rewrites page work.old.page (P.standing pages.old).current (P.standing pages.new).current) }
     ensures room { OnOk result ((P.standing pages.new).room + lines_changed work.old.spare work.old.page ≡ (P.standing pages.old).room) }
+    ensures sound { IfErr result IsFault }
     ensures cause { HasCause (IsTreeDamage (P.standing pages.old).told (P.standing pages.old).count work.new.page) (P.standing pages.old) (P.standing pages.new) result }
     ensures continues { Continues (P.may_leave pages.old) (P.may_leave pages.new) (P.is_steady pages.old) (P.standing pages.old) (P.standing pages.new) }
     ensures few { (P.standing pages.new).visits ≤ (P.standing pages.old).visits + 1 }

@@ -1,9 +1,10 @@
 //! Two neighbours of a tree joined.
-ghost use Rattle.std.specs.Prelude.{◌≡◌, ◌≢◌, ◌+◌, ◌<◌, ◌≤◌, ◌⊎◌, ◌++◌, ℕ, List, length, Option, None, Some, IsTrue, OnOk, IfOk};
+ghost use Rattle.std.specs.Prelude.{◌≡◌, ◌≢◌, ◌+◌, ◌<◌, ◌≤◌, ◌⊎◌, ◌++◌, ℕ, List, length, Option, None, Some, IsTrue, OnOk, IfOk, IfErr};
 ghost use Rattle.line_pages.specs.Bytes.{bytes_of};
 ghost use Rattle.line_pages.specs.Standing.{Continues, HasCause, KeepsLines};
 ghost use Rattle.slotted_page.specs.Node.{IsWellFormed, leaf_rows as rows_of, children as children_of};
-ghost use Rattle.bplus_tree.specs.Damage.{IsTreeDamage};
+ghost use Rattle.bplus_tree.specs.Damage.{IsTreeDamage, IsFault};
+ghost use Rattle.bplus_tree.specs.Space.{FitsHeader};
 ghost use Rattle.bplus_tree.specs.Moves.{Gives};
 ghost use Rattle.bplus_tree.specs.Written.{Rewrites};
 ghost use Rattle.bplus_tree.specs.Edit.{left_of, right_of, whole_of, Merges, IsEnoughLeaf, IsEnoughInner, IsCutIn, IsPair, Joins, WritesJoined, WritesDivided};
@@ -33,6 +34,7 @@ fn fetch<P: Pages>(
     ensures left_is { IsTrue (P.standing pages.old).told → OnOk result (work.new.left ≡ bytes_of (P.standing pages.old).current pair.now.left) }
     ensures right_is { IsTrue (P.standing pages.old).told → OnOk result (work.new.right ≡ bytes_of (P.standing pages.old).current pair.now.right) }
     ensures keeps { OnOk result (KeepsLines (P.standing pages.old) (P.standing pages.new)) }
+    ensures sound { IsTrue (P.standing pages.old).told → IsWellFormed (bytes_of (P.standing pages.old).current pair.now.left) (left_of count level pair.now) → IsWellFormed (bytes_of (P.standing pages.old).current pair.now.right) (right_of count level pair.now) → IfErr result IsFault }
     ensures cause { HasCause (IsTreeDamage (P.standing pages.old).told (P.standing pages.old).count work.new.page) (P.standing pages.old) (P.standing pages.new) result }
     ensures continues { Continues (P.may_leave pages.old) (P.may_leave pages.new) (P.is_steady pages.old) (P.standing pages.old) (P.standing pages.new) }
     ensures few { (P.standing pages.new).visits ≤ (P.standing pages.old).visits + 2 }
@@ -67,6 +69,7 @@ fn merge(work: &mut Work, pair: &Pair, level: u8, count: u64) -> Option<u64>
 }
 
 /// Writes the left one, with the entries of both, and gives the right one back.
+#[tactic(auto, using(crate::proofs::SoundLaws::sound_never))]
 fn write_joined<P: Pages>(
     pages: &mut P,
     pair: &Pair,
@@ -79,6 +82,7 @@ fn write_joined<P: Pages>(
     requires room { 128 ≤ (P.standing pages.old).room }
     ensures writes { IsTrue (P.standing pages.old).told → work.old.spare ≡ bytes_of (P.standing pages.old).current pair.now.left → OnOk result (WritesJoined count (P.standing pages.old).current (P.standing pages.new).current pair.now work.old.left) }
     ensures room { OnOk result ((P.standing pages.old).room ≤ (P.standing pages.new).room + 128) }
+    ensures sound { IsTrue (P.standing pages.old).told → work.old.spare ≡ bytes_of (P.standing pages.old).current pair.now.left → FitsHeader count ((P.standing pages.old).current 0 0) → IfErr result IsFault }
     ensures cause { HasCause (IsTreeDamage (P.standing pages.old).told (P.standing pages.old).count work.new.page) (P.standing pages.old) (P.standing pages.new) result }
     ensures continues { Continues (P.may_leave pages.old) (P.may_leave pages.new) (P.is_steady pages.old) (P.standing pages.old) (P.standing pages.new) }
     ensures few { (P.standing pages.new).visits ≤ (P.standing pages.old).visits + 5 }
@@ -90,6 +94,7 @@ fn write_joined<P: Pages>(
 }
 
 /// Writes both.
+#[tactic(auto, using(crate::proofs::SoundLaws::sound_never))]
 fn write_divided<P: Pages>(
     pages: &mut P,
     pair: &Pair,
@@ -102,6 +107,7 @@ fn write_divided<P: Pages>(
     requires room { 128 ≤ (P.standing pages.old).room }
     ensures writes { IsTrue (P.standing pages.old).told → work.old.spare ≡ bytes_of (P.standing pages.old).current pair.now.left → work.old.page ≡ bytes_of (P.standing pages.old).current pair.now.right → pair.now.left ≢ pair.now.right → OnOk result (WritesDivided (P.standing pages.old).current (P.standing pages.new).current pair.now work.old.left work.old.right) }
     ensures room { OnOk result ((P.standing pages.old).room ≤ (P.standing pages.new).room + 128) }
+    ensures sound { IfErr result IsFault }
     ensures cause { HasCause (IsTreeDamage (P.standing pages.old).told (P.standing pages.old).count work.new.page) (P.standing pages.old) (P.standing pages.new) result }
     ensures continues { Continues (P.may_leave pages.old) (P.may_leave pages.new) (P.is_steady pages.old) (P.standing pages.old) (P.standing pages.new) }
     ensures few { (P.standing pages.new).visits ≤ (P.standing pages.old).visits + 2 }
@@ -127,6 +133,7 @@ pub fn join<P: Pages>(
     ensures cut { IfOk result (IsCutIn pair.now) }
     ensures joins { IsTrue (P.standing pages.old).told → IfOk result (Joins count (P.standing pages.old).current (P.standing pages.new).current level pair.now) }
     ensures room { OnOk result ((P.standing pages.old).room ≤ (P.standing pages.new).room + 128) }
+    ensures sound { IsTrue (P.standing pages.old).told → IsWellFormed (bytes_of (P.standing pages.old).current pair.now.left) (left_of count level pair.now) → IsWellFormed (bytes_of (P.standing pages.old).current pair.now.right) (right_of count level pair.now) → FitsHeader count ((P.standing pages.old).current 0 0) → IfErr result IsFault }
     ensures cause { HasCause (IsTreeDamage (P.standing pages.old).told (P.standing pages.old).count work.new.page) (P.standing pages.old) (P.standing pages.new) result }
     ensures continues { Continues (P.may_leave pages.old) (P.may_leave pages.new) (P.is_steady pages.old) (P.standing pages.old) (P.standing pages.new) }
     ensures few { (P.standing pages.new).visits ≤ (P.standing pages.old).visits + 7 }

@@ -11,6 +11,7 @@ mod merge;
 mod next;
 mod outcome;
 mod pair;
+mod path;
 mod root;
 mod row;
 mod space;

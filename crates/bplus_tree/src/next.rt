@@ -1,11 +1,12 @@
 //! The first row from a key on.
 ghost use Rattle.std.specs.Prelude.{◌≡◌, ◌+◌, ◌-◌, ◌*◌, ◌<◌, ◌≤◌, ℕ, List, length, slice_get, drop, Some, None, Option, true, false, IsTrue, OnOk, IfOk, IfErr};
 ghost use Rattle.line_pages.specs.Bytes.{bytes_of};
-ghost use Rattle.line_pages.specs.Standing.{Continues, HasCause, ReadsPage, KeepsLines};
+ghost use Rattle.line_pages.specs.Standing.{Continues, HasCause, ReadsPage, KeepsLines, AddsReads};
 ghost use Rattle.slotted_page.specs.Rows.{Row, row_next, last_key};
 ghost use Rattle.slotted_page.specs.Node.{IsWellFormed, leaf_rows, children as children_of};
 ghost use Rattle.slotted_page.specs.Search.{is_root_span, IsNodeDamage, ShowsDamage};
-ghost use Rattle.bplus_tree.specs.Tree.{IsTree, IsRooted, tree_rows};
+ghost use Rattle.bplus_tree.specs.Tree.{IsTree, IsRooted, tree_rows, tree_pages};
+ghost use Rattle.bplus_tree.specs.Way.{AreReadsIn};
 ghost use Rattle.bplus_tree.specs.Damage.{IsFault};
 ghost use Rattle.bplus_tree.specs.Next.{Reaches, most_visits};
 
@@ -62,6 +63,7 @@ fn next_in<P: Pages>(
     requires few_levels { expect.now.level ≤ 3 }
     ensures row { IsTrue (P.standing pages.old).told → IsTree expect.now.pages (P.standing pages.old).current expect.now.level page expect.now.low expect.now.high expect.now.root → IfOk result (λ row. row ≡ row_next from (tree_rows (P.standing pages.old).current expect.now.level page)) }
     ensures sound { IsTrue (P.standing pages.old).told → IsTree expect.now.pages (P.standing pages.old).current expect.now.level page expect.now.low expect.now.high expect.now.root → IfErr result IsFault }
+    ensures touches { IsTrue (P.standing pages.old).told → IsTree expect.now.pages (P.standing pages.old).current expect.now.level page expect.now.low expect.now.high expect.now.root → OnOk result (AddsReads (AreReadsIn (tree_pages (P.standing pages.old).current expect.now.level page)) (P.standing pages.old) (P.standing pages.new)) }
     ensures cause { HasCause (λ e. IsTrue (P.standing pages.old).told → IsNodeDamage (P.standing pages.old).count (P.standing pages.old).current work.new.page e) (P.standing pages.old) (P.standing pages.new) result }
     ensures continues { Continues (P.may_leave pages.old) (P.may_leave pages.new) (P.is_steady pages.old) (P.standing pages.old) (P.standing pages.new) }
     ensures keeps { OnOk result (KeepsLines (P.standing pages.old) (P.standing pages.new)) }
@@ -101,6 +103,7 @@ fn next_after<P: Pages>(
     requires within { high ≤ expect.now.high }
     ensures row { IsTrue (P.standing pages.old).told → IsTree expect.now.pages (P.standing pages.old).current expect.now.level page expect.now.low expect.now.high expect.now.root → Reaches (children_of (bytes_of (P.standing pages.old).current page)) expect.now.high high → IfOk result (λ row. row ≡ row_next (high + 1) (tree_rows (P.standing pages.old).current expect.now.level page)) }
     ensures sound { IsTrue (P.standing pages.old).told → IsTree expect.now.pages (P.standing pages.old).current expect.now.level page expect.now.low expect.now.high expect.now.root → IfErr result IsFault }
+    ensures touches { IsTrue (P.standing pages.old).told → IsTree expect.now.pages (P.standing pages.old).current expect.now.level page expect.now.low expect.now.high expect.now.root → OnOk result (AddsReads (AreReadsIn (tree_pages (P.standing pages.old).current expect.now.level page)) (P.standing pages.old) (P.standing pages.new)) }
     ensures cause { HasCause (λ e. IsTrue (P.standing pages.old).told → IsNodeDamage (P.standing pages.old).count (P.standing pages.old).current work.new.page e) (P.standing pages.old) (P.standing pages.new) result }
     ensures continues { Continues (P.may_leave pages.old) (P.may_leave pages.new) (P.is_steady pages.old) (P.standing pages.old) (P.standing pages.new) }
     ensures keeps { OnOk result (KeepsLines (P.standing pages.old) (P.standing pages.new)) }
@@ -120,7 +123,8 @@ fn next_after<P: Pages>(
     }
 }
 
-/// The row with the least key not below a key; `None` exactly where there is none.
+/// The row with the least key not below a key; `None` exactly where there is none. Where it answers `Ok`, it has read lines
+/// of pages of the tree alone.
 pub fn next_from<P: Pages>(
     pages: &mut P,
     root: &Root,
@@ -134,6 +138,8 @@ pub fn next_from<P: Pages>(
     requires few_levels { root.now.levels ≤ 4 }
     // the row
     ensures row { IsTrue (P.standing pages.old).told → (rows : List Row) (used : List ℕ) → IsRooted (P.standing pages.old).count (P.standing pages.old).current root.now rows used → IfOk result (λ row. row ≡ row_next from rows) }
+    // what is read
+    ensures touches { IsTrue (P.standing pages.old).told → (rows : List Row) (used : List ℕ) → IsRooted (P.standing pages.old).count (P.standing pages.old).current root.now rows used → OnOk result (AddsReads (AreReadsIn used) (P.standing pages.old) (P.standing pages.new)) }
     // why it stops
     ensures sound { IsTrue (P.standing pages.old).told → (rows : List Row) (used : List ℕ) → IsRooted (P.standing pages.old).count (P.standing pages.old).current root.now rows used → IfErr result IsFault }
     ensures cause { HasCause (λ e. IsTrue (P.standing pages.old).told → IsNodeDamage (P.standing pages.old).count (P.standing pages.old).current work.new.page e) (P.standing pages.old) (P.standing pages.new) result }

@@ -1,10 +1,11 @@
 //! The pages that trees take and give back: the free list and the high water in the header of page 0.
-ghost use Rattle.std.specs.Prelude.{◌≡◌, ◌≢◌, ◌+◌, ◌<◌, ◌≤◌, ℕ, IsTrue, OnOk, IfOk};
+ghost use Rattle.std.specs.Prelude.{◌≡◌, ◌≢◌, ◌+◌, ◌<◌, ◌≤◌, ℕ, List, IsTrue, OnOk, IfOk, IfErr};
 ghost use Rattle.line_pages.specs.Bytes.{bytes_of};
 ghost use Rattle.line_pages.specs.Lines.{IsLine};
 ghost use Rattle.line_pages.specs.Standing.{Continues, HasCause, IsCause, Never, KeepsLines};
+ghost use Rattle.bplus_tree.specs.Damage.{IsFault, IsShort, spare_pages};
 ghost use Rattle.bplus_tree.specs.Moves.{Takes, Gives};
-ghost use Rattle.bplus_tree.specs.Space.{word, FitsHeader, IsPageEvidence, IsSpaceDamage, header_checks, take_checks, page_taken, after_take, after_give};
+ghost use Rattle.bplus_tree.specs.Space.{word, FitsHeader, IsFreeList, IsPageEvidence, IsSpaceDamage, header_checks, take_checks, page_taken, after_take, after_give};
 
 use line_pages::{Evidence, Pages, Stop, copy_page};
 use nvm_model::Line;
@@ -121,6 +122,7 @@ fn take_free<P: Pages>(pages: &mut P, header: Line, work: &mut Work) -> Result<u
 
 /// Takes the head of the free list, or else the page at the high water. `Damaged` comes with the first of the checks 31,
 /// 33, 34, 36 and 37 that fails.
+#[tactic(auto, using(crate::proofs::SoundLaws::sound_take))]
 pub fn take_page<P: Pages>(pages: &mut P, work: &mut Work) -> Result<u64, Stop>
     requires ready { P.is_ready pages.old }
     requires room { 1 ≤ (P.standing pages.old).room }
@@ -130,6 +132,7 @@ pub fn take_page<P: Pages>(pages: &mut P, work: &mut Work) -> Result<u64, Stop>
     ensures moves { IsTrue (P.standing pages.old).told → IfOk result (Takes (P.standing pages.old).count (P.standing pages.old).current (P.standing pages.new).current) }
     ensures in_range { IfOk result (λ page. (1 ≤ page) × (page < (P.standing pages.old).count)) }
     ensures room { OnOk result ((P.standing pages.new).room + 1 ≡ (P.standing pages.old).room) }
+    ensures sound { IsTrue (P.standing pages.old).told → FitsHeader (P.standing pages.old).count ((P.standing pages.old).current 0 0) → (free : List ℕ) → IsFreeList (P.standing pages.old).current free → IfErr result (IsShort (spare_pages (P.standing pages.old).count (P.standing pages.old).current free) 0) }
     ensures cause { HasCause (λ e. IsTrue (P.standing pages.old).told → IsSpaceDamage (take_checks (P.standing pages.old).count (P.standing pages.old).current) (P.standing pages.old).current work.new.page e) (P.standing pages.old) (P.standing pages.new) result }
     // what stays
     ensures continues { Continues (P.may_leave pages.old) (P.may_leave pages.new) (P.is_steady pages.old) (P.standing pages.old) (P.standing pages.new) }
@@ -146,6 +149,7 @@ pub fn take_page<P: Pages>(pages: &mut P, work: &mut Work) -> Result<u64, Stop>
 }
 
 /// Makes a page the head of the free list. `Damaged` comes with the first of the checks 31, 33 and 34 that fails.
+#[tactic(auto, using(crate::proofs::SoundLaws::sound_header))]
 pub fn give_page<P: Pages>(pages: &mut P, work: &mut Work, page: u64) -> Result<(), Stop>
     requires ready { P.is_ready pages.old }
     requires some { 1 ≤ page }
@@ -155,6 +159,7 @@ pub fn give_page<P: Pages>(pages: &mut P, work: &mut Work, page: u64) -> Result<
     ensures current { IsTrue (P.standing pages.old).told → OnOk result ((P.standing pages.new).current ≡ after_give page (P.standing pages.old).current) }
     ensures moves { IsTrue (P.standing pages.old).told → OnOk result (Gives (P.standing pages.old).count (P.standing pages.old).current (P.standing pages.new).current page) }
     ensures room { OnOk result ((P.standing pages.new).room + 2 ≡ (P.standing pages.old).room) }
+    ensures sound { IsTrue (P.standing pages.old).told → FitsHeader (P.standing pages.old).count ((P.standing pages.old).current 0 0) → IfErr result IsFault }
     ensures cause { HasCause (λ e. IsTrue (P.standing pages.old).told → IsSpaceDamage (header_checks (P.standing pages.old).count (P.standing pages.old).current) (P.standing pages.old).current work.new.page e) (P.standing pages.old) (P.standing pages.new) result }
     // what stays
     ensures continues { Continues (P.may_leave pages.old) (P.may_leave pages.new) (P.is_steady pages.old) (P.standing pages.old) (P.standing pages.new) }

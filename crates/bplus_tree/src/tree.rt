@@ -1,19 +1,19 @@
 //! A key put into the tree of a root, and taken out of it.
-ghost use Rattle.std.specs.Prelude.{◌≡◌, ◌≢◌, ◌+◌, ◌-◌, ◌<◌, ◌≤◌, ℕ, List, length, not, is_some, true, IsTrue, OnOk, IfOk};
+ghost use Rattle.std.specs.Prelude.{◌≡◌, ◌≢◌, ◌+◌, ◌-◌, ◌<◌, ◌≤◌, ℕ, List, length, not, is_some, true, IsTrue, OnOk, IfOk, IfErr};
 ghost use Rattle.std.specs.List.{list_all};
 ghost use Rattle.slotted_page.specs.Node.{is_printable};
 ghost use Rattle.line_pages.specs.Standing.{Continues, HasCause, KeepsLines};
 ghost use Rattle.slotted_page.specs.Rows.{Row, row_get, row_put, row_delete};
 ghost use Rattle.bplus_tree.specs.Tree.{IsRooted};
 ghost use Rattle.bplus_tree.specs.Moves.{ChangesRows};
-ghost use Rattle.bplus_tree.specs.Damage.{IsTreeDamage};
+ghost use Rattle.bplus_tree.specs.Damage.{IsTreeDamage, IsFault, IsLack, StandsIn, pages_at_hand};
 
 use crate::access::{take, write_new};
-use crate::change::{delete_in, put_in};
 use crate::lookup::get;
 use crate::outcome::Outcome;
 use crate::pair::root_of;
-use crate::root::{Root, root_expect};
+use crate::path::{delete_in, put_in, top_of};
+use crate::root::Root;
 use line_pages::{Pages, Stop};
 use slotted_page::{Value, Work};
 
@@ -39,6 +39,7 @@ pub fn put_row<P: Pages>(
     ensures page { OnOk result (root.new.page < (P.standing pages.old).count) }
     ensures some_levels { 1 ≤ root.new.levels }
     ensures few_levels { root.new.levels ≤ 4 }
+    ensures sound { IsTrue (P.standing pages.old).told → (rows : List Row) (used free : List ℕ) → StandsIn (P.standing pages.old).count (P.standing pages.old).current root.old rows used free → IfErr result (IsLack (pages_at_hand (P.standing pages.old).count (P.standing pages.old).current used free) (length (row_put key value.now rows)) (length rows)) }
     ensures cause { HasCause (IsTreeDamage (P.standing pages.old).told (P.standing pages.old).count work.new.page) (P.standing pages.old) (P.standing pages.new) result }
     // what stays
     ensures continues { Continues (P.may_leave pages.old) (P.may_leave pages.new) (P.is_steady pages.old) (P.standing pages.old) (P.standing pages.new) }
@@ -47,12 +48,12 @@ pub fn put_row<P: Pages>(
     ensures steady { P.is_steady pages.old → OnOk result (P.is_steady pages.new) }
 {
     let count = pages.page_count();
-    let expect = root_expect(root, count);
-    match put_in(pages, root.page, &expect, key, value, work)? {
+    let top = top_of(root, count);
+    match put_in(pages, top, key, value, work)? {
         Outcome::Whole => Ok(()),
         Outcome::Short => Ok(()),
         Outcome::Cut(separator, right) => {
-            let top = take(pages, work)?;
+            let page = take(pages, work)?;
             root_of(
                 &mut work.page,
                 root.levels,
@@ -61,8 +62,8 @@ pub fn put_row<P: Pages>(
                 right,
                 count,
             );
-            write_new(pages, top, &work.page, &mut work.spare)?;
-            root.page = top;
+            write_new(pages, page, &work.page, &mut work.spare)?;
+            root.page = page;
             root.levels += 1;
             Ok(())
         }
@@ -93,6 +94,7 @@ pub fn delete_row<P: Pages>(
     ensures page { OnOk result (root.new.page < (P.standing pages.old).count) }
     ensures some_levels { 1 ≤ root.new.levels }
     ensures few_levels { root.new.levels ≤ 4 }
+    ensures sound { IsTrue (P.standing pages.old).told → (rows : List Row) (used free : List ℕ) → StandsIn (P.standing pages.old).count (P.standing pages.old).current root.old rows used free → IfErr result IsFault }
     ensures cause { HasCause (IsTreeDamage (P.standing pages.old).told (P.standing pages.old).count work.new.page) (P.standing pages.old) (P.standing pages.new) result }
     // what stays
     ensures continues { Continues (P.may_leave pages.old) (P.may_leave pages.new) (P.is_steady pages.old) (P.standing pages.old) (P.standing pages.new) }
@@ -100,8 +102,8 @@ pub fn delete_row<P: Pages>(
     ensures ready { OnOk result (P.is_ready pages.new) }
     ensures steady { P.is_steady pages.old → OnOk result (P.is_steady pages.new) }
 {
-    let expect = root_expect(root, pages.page_count());
-    match delete_in(pages, root.page, &expect, key, work)? {
+    let top = top_of(root, pages.page_count());
+    match delete_in(pages, top, key, work)? {
         Outcome::Alone(child) => {
             root.page = child;
             root.levels -= 1;
@@ -121,6 +123,7 @@ fn has_key<P: Pages>(pages: &mut P, root: &Root, key: u64, work: &mut Work) -> R
     requires some_levels { 1 ≤ root.now.levels }
     requires few_levels { root.now.levels ≤ 4 }
     ensures found { IsTrue (P.standing pages.old).told → (rows : List Row) (used : List ℕ) → IsRooted (P.standing pages.old).count (P.standing pages.old).current root.now rows used → IfOk result (λ found. found ≡ is_some (row_get key rows)) }
+    ensures sound { IsTrue (P.standing pages.old).told → (rows : List Row) (used : List ℕ) → IsRooted (P.standing pages.old).count (P.standing pages.old).current root.now rows used → IfErr result IsFault }
     ensures cause { HasCause (IsTreeDamage (P.standing pages.old).told (P.standing pages.old).count work.new.page) (P.standing pages.old) (P.standing pages.new) result }
     ensures continues { Continues (P.may_leave pages.old) (P.may_leave pages.new) (P.is_steady pages.old) (P.standing pages.old) (P.standing pages.new) }
     ensures keeps { OnOk result (KeepsLines (P.standing pages.old) (P.standing pages.new)) }
@@ -147,6 +150,7 @@ fn seek<P: Pages>(
     requires some_levels { 1 ≤ root.now.levels }
     requires few_levels { root.now.levels ≤ 4 }
     ensures value { IsTrue (P.standing pages.old).told → (rows : List Row) (used : List ℕ) → IsRooted (P.standing pages.old).count (P.standing pages.old).current root.now rows used → IfOk result (λ value. value ≡ row_get key rows) }
+    ensures sound { IsTrue (P.standing pages.old).told → (rows : List Row) (used : List ℕ) → IsRooted (P.standing pages.old).count (P.standing pages.old).current root.now rows used → IfErr result IsFault }
     ensures cause { HasCause (IsTreeDamage (P.standing pages.old).told (P.standing pages.old).count work.new.page) (P.standing pages.old) (P.standing pages.new) result }
     ensures continues { Continues (P.may_leave pages.old) (P.may_leave pages.new) (P.is_steady pages.old) (P.standing pages.old) (P.standing pages.new) }
     ensures keeps { OnOk result (KeepsLines (P.standing pages.old) (P.standing pages.new)) }
@@ -157,8 +161,9 @@ fn seek<P: Pages>(
     get(pages, root, key, work)
 }
 
-/// Puts a value at a key: true where the key is new. Check 37 comes only where no page is left, check 39 only where a root at
-/// level 3 has 240 children and would have to be cut.
+/// Puts a value at a key: true where the key is new. On a tree beside a free list the only damage is check 37, where no page
+/// is left and fewer are at hand than a tree of the rows afterwards may have, and check 39, where a root at level 3 has 240
+/// children and would have to be cut, over more than a million rows.
 pub fn put<P: Pages>(
     pages: &mut P,
     root: &mut Root,
@@ -177,6 +182,7 @@ pub fn put<P: Pages>(
     ensures room { OnOk result ((P.standing pages.old).room ≤ (P.standing pages.new).room + 600) }
     ensures fresh { IsTrue (P.standing pages.old).told → (rows : List Row) (used : List ℕ) → IsRooted (P.standing pages.old).count (P.standing pages.old).current root.old rows used → IfOk result (λ fresh. fresh ≡ not (is_some (row_get key rows))) }
     // why it stops
+    ensures sound { IsTrue (P.standing pages.old).told → (rows : List Row) (used free : List ℕ) → StandsIn (P.standing pages.old).count (P.standing pages.old).current root.old rows used free → IfErr result (IsLack (pages_at_hand (P.standing pages.old).count (P.standing pages.old).current used free) (length (row_put key value.now rows)) (length rows)) }
     ensures cause { HasCause (IsTreeDamage (P.standing pages.old).told (P.standing pages.old).count work.new.page) (P.standing pages.old) (P.standing pages.new) result }
     // the root, and what stays
     ensures some { OnOk result (1 ≤ root.new.page) }
@@ -193,7 +199,7 @@ pub fn put<P: Pages>(
     Ok(!found)
 }
 
-/// Takes a key out: true where there was a row of it.
+/// Takes a key out: true where there was a row of it. On a tree beside a free list it answers no damage.
 pub fn delete<P: Pages>(
     pages: &mut P,
     root: &mut Root,
@@ -211,6 +217,7 @@ pub fn delete<P: Pages>(
     ensures room { OnOk result ((P.standing pages.old).room ≤ (P.standing pages.new).room + 600) }
     ensures found { IsTrue (P.standing pages.old).told → (rows : List Row) (used : List ℕ) → IsRooted (P.standing pages.old).count (P.standing pages.old).current root.old rows used → IfOk result (λ found. found ≡ is_some (row_get key rows)) }
     // why it stops
+    ensures sound { IsTrue (P.standing pages.old).told → (rows : List Row) (used free : List ℕ) → StandsIn (P.standing pages.old).count (P.standing pages.old).current root.old rows used free → IfErr result IsFault }
     ensures cause { HasCause (IsTreeDamage (P.standing pages.old).told (P.standing pages.old).count work.new.page) (P.standing pages.old) (P.standing pages.new) result }
     // the root, and what stays
     ensures some { OnOk result (1 ≤ root.new.page) }

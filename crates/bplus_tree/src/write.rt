@@ -4,7 +4,7 @@ ghost use Rattle.std.specs.Str.{bytes_eq};
 ghost use Rattle.line_pages.specs.Bytes.{bytes_of, line_bytes};
 ghost use Rattle.line_pages.specs.Touch.{begins};
 ghost use Rattle.line_pages.specs.Standing.{Continues, HasCause, Never};
-ghost use Rattle.bplus_tree.specs.Written.{Rewrites, SameElsewhere, Visited, line_part, lines_changed};
+ghost use Rattle.bplus_tree.specs.Written.{Rewrites, SameElsewhere, Visited, Differs, WritesOnly, line_part, lines_changed};
 
 use line_pages::{Pages, Stop, copy_page, page_line};
 use slotted_page::Work;
@@ -20,6 +20,7 @@ fn same_line(old: &PageBuf, new: &PageBuf, line: usize) -> bool
 }
 
 /// Writes a line of a page where its new bytes differ from its old ones.
+#[tactic(auto, using(crate::proofs::TouchedLaws::only_write, crate::proofs::TouchedLaws::only_refl))]
 fn write_changed<P: Pages>(
     pages: &mut P,
     page: u64,
@@ -34,6 +35,7 @@ fn write_changed<P: Pages>(
     ensures done { IsTrue (P.standing pages.old).told → line_bytes ((P.standing pages.old).current page line) ≡ line_part old.now line → OnOk result (line_bytes ((P.standing pages.new).current page line) ≡ line_part new.now line) }
     ensures others { IsTrue (P.standing pages.old).told → OnOk result (SameElsewhere page line (P.standing pages.old).current (P.standing pages.new).current) }
     ensures room { OnOk result ((P.standing pages.new).room + (if bytes_eq (line_part old.now line) (line_part new.now line) then 0 else 1) ≡ (P.standing pages.old).room) }
+    ensures touches { OnOk result (WritesOnly page (Differs old.now new.now) (P.standing pages.old) (P.standing pages.new)) }
     ensures cause { HasCause Never (P.standing pages.old) (P.standing pages.new) result }
     ensures continues { Continues (P.may_leave pages.old) (P.may_leave pages.new) (P.is_steady pages.old) (P.standing pages.old) (P.standing pages.new) }
     ensures visited { OnOk result (Visited page (P.standing pages.old) (P.standing pages.new)) }
@@ -61,6 +63,7 @@ pub fn write_changes<P: Pages>(
     requires room { lines_changed old.now new.now ≤ (P.standing pages.old).room }
     ensures writes { IsTrue (P.standing pages.old).told → old.now ≡ bytes_of (P.standing pages.old).current page → OnOk result (Rewrites page new.now (P.standing pages.old).current (P.standing pages.new).current) }
     ensures room { OnOk result ((P.standing pages.new).room + lines_changed old.now new.now ≡ (P.standing pages.old).room) }
+    ensures touches { OnOk result (WritesOnly page (Differs old.now new.now) (P.standing pages.old) (P.standing pages.new)) }
     ensures cause { HasCause Never (P.standing pages.old) (P.standing pages.new) result }
     ensures continues { Continues (P.may_leave pages.old) (P.may_leave pages.new) (P.is_steady pages.old) (P.standing pages.old) (P.standing pages.new) }
     ensures few { (P.standing pages.new).visits ≤ (P.standing pages.old).visits + 1 }

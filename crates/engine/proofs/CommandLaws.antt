@@ -4,7 +4,7 @@ use Rattle.std.specs.Prelude.{OnOk, IfErr, IsErr, IsErrAnd, ◌==◌}
 use Rattle.std.proofs.lemmas.Bool.{cases_eq, ne_eqb}
 use Rattle.devices.specs.World.{Standing as Device, Goes, now}
 use Rattle.line_pages.specs.Lines.{Lines}
-use Rattle.line_pages.specs.Standing.{Continues, KeepsLines, HasCause, IsCause}
+use Rattle.line_pages.specs.Standing.{Standing as Shown, Continues, KeepsLines, HasCause, IsCause}
 use Rattle.line_pages.specs.declared.stop.Evidence.{Evidence}
 use Rattle.line_pages.specs.declared.stop.Stop.{Stop}
 use Rattle.line_pages.specs.declared.stop.Stop.TheVariants.{Nvm, Ssd, Damaged}
@@ -210,3 +210,18 @@ module _ {book_name device_name since book_name_after device_name_after since_af
         let rises : reach next ≤ reach book + 1921 = nexts.reach_rises in
         does_kept after old a (with_book old next work) b (Ok v) stands next_geometry goes during (omega (arith, same_reach, rises)) steady stands_next (λ told s shows. tt)
         (λ told s shows. subst (λ (x : State). Shows (with_book old next work) b x) (sym (same told s shows)) (shows_next told s shows (tables_of s) (holds told s shows)))
+
+-- ---- what one call makes, said of another result
+
+pub does_ok : {T U : Type 0} (after : State → State) (old : Engine) (a : Device) (new : Engine) (b : Device) (v : T) (w : U) → Does {T = T} after old a new b (Ok v) → Does {T = U} after old a new b (Ok w)
+does_ok after old a new b v w it = record { shows = it.shows; sound = λ told s shows. tt; moments = it.moments; steady = it.steady; ready = it.ready; sizes = it.sizes; reach_rises = it.reach_rises; goes = it.goes }
+
+pub does_err : {T U : Type 0} (after : State → State) (old : Engine) (a : Device) (new : Engine) (b : Device) (r : Result U Stop) (why : Stop) → IsErr r × IsErrAnd r (λ found. found ≡ why)
+    → Does {T = T} after old a new b (Err why) → Does {T = U} after old a new b r
+does_err {T} {U} after old a new b r why is it =
+    subst (λ (x : Result U Stop). Does {T = U} after old a new b x) (sym (handed_on r why is))
+    (record { shows = λ told s shows. tt; sound = it.sound; moments = it.moments; steady = λ steady. tt; ready = tt; sizes = it.sizes; reach_rises = tt; goes = it.goes })
+
+pub cause_err : {A T U : Type 0} (Damage : Evidence → Type 0) (old new : Shown A) (r : Result U Stop) (why : Stop) → IsErr r × IsErrAnd r (λ found. found ≡ why)
+    → HasCause {T = T} Damage old new (Err why) → HasCause {T = U} Damage old new r
+cause_err {A} {T} {U} Damage old new r why is it = subst (λ (x : Result U Stop). HasCause {T = U} Damage old new x) (sym (handed_on r why is)) (record { failed = it.failed; kept = tt })

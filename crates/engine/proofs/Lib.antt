@@ -4,3 +4,5 @@ pub mod TransactionLaws
 pub mod TableLaws
 pub mod CommandLaws
 pub mod OpenLaws
+pub mod AnswerLaws
+pub mod CauseLaws

@@ -22,7 +22,7 @@ use Rattle.script.specs.declared.command.Reason.{Reason}
 use Rattle.script.specs.declared.command.Reason.TheVariants as reason
 use Rattle.script.specs.declared.command.Reply.{Reply}
 use Rattle.script.specs.declared.command.Reply.TheVariants as reply
-use Rattle.engine.specs.Commands.{reply_of}
+use Rattle.engine.specs.Commands.{reply_of, reason_of}
 
 -- a name is known where it has rows
 pub known_is : (name : List ℕ) (T : List Table) → is_known name T ≡ is_some (rows_of name T)
@@ -248,20 +248,21 @@ module _ (bounds : Bounds) (s : State) where
     none_left : nat_le bounds.writes (writes_so_far s.transaction) ≡ true
     none_left = ap (λ (x : Option Open). nat_le bounds.writes (writes_so_far x)) is_open ∙ le-leb bounds.writes o.writes spent
 
-    pub spent_put : (name : List ℕ) (key : ℕ) (value : List ℕ) → step bounds s (Some (command.Put name key value)) ≡ (s, cond (is_known name (current s)) (reply.Refused reason.Writes) (reply.Refused reason.Table) ∷ [])
-    spent_put name key value = elim (cases_Bool (is_known name (current s))) [
-      | inl e ↦ is_writes bounds s (command.Put name key value) (shut o is_open) (ap not e) none_left ∙ sym (ap (λ (b : Bool). (s, cond b (reply.Refused reason.Writes) (reply.Refused reason.Table) ∷ [])) e)
-      | inr e ↦ is_table bounds s (command.Put name key value) (shut o is_open) (ap not e) ∙ sym (ap (λ (b : Bool). (s, cond b (reply.Refused reason.Writes) (reply.Refused reason.Table) ∷ [])) e)
-    ]
+    abbrev refused : Bool → Bool → State × List Reply
+    refused creates known = (s, reply.Refused (reason_of known creates) ∷ [])
 
-    pub spent_del : (name : List ℕ) (key : ℕ) → step bounds s (Some (command.Del name key)) ≡ (s, cond (is_known name (current s)) (reply.Refused reason.Writes) (reply.Refused reason.Table) ∷ [])
-    spent_del name key = elim (cases_Bool (is_known name (current s))) [
-      | inl e ↦ is_writes bounds s (command.Del name key) (shut o is_open) (ap not e) none_left ∙ sym (ap (λ (b : Bool). (s, cond b (reply.Refused reason.Writes) (reply.Refused reason.Table) ∷ [])) e)
-      | inr e ↦ is_table bounds s (command.Del name key) (shut o is_open) (ap not e) ∙ sym (ap (λ (b : Bool). (s, cond b (reply.Refused reason.Writes) (reply.Refused reason.Table) ∷ [])) e)
-    ]
+    spent_by : (c : Command) (creates known : Bool) → transaction_wrong c (is_some s.transaction) ≡ false → writes_spent bounds.writes c (writes_so_far s.transaction) ≡ true
+        → table_wrong c (current s) ≡ cond creates known (not known) → step bounds s (Some c) ≡ refused creates known
+    spent_by c true true a t w = is_table bounds s c a w
+    spent_by c true false a t w = is_writes bounds s c a w t
+    spent_by c false true a t w = is_writes bounds s c a w t
+    spent_by c false false a t w = is_table bounds s c a w
 
-    pub spent_create : (name : List ℕ) → step bounds s (Some (command.Create name)) ≡ (s, cond (is_known name (current s)) (reply.Refused reason.Table) (reply.Refused reason.Writes) ∷ [])
-    spent_create name = elim (cases_Bool (is_known name (current s))) [
-      | inl e ↦ is_table bounds s (command.Create name) (shut o is_open) e ∙ sym (ap (λ (b : Bool). (s, cond b (reply.Refused reason.Table) (reply.Refused reason.Writes) ∷ [])) e)
-      | inr e ↦ is_writes bounds s (command.Create name) (shut o is_open) e none_left ∙ sym (ap (λ (b : Bool). (s, cond b (reply.Refused reason.Table) (reply.Refused reason.Writes) ∷ [])) e)
-    ]
+    pub spent_put : (name : List ℕ) (key : ℕ) (value : List ℕ) → step bounds s (Some (command.Put name key value)) ≡ (s, reply.Refused (reason_of (is_known name (current s)) false) ∷ [])
+    spent_put name key value = spent_by (command.Put name key value) false (is_known name (current s)) (shut o is_open) none_left refl
+
+    pub spent_del : (name : List ℕ) (key : ℕ) → step bounds s (Some (command.Del name key)) ≡ (s, reply.Refused (reason_of (is_known name (current s)) false) ∷ [])
+    spent_del name key = spent_by (command.Del name key) false (is_known name (current s)) (shut o is_open) none_left refl
+
+    pub spent_create : (name : List ℕ) → step bounds s (Some (command.Create name)) ≡ (s, reply.Refused (reason_of (is_known name (current s)) true) ∷ [])
+    spent_create name = spent_by (command.Create name) true (is_known name (current s)) (shut o is_open) none_left refl

@@ -1,9 +1,11 @@
--- What an engine and its device show as a store of pages, and the reply to a look-up.
+-- What an engine and its device show as a store of pages, and what it replies.
+use Rattle.std.specs.Prelude.{Bool, true, false}
 use Rattle.devices.specs.World.{Standing as Device}
 use Rattle.line_pages.specs.Standing.{Standing}
 use Rattle.table_store.specs.declared.answer.Got.{Got}
 use Rattle.table_store.specs.declared.answer.Got.TheVariants as got
 use Rattle.transactions.specs.StoreStanding.{Apart, standing_of}
+use Rattle.script.specs.declared.command.Reason.{Reason}
 use Rattle.script.specs.declared.command.Reason.TheVariants as reason
 use Rattle.script.specs.declared.command.Reply.{Reply}
 use Rattle.script.specs.declared.command.Reply.TheVariants as reply
@@ -18,3 +20,11 @@ abbrev pub reply_of : Got → Reply
 reply_of (got.Found value) = reply.Found value
 reply_of got.Absent = reply.Absent
 reply_of got.NoTable = reply.Refused reason.Table
+
+-- why a write is refused that would be one too many: for its name, which a `create` wants new and any other write known, or
+-- else for the number of writes
+abbrev pub reason_of : Bool → Bool → Reason
+reason_of true true = reason.Table
+reason_of true false = reason.Writes
+reason_of false true = reason.Writes
+reason_of false false = reason.Table

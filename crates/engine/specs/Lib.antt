@@ -3,3 +3,4 @@ pub mod Engine
 pub mod Steps
 pub mod Commands
 pub mod Opening
+pub mod Causes

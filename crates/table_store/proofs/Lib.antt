@@ -9,3 +9,4 @@ pub mod RoomLaws
 pub mod TouchesLaws
 pub mod ChangeLaws
 pub mod RowsLaws
+pub mod ScanLaws

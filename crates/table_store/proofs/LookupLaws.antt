@@ -7,8 +7,7 @@ use Rattle.line_pages.specs.Touch.{Access, begins, accesses_from, begun_from, la
 use Rattle.line_pages.specs.Standing.{Standing, ReadsPage, AddsReads}
 use Rattle.line_pages.proofs.TouchLaws.{accesses_from-begun}
 use Rattle.line_pages.proofs.StandingLaws.{page_adds, AddsReads-trans}
-use Rattle.slotted_page.specs.Rows.{Row, row_get}
-use Rattle.bplus_tree.specs.declared.root.Root.{Root}
+use Rattle.slotted_page.specs.Rows.{Row}
 use Rattle.bplus_tree.specs.Tree.{IsRooted}
 use Rattle.bplus_tree.specs.Way.{IsPath}
 use Rattle.bplus_tree.specs.Damage.{IsFault}
@@ -29,7 +28,7 @@ known_some is_no_table known (Ok answer) is named = named ∙ sym (ap not is)
 known_some is_no_table known (Err e) is named = tt
 
 -- a tree that was found in pages that are the same
-rooted_now : (limits : Limits) (n0 n1 : ℕ) (old now : Lines) (name : List ℕ) (place : Place) → n1 ≡ n0 → now ≡ old → IsStore limits n0 old → place_of name 0 (entries old) ≡ Some place → FitsEntry limits n0 place.entry
+pub rooted_now : (limits : Limits) (n0 n1 : ℕ) (old now : Lines) (name : List ℕ) (place : Place) → n1 ≡ n0 → now ≡ old → IsStore limits n0 old → place_of name 0 (entries old) ≡ Some place → FitsEntry limits n0 place.entry
     → IsRooted n1 now (root_at place) (entry_rows old place.entry) (entry_pages old place.entry)
 rooted_now limits n0 n1 old now name place count same store is fits =
     subst (λ (n : ℕ). IsRooted n now (root_at place) (entry_rows old place.entry) (entry_pages old place.entry)) (sym count)
@@ -51,7 +50,7 @@ sound_in limits n0 n1 old now name place result count same is fits answers store
     answers (entry_rows old place.entry) (entry_pages old place.entry) (rooted_now limits n0 n1 old now name place count same store is fits)
 
 -- another fact about the same reads
-with_fact : {A : Type 0} {First Then : List Access → Type 0} {a b : Standing A} → (reads : AddsReads First a b) → Then (accesses_from None reads.added) → AddsReads Then a b
+pub with_fact : {A : Type 0} {First Then : List Access → Type 0} {a b : Standing A} → (reads : AddsReads First a b) → Then (accesses_from None reads.added) → AddsReads Then a b
 with_fact reads then_is = record {
   added = reads.added;
   touches = reads.touches;

@@ -1,20 +1,26 @@
 -- A row that is put into a table, or taken out.
-use Rattle.std.proofs.Common.{◌≡◌, ◌≢◌, ℕ, suc, ◌+◌, ◌-◌, ◌<◌, ◌≤◌, inl, inr, Bool, true, false, cond, List, [], ◌∷◌, ◌++◌, length, None, Some, Option, Result, Ok, Err, OnOk, refl, sym, ap, subst, ◌∙◌, arith, nat_eq, nat_lt, nat_le}
+use Rattle.std.proofs.Common.{◌≡◌, ◌≢◌, ℕ, suc, ◌+◌, ◌-◌, ◌*◌, ◌/◌, ◌<◌, ◌≤◌, inl, inr, Bool, true, false, cond, List, [], ◌∷◌, ◌++◌, length, None, Some, Result, Ok, Err, OnOk, IfErr, refl, sym, ap, subst, ◌∙◌, arith, nat_eq, nat_lt, nat_le}
 use Rattle.std.specs.Prelude.{is_some}
-use Rattle.std.proofs.lemmas.Bool.{cases_Bool, and_parts, leb-true, ltb-true, lt-ltb, le-ltb, ne_eqb, cases_lt}
+use Rattle.std.proofs.lemmas.Bool.{cases_Bool, and_parts, leb-true, ltb-true, lt-ltb, le-ltb, eqb-true, ne_eqb, cases_lt}
 use Rattle.line_pages.specs.declared.stop.Stop.{Stop}
+use Rattle.nvm_model.specs.declared.line.Line.{Line}
+use Rattle.line_pages.specs.declared.stop.Stop.TheVariants.{Nvm, Ssd, Damaged}
+use Rattle.line_pages.specs.declared.stop.Evidence.TheVariants.{Super, Frames, Log, Page, Walk}
 use Rattle.line_pages.specs.Lines.{Lines}
+use Rattle.line_pages.proofs.LineLaws.{with_line-here}
 use Rattle.slotted_page.specs.Rows.{Row, keys, last_key, row_get, row_put, row_delete, Ascends}
 use Rattle.bplus_tree.specs.declared.root.Root.{Root}
-use Rattle.bplus_tree.specs.Space.{high_of}
-use Rattle.bplus_tree.specs.Tree.{times, IsRooted}
+use Rattle.bplus_tree.specs.Space.{kind_of, high_of, free_head, FitsHeader}
+use Rattle.bplus_tree.specs.Tree.{IsRooted}
 use Rattle.bplus_tree.specs.Moves.{below, ArePart, Changes, ChangesRows}
+use Rattle.bplus_tree.specs.Damage.{IsFault, IsLack, StandsIn, pages_at_hand}
 use Rattle.bplus_tree.proofs.TreeLaws.{times-append}
 use Rattle.bplus_tree.proofs.RowLaws.{above_bound, row_get-none_above}
 use Rattle.bplus_tree.proofs.OrderLaws.{tree_rows-ascend}
 use Rattle.table_store.specs.declared.limits.Limits.{Limits}
+use Rattle.table_store.specs.declared.entry.Entry.{Entry}
 use Rattle.table_store.specs.declared.entry.Place.{Place}
-use Rattle.table_store.specs.Catalog.{entries, tables, place_of, catalog_checks, entry_rows, entry_pages, FitsRoot}
+use Rattle.table_store.specs.Catalog.{entry_in, entries, table_count, tables, place_of, catalog_checks, entry_rows, entry_pages, FitsRoot}
 use Rattle.table_store.specs.Stored.{all_pages, rows_of, with_rows, IsStore}
 use Rattle.table_store.specs.Changed.{root_at, Enters, ChangesTable}
 use Rattle.table_store.specs.Putting.{stored_of}
@@ -23,8 +29,8 @@ use Rattle.table_store.specs.declared.answer.Stored.TheVariants.{Done as Put, Ta
 use Rattle.table_store.specs.declared.answer.Deleted.TheVariants.{Done as Gone, Absent}
 use Rattle.table_store.proofs.CatalogLaws.{AllHold, all_hold}
 use Rattle.table_store.proofs.TableLaws.{tree_of_place, pages_of_place, rooted, rows_by}
-use Rattle.table_store.proofs.FrameLaws.{not_zero}
-use Rattle.table_store.proofs.ChangeLaws.{rows_changed, high_new, other_pages}
+use Rattle.table_store.proofs.RoomLaws.{room_for_table}
+use Rattle.table_store.proofs.ChangeLaws.{around, rows_changed, high_new, other_pages}
 
 -- how many rows there are after a put, and after a row was taken out
 pub put_length : (low high key : ℕ) (value : List ℕ) (rows : List Row) → Ascends low high (keys rows)
@@ -47,6 +53,7 @@ put_length low high key value (row ∷ rows) up =
     more : (found : Bool) (after before : ℕ) → after ≡ cond found before (before + 1) → suc after ≡ cond found (suc before) (suc before + 1)
     more true after before is = ap suc is
     more false after before is = omega (arith, is)
+
     not_less : (a b : ℕ) → nat_lt a b ≡ false → b ≤ a
     not_less a b is = elim (cases_lt a b) [ inl lt ↦ let broken = sym (lt-ltb a b lt) ∙ is in absurd (cc) | inr ge ↦ ge ]
 
@@ -152,3 +159,61 @@ is_deleted old name place is key found = sym (ap (deleted_of key) (rows_by name 
 
 pub is_absent : (old : Lines) (name : List ℕ) (place : Place) (is : place_of name 0 (entries old) ≡ Some place) (key : ℕ) → false ≡ is_some (row_get key (entry_rows old place.entry)) → Absent ≡ deleted_of key (rows_of name (tables old))
 is_absent old name place is key absent = sym (ap (deleted_of key) (rows_by name old 0 (entries old) (Some place) is) ∙ rw (sym absent) refl)
+
+-- the entry as it was written
+pub counted_by : {T : Type 0} (mid new : Lines) (place : Place) (root : Root) (rows : ℕ) (result : Result T Stop) → OnOk result (Enters mid new place root rows) → OnOk result ((entry_in (new 0 (2 + place.at))).rows ≡ rows)
+counted_by mid new place root rows (Ok v) enters =
+    let line : new 0 (2 + place.at) ≡ enters.line = ap (λ (all : Lines). all 0 (2 + place.at)) enters.after ∙ with_line-here 0 (2 + place.at) enters.line mid in
+    ap (λ (l : Line). (entry_in l).rows) line ∙ ap (λ (e : Entry). e.rows) enters.entry
+counted_by mid new place root rows (Err e) enters = tt
+
+module _ (limits : Limits) (count : ℕ) (old : Lines) (store : IsStore limits count old) (name : List ℕ) (place : Place) (found : place_of name 0 (entries old) ≡ Some place) where
+  fits_header : FitsHeader count (old 0 0)
+  fits_header =
+      let held : AllHold (catalog_checks limits count old) = all_hold (catalog_checks limits count old) store.catalog in
+      let high = high_within limits count old store name place found in
+      record {
+        kind = eqb-true (kind_of old 0) 4 held.0;
+        some = high.0;
+        within = high.1;
+        head = ltb-true (free_head old) (high_of old) held.1.1.1.0;
+      }
+
+  -- the tree of the name beside the free list
+  pub stands_in : FitsRoot limits count place → StandsIn count old (root_at place) (entry_rows old place.entry) (entry_pages old place.entry) store.free
+  stands_in fits = record {
+    rooted = place_rooted limits count old store name place found fits;
+    is_free = store.is_free;
+    parted = are_part limits count old store name place found;
+    header = fits_header;
+  }
+
+  -- its pages are enough for so many rows
+  pub enough_at_hand : (rows : ℕ) → rows ≤ limits.rows → 1 + limits.tables * (limits.rows / 2 + 8) ≤ count → rows / 2 + 8 ≤ pages_at_hand count old (entry_pages old place.entry) store.free
+  enough_at_hand rows few enough =
+      let part = around name old 2 (table_count old) 0 (entries old) place found in
+      let room = room_for_table limits count old store part.front place.entry part.back part.all enough in
+      omega (arith, room, few, (high_within limits count old store name place found).1)
+
+-- a put that lacks nothing stops for a fault alone
+pub no_lack : (at_hand after before : ℕ) (stop : Stop) → after / 2 + 8 ≤ at_hand → before ≤ 1000000 → IsLack at_hand after before stop → IsFault stop
+no_lack at_hand after before Nvm enough few lack = tt
+no_lack at_hand after before Ssd enough few lack = tt
+no_lack at_hand after before (Damaged (Page page level low high check)) enough few lack =
+    elim lack [ inl short ↦ absurd (omega (arith, short.1, enough)) | inr many ↦ absurd (omega (arith, many.1, few)) ]
+no_lack at_hand after before (Damaged (Super words check)) enough few lack = lack
+no_lack at_hand after before (Damaged (Frames first second entry check)) enough few lack = lack
+no_lack at_hand after before (Damaged (Log offset line tail check)) enough few lack = lack
+no_lack at_hand after before (Damaged (Walk page kept found check)) enough few lack = lack
+
+pub sound_put : {T : Type 0} (limits : Limits) (count : ℕ) (old : Lines) (name : List ℕ) (place : Place) (key : ℕ) (value : List ℕ) (found : Bool) (rows : ℕ) (result : Result T Stop) → FitsRoot limits count place → limits.rows ≤ 1000000
+    → ((rows : List Row) (used free : List ℕ) → StandsIn count old (root_at place) rows used free → IfErr result (IsLack (pages_at_hand count old used free) (length (row_put key value rows)) (length rows)))
+    → IsStore limits count old → place_of name 0 (entries old) ≡ Some place → found ≡ is_some (row_get key (entry_rows old place.entry)) → rows ≡ cond found place.entry.rows (place.entry.rows + 1) → rows ≤ limits.rows
+    → 1 + limits.tables * (limits.rows / 2 + 8) ≤ count → IfErr result IsFault
+sound_put limits count old name place key value found rows (Ok v) fits most stops store is found_is rows_are few enough = tt
+sound_put limits count old name place key value found rows (Err e) fits most stops store is found_is rows_are few enough =
+    let after = rows_put limits count old store name place is key value found rows found_is rows_are in
+    no_lack (pages_at_hand count old (entry_pages old place.entry) store.free) (length (row_put key value (entry_rows old place.entry))) (length (entry_rows old place.entry)) e
+    (enough_at_hand limits count old store name place is (length (row_put key value (entry_rows old place.entry))) (omega (arith, after, few)) enough)
+    (omega (arith, rows_counted limits count old store name place is, fits.entry.rows, most))
+    (stops (entry_rows old place.entry) (entry_pages old place.entry) store.free (stands_in limits count old store name place is fits))

@@ -1,8 +1,13 @@
 -- A search for the next row of a table.
-use Rattle.std.specs.Prelude.{ℕ, Bool, true, false, nat_le, List, Option, Some, None, if◌then◌else◌}
+use Rattle.std.specs.Prelude.{◌≡◌, ℕ, Bool, true, false, nat_le, List, [], ◌∷◌, Option, Some, None, if◌then◌else◌}
+use Rattle.line_pages.specs.Lines.{Lines}
+use Rattle.line_pages.specs.Touch.{Access}
 use Rattle.slotted_page.specs.Rows as rows
+use Rattle.bplus_tree.specs.Way.{AreReadsIn}
+use Rattle.table_store.specs.declared.entry.Place.{Place}
 use Rattle.table_store.specs.declared.answer.Next.{Next}
 use Rattle.table_store.specs.declared.answer.Next.TheVariants.{Row, End, NoTable}
+use Rattle.table_store.specs.Catalog.{entries, entry_pages, place_of}
 
 -- the first row from the lower bound on, unless it is above the upper one
 abbrev pub row_up_to : ℕ → Option rows.Row → Next
@@ -19,3 +24,14 @@ abbrev pub is_no_table : Next → Bool
 is_no_table (Row key value) = false
 is_no_table End = false
 is_no_table NoTable = true
+
+-- the pages of an entry's tree, if there is one
+abbrev pub place_pages : Lines → Option Place → List ℕ
+place_pages lines None = []
+place_pages lines (Some place) = entry_pages lines place.entry
+
+-- The accesses of the search: page 0, then reads of pages of the table's tree alone.
+pub record IsScan (lines : Lines) (name : List ℕ) (begun : List Access) : Type 0 where
+  pub rest : List Access
+  pub begins : begun ≡ (0, false) ∷ rest
+  pub pages : AreReadsIn (place_pages lines (place_of name 0 (entries lines))) rest

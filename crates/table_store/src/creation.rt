@@ -1,6 +1,6 @@
 //! A table that is made.
-ghost use Rattle.std.specs.Prelude.{◌≡◌, ◌+◌, ◌*◌, ◌/◌, ◌<◌, ◌≤◌, ℕ, None, IsTrue, OnOk, IfOk, IfErr, IfSome};
-ghost use Rattle.line_pages.specs.Lines.{IsLine, with_line};
+ghost use Rattle.std.specs.Prelude.{◌≡◌, ◌+◌, ◌*◌, ◌/◌, ◌<◌, ◌≤◌, None, IsTrue, OnOk, IfOk, IfErr, IfSome};
+ghost use Rattle.line_pages.specs.Lines.{with_line};
 ghost use Rattle.line_pages.specs.Standing.{Continues, HasCause, Never, ReadsPage};
 ghost use Rattle.bplus_tree.specs.Space.{with_word, take_checks, IsSpaceDamage};
 ghost use Rattle.bplus_tree.specs.Moves.{Takes};
@@ -8,14 +8,15 @@ ghost use Rattle.bplus_tree.specs.Damage.{IsFault};
 ghost use Rattle.table_store.specs.Names.{is_name};
 ghost use Rattle.table_store.specs.Catalog.{entry_in as entry_of_line, entries, table_count, place_of, IsCatalogDamage};
 ghost use Rattle.table_store.specs.Stored.{IsStore};
-ghost use Rattle.table_store.specs.Created.{field_of as field_of_name, new_entry, leaf_line, Written, Makes, IsCreated, KeepsUnlessMade, IsSlot, IsCreateDamage};
+ghost use Rattle.table_store.specs.Created.{field_of as field_of_name, new_entry, Written, Makes, IsCreated, KeepsUnlessMade, IsSlot, IsCreateDamage};
 
 use crate::answer::Created;
 use crate::catalog::{read_catalog, search};
+use crate::entry::{Entry, line_of};
 use crate::limits::Limits;
 use crate::name::Name;
 use bplus_tree::take_page;
-use line_pages::{Pages, Stop, get_word};
+use line_pages::{Pages, Stop};
 use nvm_model::Line;
 use slotted_page::Work;
 
@@ -33,19 +34,17 @@ fn field_of(name: &Name) -> [u8; 32]
 }
 
 /// The line of the entry of a table with no row, whose tree is one leaf.
-#[tactic(auto, using(crate::proofs::EntryLaws::four_parts))]
 fn entry_line(name: &Name, page: u64) -> Line
     ensures entry { entry_of_line result ≡ new_entry name.now page }
     ensures named { IsTrue (is_name name.now) }
 {
     let field = field_of(name);
-    let first = get_word(&field, 0);
-    let second = get_word(&field, 8);
-    let third = get_word(&field, 16);
-    let fourth = get_word(&field, 24);
-    Line {
-        words: [first, second, third, fourth, page, 1, 0, 0],
-    }
+    line_of(Entry {
+        field,
+        root: page,
+        levels: 1,
+        rows: 0,
+    })
 }
 
 /// Writes the entry of a table, and then the number of tables into the header.

@@ -1,12 +1,13 @@
 //! A row that is taken out of a table.
-ghost use Rattle.std.specs.Prelude.{◌≡◌, ◌+◌, ◌-◌, ◌*◌, ◌/◌, ◌≤◌, ℕ, List, Some, true, false, not, is_some, IsTrue, OnOk, IfOk, IfErr};
+ghost use Rattle.std.specs.Prelude.{◌≡◌, ◌+◌, ◌-◌, ◌≤◌, ℕ, List, Some, true, false, not, is_some, IsTrue, OnOk, IfOk, IfErr};
 ghost use Rattle.line_pages.specs.Standing.{Continues, HasCause};
 ghost use Rattle.slotted_page.specs.Rows.{row_get, row_delete};
 ghost use Rattle.bplus_tree.specs.Damage.{IsFault, IsTreeDamage};
-ghost use Rattle.table_store.specs.Catalog.{entries, tables, place_of, entry_rows, FitsRoot};
+ghost use Rattle.table_store.specs.declared.entry.Place.{Place};
+ghost use Rattle.table_store.specs.Catalog.{entry_in as entry_of_line, entries, tables, place_of, entry_rows, FitsRoot};
 ghost use Rattle.table_store.specs.Stored.{is_known, rows_of, IsStore};
 ghost use Rattle.table_store.specs.Changed.{ChangesTable, IsChangeDamage};
-ghost use Rattle.table_store.specs.Deleting.{deleted_of, is_no_table, DeletesIfDone, KeepsUnlessDone};
+ghost use Rattle.table_store.specs.Deleting.{deleted_of, is_no_table, DeletesIfDone, CountsIfDone, KeepsUnlessDone};
 
 use crate::answer::Deleted;
 use crate::catalog::find_entry;
@@ -30,6 +31,8 @@ fn remove_row<P: Pages>(
     requires fits { FitsRoot limits.now (P.standing pages.old).count place.now }
     requires room { 640 ≤ (P.standing pages.old).room }
     ensures changed { IsTrue (P.standing pages.old).told → (name : List ℕ) → IsStore limits.now (P.standing pages.old).count (P.standing pages.old).current → place_of name 0 (entries (P.standing pages.old).current) ≡ Some place.now → is_some (row_get key (entry_rows (P.standing pages.old).current place.now.entry)) ≡ true → OnOk result (ChangesTable limits.now (P.standing pages.old).count (P.standing pages.old).current (P.standing pages.new).current name (row_delete key)) }
+    ensures counted { IsTrue (P.standing pages.old).told → OnOk result ((entry_of_line ((P.standing pages.new).current 0 (2 + place.now.at))).rows ≡ place.now.entry.rows - 1) }
+    ensures sound { IsTrue (P.standing pages.old).told → (name : List ℕ) → IsStore limits.now (P.standing pages.old).count (P.standing pages.old).current → place_of name 0 (entries (P.standing pages.old).current) ≡ Some place.now → IfErr result IsFault }
     ensures cause { HasCause (IsTreeDamage (P.standing pages.old).told (P.standing pages.old).count work.new.page) (P.standing pages.old) (P.standing pages.new) result }
     ensures continues { Continues (P.may_leave pages.old) (P.may_leave pages.new) (P.is_steady pages.old) (P.standing pages.old) (P.standing pages.new) }
     ensures room { OnOk result ((P.standing pages.old).room ≤ (P.standing pages.new).room + 601) }
@@ -56,8 +59,10 @@ fn delete_at<P: Pages>(
     requires room { 640 ≤ (P.standing pages.old).room }
     ensures answer { IsTrue (P.standing pages.old).told → (name : List ℕ) → IsStore limits.now (P.standing pages.old).count (P.standing pages.old).current → place_of name 0 (entries (P.standing pages.old).current) ≡ Some place.now → IfOk result (λ answer. answer ≡ deleted_of key (rows_of name (tables (P.standing pages.old).current))) }
     ensures changed { IsTrue (P.standing pages.old).told → (name : List ℕ) → IsStore limits.now (P.standing pages.old).count (P.standing pages.old).current → place_of name 0 (entries (P.standing pages.old).current) ≡ Some place.now → IfOk result (DeletesIfDone limits.now (P.standing pages.old).count (P.standing pages.old).current (P.standing pages.new).current name key) }
+    ensures counted { IsTrue (P.standing pages.old).told → IfOk result (CountsIfDone (P.standing pages.new).current place.now) }
     ensures named { IfOk result (λ answer. is_no_table answer ≡ false) }
     ensures keeps { IfOk result (KeepsUnlessDone (P.standing pages.old) (P.standing pages.new)) }
+    ensures sound { IsTrue (P.standing pages.old).told → (name : List ℕ) → IsStore limits.now (P.standing pages.old).count (P.standing pages.old).current → place_of name 0 (entries (P.standing pages.old).current) ≡ Some place.now → IfErr result IsFault }
     ensures cause { HasCause (IsTreeDamage (P.standing pages.old).told (P.standing pages.old).count work.new.page) (P.standing pages.old) (P.standing pages.new) result }
     ensures continues { Continues (P.may_leave pages.old) (P.may_leave pages.new) (P.is_steady pages.old) (P.standing pages.old) (P.standing pages.new) }
     ensures room { OnOk result ((P.standing pages.old).room ≤ (P.standing pages.new).room + 601) }
@@ -88,8 +93,10 @@ pub fn delete<P: Pages>(
     ensures answer { IsTrue (P.standing pages.old).told → IsStore limits.now (P.standing pages.old).count (P.standing pages.old).current → IfOk result (λ answer. answer ≡ deleted_of key (rows_of name.now (tables (P.standing pages.old).current))) }
     ensures known { IsTrue (P.standing pages.old).told → IfOk result (λ answer. is_no_table answer ≡ not (is_known name.now (tables (P.standing pages.old).current))) }
     ensures changed { IsTrue (P.standing pages.old).told → IsStore limits.now (P.standing pages.old).count (P.standing pages.old).current → IfOk result (DeletesIfDone limits.now (P.standing pages.old).count (P.standing pages.old).current (P.standing pages.new).current name.now key) }
+    ensures counted { IsTrue (P.standing pages.old).told → IfOk result (λ answer. (place : Place) → place_of name.now 0 (entries (P.standing pages.old).current) ≡ Some place → CountsIfDone (P.standing pages.new).current place answer) }
     ensures keeps { IfOk result (KeepsUnlessDone (P.standing pages.old) (P.standing pages.new)) }
     // why it stops
+    ensures sound { IsTrue (P.standing pages.old).told → IsStore limits.now (P.standing pages.old).count (P.standing pages.old).current → IfErr result IsFault }
     ensures cause { HasCause (IsChangeDamage (P.standing pages.old).told limits.now (P.standing pages.old).count (P.standing pages.old).current work.new.page) (P.standing pages.old) (P.standing pages.new) result }
     // what stays
     ensures continues { Continues (P.may_leave pages.old) (P.may_leave pages.new) (P.is_steady pages.old) (P.standing pages.old) (P.standing pages.new) }

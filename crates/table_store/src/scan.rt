@@ -1,14 +1,15 @@
 //! The next row of a table.
-ghost use Rattle.std.specs.Prelude.{◌≡◌, ◌+◌, ◌∷◌, ◌++◌, ◌<◌, ◌≤◌, ℕ, List, Some, false, not, IsTrue, OnOk, IfOk, IfErr};
+ghost use Rattle.std.specs.Prelude.{◌≡◌, ◌+◌, ◌∷◌, ◌++◌, ◌<◌, ◌≤◌, ℕ, List, None, Some, false, not, IsTrue, OnOk, IfOk, IfErr};
 ghost use Rattle.line_pages.specs.Touch.{Touch, touch_of};
-ghost use Rattle.line_pages.specs.Standing.{Continues, HasCause, KeepsLines};
+ghost use Rattle.line_pages.specs.Standing.{Continues, HasCause, KeepsLines, AddsReads};
 ghost use Rattle.slotted_page.specs.Rows.{Row, row_next};
 ghost use Rattle.slotted_page.specs.Search.{IsNodeDamage};
 ghost use Rattle.bplus_tree.specs.Tree.{IsRooted};
+ghost use Rattle.bplus_tree.specs.Way.{AreReadsIn};
 ghost use Rattle.bplus_tree.specs.Damage.{IsFault};
 ghost use Rattle.table_store.specs.Catalog.{tables};
 ghost use Rattle.table_store.specs.Stored.{rows_of, is_known, IsStore, IsLookupDamage};
-ghost use Rattle.table_store.specs.Scanning.{row_up_to, next_of, is_no_table};
+ghost use Rattle.table_store.specs.Scanning.{row_up_to, next_of, is_no_table, IsScan};
 
 use crate::answer::Next;
 use crate::catalog::find_entry;
@@ -33,6 +34,7 @@ fn next_in<P: Pages>(
     requires some_levels { 1 ≤ root.now.levels }
     requires few_levels { root.now.levels ≤ 4 }
     ensures row { IsTrue (P.standing pages.old).told → (rows : List Row) (used : List ℕ) → IsRooted (P.standing pages.old).count (P.standing pages.old).current root.now rows used → IfOk result (λ next. next ≡ row_up_to to (row_next from rows)) }
+    ensures touches { IsTrue (P.standing pages.old).told → (rows : List Row) (used : List ℕ) → IsRooted (P.standing pages.old).count (P.standing pages.old).current root.now rows used → OnOk result (AddsReads (AreReadsIn used) (P.standing pages.old) (P.standing pages.new)) }
     ensures named { IfOk result (λ next. is_no_table next ≡ false) }
     ensures sound { IsTrue (P.standing pages.old).told → (rows : List Row) (used : List ℕ) → IsRooted (P.standing pages.old).count (P.standing pages.old).current root.now rows used → IfErr result IsFault }
     ensures cause { HasCause (λ e. IsTrue (P.standing pages.old).told → IsNodeDamage (P.standing pages.old).count (P.standing pages.old).current work.new.page e) (P.standing pages.old) (P.standing pages.new) result }
@@ -72,6 +74,7 @@ pub fn scan_next<P: Pages>(
     ensures sound { IsTrue (P.standing pages.old).told → IsStore limits.now (P.standing pages.old).count (P.standing pages.old).current → IfErr result IsFault }
     ensures cause { HasCause (λ e. IsTrue (P.standing pages.old).told → IsLookupDamage limits.now (P.standing pages.old).count (P.standing pages.old).current work.new.page e) (P.standing pages.old) (P.standing pages.new) result }
     // what is read, and what stays
+    ensures touches { IsTrue (P.standing pages.old).told → (P.standing pages.old).access ≡ None → IsStore limits.now (P.standing pages.old).count (P.standing pages.old).current → OnOk result (AddsReads (IsScan (P.standing pages.old).current name.now) (P.standing pages.old) (P.standing pages.new)) }
     ensures first { IsTrue (P.standing pages.old).told → OnOk result ((rest : List Touch) × ((P.standing pages.new).touches ≡ (P.standing pages.old).touches ++ touch_of (P.standing pages.old).access 0 0 false ∷ rest)) }
     ensures keeps { OnOk result (KeepsLines (P.standing pages.old) (P.standing pages.new)) }
     ensures continues { Continues (P.may_leave pages.old) (P.may_leave pages.new) (P.is_steady pages.old) (P.standing pages.old) (P.standing pages.new) }

@@ -1,5 +1,5 @@
 //! A row that is put into a table.
-ghost use Rattle.std.specs.Prelude.{◌≡◌, ◌+◌, ◌*◌, ◌/◌, ◌≤◌, ℕ, List, Some, false, not, is_some, length, IsTrue, OnOk, IfOk, IfErr, if◌then◌else◌};
+ghost use Rattle.std.specs.Prelude.{◌≡◌, ◌+◌, ◌*◌, ◌/◌, ◌≤◌, ℕ, List, Some, false, not, is_some, IsTrue, OnOk, IfOk, IfErr, if◌then◌else◌};
 ghost use Rattle.line_pages.specs.Standing.{Continues, HasCause};
 ghost use Rattle.slotted_page.specs.Rows.{row_get, row_put};
 ghost use Rattle.bplus_tree.specs.Damage.{IsFault, IsTreeDamage};
@@ -41,6 +41,7 @@ fn store_row<P: Pages>(
     requires left { found ≡ false → place.now.entry.rows + 1 ≤ limits.now.rows }
     requires room { 640 ≤ (P.standing pages.old).room }
     ensures changed { IsTrue (P.standing pages.old).told → (name : List ℕ) → IsStore limits.now (P.standing pages.old).count (P.standing pages.old).current → place_of name 0 (entries (P.standing pages.old).current) ≡ Some place.now → found ≡ is_some (row_get key (entry_rows (P.standing pages.old).current place.now.entry)) → OnOk result (ChangesTable limits.now (P.standing pages.old).count (P.standing pages.old).current (P.standing pages.new).current name (row_put key value.now)) }
+    ensures sound { IsTrue (P.standing pages.old).told → (name : List ℕ) → IsStore limits.now (P.standing pages.old).count (P.standing pages.old).current → place_of name 0 (entries (P.standing pages.old).current) ≡ Some place.now → found ≡ is_some (row_get key (entry_rows (P.standing pages.old).current place.now.entry)) → 1 + limits.now.tables * (limits.now.rows / 2 + 8) ≤ (P.standing pages.old).count → IfErr result IsFault }
     ensures cause { HasCause (IsTreeDamage (P.standing pages.old).told (P.standing pages.old).count work.new.page) (P.standing pages.old) (P.standing pages.new) result }
     ensures continues { Continues (P.may_leave pages.old) (P.may_leave pages.new) (P.is_steady pages.old) (P.standing pages.old) (P.standing pages.new) }
     ensures room { OnOk result ((P.standing pages.old).room ≤ (P.standing pages.new).room + 601) }
@@ -70,6 +71,7 @@ fn put_at<P: Pages>(
     ensures changed { IsTrue (P.standing pages.old).told → (name : List ℕ) → IsStore limits.now (P.standing pages.old).count (P.standing pages.old).current → place_of name 0 (entries (P.standing pages.old).current) ≡ Some place.now → IfOk result (PutsIfDone limits.now (P.standing pages.old).count (P.standing pages.old).current (P.standing pages.new).current name key value.now) }
     ensures named { IfOk result (λ answer. is_no_table answer ≡ false) }
     ensures keeps { IfOk result (KeepsUnlessDone (P.standing pages.old) (P.standing pages.new)) }
+    ensures sound { IsTrue (P.standing pages.old).told → (name : List ℕ) → IsStore limits.now (P.standing pages.old).count (P.standing pages.old).current → place_of name 0 (entries (P.standing pages.old).current) ≡ Some place.now → 1 + limits.now.tables * (limits.now.rows / 2 + 8) ≤ (P.standing pages.old).count → IfErr result IsFault }
     ensures cause { HasCause (IsTreeDamage (P.standing pages.old).told (P.standing pages.old).count work.new.page) (P.standing pages.old) (P.standing pages.new) result }
     ensures continues { Continues (P.may_leave pages.old) (P.may_leave pages.new) (P.is_steady pages.old) (P.standing pages.old) (P.standing pages.new) }
     ensures room { OnOk result ((P.standing pages.old).room ≤ (P.standing pages.new).room + 601) }
@@ -104,6 +106,7 @@ pub fn put<P: Pages>(
     ensures changed { IsTrue (P.standing pages.old).told → IsStore limits.now (P.standing pages.old).count (P.standing pages.old).current → IfOk result (PutsIfDone limits.now (P.standing pages.old).count (P.standing pages.old).current (P.standing pages.new).current name.now key value.now) }
     ensures keeps { IfOk result (KeepsUnlessDone (P.standing pages.old) (P.standing pages.new)) }
     // why it stops
+    ensures sound { IsTrue (P.standing pages.old).told → IsStore limits.now (P.standing pages.old).count (P.standing pages.old).current → 1 + limits.now.tables * (limits.now.rows / 2 + 8) ≤ (P.standing pages.old).count → IfErr result IsFault }
     ensures cause { HasCause (IsChangeDamage (P.standing pages.old).told limits.now (P.standing pages.old).count (P.standing pages.old).current work.new.page) (P.standing pages.old) (P.standing pages.new) result }
     // what stays
     ensures continues { Continues (P.may_leave pages.old) (P.may_leave pages.new) (P.is_steady pages.old) (P.standing pages.old) (P.standing pages.new) }

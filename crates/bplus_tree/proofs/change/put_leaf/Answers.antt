@@ -1,7 +1,11 @@
-use Rattle.std.proofs.Common.{◌≤◌, ℕ, List, arith, sym, subst}
+use Rattle.std.proofs.Common.{◌≤◌, ℕ, List, arith, sym, subst, IsTrue, ap, ◌∙◌}
+use Rattle.line_pages.specs.Lines.{Lines}
+use Rattle.line_pages.specs.Bytes.{bytes_of}
+use Rattle.slotted_page.specs.Rows.{row_put}
 use Rattle.bplus_tree.specs.Written.{lines_changed}
 use Rattle.bplus_tree.proofs.WrittenLaws.{changed_most}
-use Rattle.bplus_tree.proofs.Storing.{spent_most, leaf_spent}
+use Rattle.bplus_tree.proofs.Storing.{spent_most, leaf_spent, leaf_edits, if_both}
+use Rattle.bplus_tree.proofs.LackLaws.{stored_sound}
 use Rattle.bplus_tree.proofs.change.put_leaf.Goals as goal
 
 pub store-requires-clause-room : goal.store-requires-clause-room
@@ -13,3 +17,27 @@ pub returns-clause-room : goal.returns-clause-room
 returns-clause-room g c =
     leaf_spent _ _ _ _ (lines_changed c.copy_from.new.self c.leaf_put-fit.new.left) c.leaf_put-fit.result c.store.result c.in_ok-load.ensures.keeps.room (changed_most c.copy_from.new.self c.leaf_put-fit.new.left)
     (λ short. subst (λ (b : List ℕ). lines_changed b c.leaf_put-fit.new.left ≤ 33) (sym c.copy_from.ensures.value) (c.leaf_put-fit.ensures.few short)) c.store.ensures.is c.store.ensures.room
+
+pub returns-clause-edits : goal.returns-clause-edits
+returns-clause-edits g c = λ told.
+    let e = c.args.expect.now in
+    let old = g.P.Pages.standing c.args.pages.now in
+    let first = g.P.Pages.standing c.load.new.pages in
+    let new = g.P.Pages.standing c.store.new.pages in
+    let told_on = subst IsTrue (sym c.in_ok-load.ensures.continues.told) told in
+    let same = c.in_ok-load.ensures.keeps.current told in
+    let is = c.in_ok-load.ensures.bytes told in
+    let spare = c.copy_from.ensures.value ∙ is ∙ ap (λ (lines : Lines). bytes_of lines c.args.page) (sym same) in
+    if_both c.store.result
+    (λ outcome stores outcome_is. leaf_edits e old.current first.current new.current c.args.page first.count c.load.new.work.page c.leaf_put-fit.new.left c.leaf_put-fit.new.right c.leaf_put-fit.result outcome (row_put c.args.key c.args.value.now) c.requires.level
+    (c.in_ok-load.ensures.continues.count ∙ sym c.requires.pages) same is c.leaf_put-fit.ensures.fits outcome_is stores)
+    (c.store.ensures.stores told_on spare) c.store.ensures.is
+
+pub returns-clause-sound : goal.returns-clause-sound
+returns-clause-sound g c = λ told free well is_free part fits.
+    let old = g.P.Pages.standing c.args.pages.now in
+    let first = g.P.Pages.standing c.load.new.pages in
+    let told_on = subst IsTrue (sym c.in_ok-load.ensures.continues.told) told in
+    let same = c.in_ok-load.ensures.keeps.current told in
+    let spare = c.copy_from.ensures.value ∙ c.in_ok-load.ensures.bytes told ∙ ap (λ (lines : Lines). bytes_of lines c.args.page) (sym same) in
+    stored_sound old.count first.count old.current first.current c.args.page c.copy_from.new.self free c.store.result c.in_ok-load.ensures.continues.count same spare is_free part fits (c.store.ensures.sound told_on)

@@ -11,6 +11,8 @@ use Rattle.bplus_tree.specs.Next.{most_visits}
 use Rattle.bplus_tree.proofs.SearchLaws.{well_formed_top, sound_child}
 use Rattle.bplus_tree.proofs.NextLaws.{most_some, most_twice, next_past, next_gap, next_row, after_child, child_answer, some_in_child, none_in_child}
 use Rattle.bplus_tree.proofs.OrderLaws.{tree_rows-ascend}
+use Rattle.slotted_page.proofs.OpenLaws.{then_reads}
+use Rattle.bplus_tree.proofs.NextReads.{child_tree, reads_under, reads_child, reads_on, reads_top}
 use Rattle.bplus_tree.proofs.next.+next_in.Goals as goal
 
 pub next_after-returns-then-high-expect-clause-few : goal.next_after-returns-then-high-expect-clause-few
@@ -140,3 +142,63 @@ next_in-returns-in-None-clause-few g t c =
     let most = most_some (c.args.expect.now.level - 1) in
     let lower = subst (λ (x : Expect). (g.P.Pages.standing c.next_in.new.pages).visits + 2 ≤ (g.P.Pages.standing c.find.new.pages).visits + most_visits x.level) c.child_expect-lower.ensures c.next_in.ensures.few in
     omega (arith, twice, most, lower, c.in_ok-at.ensures.few, c.next_after.ensures.few)
+
+pub next_after-returns-in-Child-clause-touches : goal.next_after-returns-in-Child-clause-touches
+next_after-returns-in-Child-clause-touches g t c = λ told tree.
+    let e = c.args.expect.now in
+    let old = g.P.Pages.standing c.args.pages.now in
+    let first = g.P.Pages.standing c.find.new.pages in
+    let new = g.P.Pages.standing c.next_in.new.pages in
+    let safe = rw c.in-Child.is at c.in_ok-child.ensures.safe in
+    let spot = rw c.in-Child.is at (c.in_ok-child.ensures.spot told (well_formed_top e.pages old.current e.level c.args.page e.low e.high e.root tree)) in
+    let told_on = subst IsTrue (sym c.in_ok-child.ensures.continues.told) told in
+    let below = child_tree e old.current first.current c.args.page c.in-Child.field-0 c.in-Child.child c.in-Child.low c.in-Child.top (c.in_ok-child.ensures.reads.current told) safe.0 tree spot in
+    reads_child c.args.page c.in-Child.field-0 c.in-Child.child c.in-Child.low c.in-Child.top e.high e.level old first new c.next_in.result safe.0 (c.in_ok-child.ensures.reads.current told) spot c.in_ok-child.ensures.reads
+    (rw c.child_expect-lower.ensures at (c.next_in.ensures.touches told_on) below)
+
+pub next_in-returns-in-Row-clause-touches : goal.next_in-returns-in-Row-clause-touches
+next_in-returns-in-Row-clause-touches g t c = λ told tree.
+    let old = g.P.Pages.standing c.args.pages.now in
+    let first = g.P.Pages.standing c.find.new.pages in
+    let new = g.P.Pages.standing c.row_from.new.pages in
+    reads_top c.args.page c.args.expect.now.level old new c.row_from.result (then_reads old first new c.row_from.result c.in_ok-at.ensures.reads c.row_from.ensures.reads)
+
+pub next_in-returns-in-Gap-clause-touches : goal.next_in-returns-in-Gap-clause-touches
+next_in-returns-in-Gap-clause-touches g t c = λ told tree.
+    let old = g.P.Pages.standing c.args.pages.now in
+    let first = g.P.Pages.standing c.find.new.pages in
+    let new = g.P.Pages.standing c.row_from-in-Gap.new.pages in
+    reads_top c.args.page c.args.expect.now.level old new c.row_from-in-Gap.result (then_reads old first new c.row_from-in-Gap.result c.in_ok-at.ensures.reads c.row_from-in-Gap.ensures.reads)
+
+pub next_in-returns-in-Some-clause-touches : goal.next_in-returns-in-Some-clause-touches
+next_in-returns-in-Some-clause-touches g t c = λ told tree.
+    let e = c.args.expect.now in
+    let old = g.P.Pages.standing c.args.pages.now in
+    let first = g.P.Pages.standing c.find.new.pages in
+    let new = g.P.Pages.standing c.next_in.new.pages in
+    let safe = rw c.in-Child.is at c.in_ok-at.ensures.safe in
+    let spot = rw c.in-Child.is at (c.in_ok-at.ensures.spot told (well_formed_top e.pages old.current e.level c.args.page e.low e.high e.root tree)) in
+    let told_on = subst IsTrue (sym c.in_ok-at.ensures.continues.told) told in
+    let same = c.in_ok-at.ensures.reads.current told in
+    let below = child_tree e old.current first.current c.args.page c.in-Child.field-0 c.in-Child.child c.in-Child.low c.in-Child.high same safe.0 tree spot in
+    reads_under c.args.page c.in-Child.field-0 c.in-Child.child c.in-Child.low c.in-Child.high e.high e.level old first new safe.0 same spot c.in_ok-at.ensures.reads
+    (rw c.child_expect-lower.ensures at (c.in_ok-row-in-Child.ensures.touches told_on) below)
+
+pub next_in-returns-in-None-clause-touches : goal.next_in-returns-in-None-clause-touches
+next_in-returns-in-None-clause-touches g t c = λ told tree.
+    let e = c.args.expect.now in
+    let old = g.P.Pages.standing c.args.pages.now in
+    let first = g.P.Pages.standing c.find.new.pages in
+    let mid = g.P.Pages.standing c.next_in.new.pages in
+    let new = g.P.Pages.standing c.next_after.new.pages in
+    let safe = rw c.in-Child.is at c.in_ok-at.ensures.safe in
+    let spot = rw c.in-Child.is at (c.in_ok-at.ensures.spot told (well_formed_top e.pages old.current e.level c.args.page e.low e.high e.root tree)) in
+    let told_on = subst IsTrue (sym c.in_ok-at.ensures.continues.told) told in
+    let told_mid = subst IsTrue (sym c.in_ok-row-in-Child.ensures.continues.told) told_on in
+    let same = c.in_ok-at.ensures.reads.current told in
+    let same_mid = c.in_ok-row-in-Child.ensures.keeps.current told_on ∙ same in
+    let below = child_tree e old.current first.current c.args.page c.in-Child.field-0 c.in-Child.child c.in-Child.low c.in-Child.high same safe.0 tree spot in
+    let lower = reads_under c.args.page c.in-Child.field-0 c.in-Child.child c.in-Child.low c.in-Child.high e.high e.level old first mid safe.0 same spot c.in_ok-at.ensures.reads
+    (rw c.child_expect-lower.ensures at (c.in_ok-row-in-Child.ensures.touches told_on) below) in
+    reads_on c.args.page e.level old mid new c.next_after.result same_mid lower
+    (c.next_after.ensures.touches told_mid (subst (λ (lines : Lines). IsTree e.pages lines e.level c.args.page e.low e.high e.root) (sym same_mid) tree))

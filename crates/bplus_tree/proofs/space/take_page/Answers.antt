@@ -1,6 +1,7 @@
 use Rattle.std.proofs.Common.{◌≢◌, Result, Ok, Err, OnOk, IsTrue, sym, subst}
 use Rattle.bplus_tree.specs.Space.{word}
 use Rattle.bplus_tree.proofs.Places.{take_answer}
+use Rattle.bplus_tree.proofs.SoundLaws.{sound_take_on}
 use Rattle.bplus_tree.proofs.space.take_page.Goals as goal
 
 always : {T E P : Type 0} (r : Result T E) → P → OnOk r P
@@ -32,3 +33,17 @@ returns-clause-moves g c = λ told.
     take_answer old.count old.current first.current new.current header c.take_free.result (c.in_ok-header.ensures.keeps.current told) (c.take_free.ensures.taken told_on) (c.take_free.ensures.current told_on)
     (c.in_ok-header.ensures.header told) c.in_ok-header.ensures.line.eight c.in_ok-header.ensures.fits
     (always c.take_free.result (λ none. absurd (c.if-header-eq0.false none)))
+
+pub returns-then-header-eq0-clause-sound : goal.returns-then-header-eq0-clause-sound
+returns-then-header-eq0-clause-sound g c = λ told fits free is_free.
+    let old = g.P.Pages.standing c.args.pages.now in
+    let first = g.P.Pages.standing c.read_header.new.pages in
+    let told_on = subst IsTrue (sym c.in_ok-header.ensures.continues.told) told in
+    sound_take_on old.count first.count old.current first.current free c.take_fresh.result told_on c.in_ok-header.ensures.continues.count (c.in_ok-header.ensures.keeps.current told) fits is_free c.take_fresh.ensures.cause
+
+pub returns-clause-sound : goal.returns-clause-sound
+returns-clause-sound g c = λ told fits free is_free.
+    let old = g.P.Pages.standing c.args.pages.now in
+    let first = g.P.Pages.standing c.read_header.new.pages in
+    let told_on = subst IsTrue (sym c.in_ok-header.ensures.continues.told) told in
+    sound_take_on old.count first.count old.current first.current free c.take_free.result told_on c.in_ok-header.ensures.continues.count (c.in_ok-header.ensures.keeps.current told) fits is_free c.take_free.ensures.cause

@@ -1,10 +1,14 @@
-use Rattle.std.proofs.Common.{◌≢◌, ◌≤◌, ◌-◌, ℕ, true, arith, refl, IsTrue, sym, subst}
-use Rattle.slotted_page.specs.declared.root.Expect.{Expect}
-use Rattle.slotted_page.specs.Rows.{row_put, last_key}
+use Rattle.std.proofs.Common.{rules, length, IfErr, ◌≢◌, ◌≤◌, ◌-◌, ℕ, arith, refl, IsTrue, sym, subst, ap, ◌∙◌}
+use Rattle.slotted_page.specs.Rows.{row_put}
+use Rattle.bplus_tree.specs.declared.path.Place.{Place}
 use Rattle.bplus_tree.specs.declared.outcome.Outcome.TheVariants.{Whole, Short, Cut, Alone}
-use Rattle.bplus_tree.specs.Edit.{Edits, IsNewRoot, StaysBelow}
+use Rattle.bplus_tree.specs.Edit.{IsNewRoot, StaysBelow}
 use Rattle.bplus_tree.specs.Moves.{Takes}
 use Rattle.bplus_tree.proofs.Storing.{root_edited, root_cut}
+use Rattle.bplus_tree.proofs.PathLaws.{at_root}
+use Rattle.bplus_tree.specs.Damage.{IsLack, pages_at_hand}
+use Rattle.bplus_tree.proofs.LackLaws.{fault_lack}
+use Rattle.bplus_tree.proofs.RootLaws.{root_stands, put_lack, take_lack}
 use Rattle.bplus_tree.proofs.tree.put_row.Goals as goal
 
 few_levels : (levels : ℕ) → levels ≤ 4 → levels - 1 ≢ 3 → levels ≤ 3
@@ -16,8 +20,7 @@ returns-in-Alone-clause-rows g c = λ told.
     let old = g.P.Pages.standing c.args.pages.now in
     let new = g.P.Pages.standing c.put_in.new.pages in
     root_edited old.count old.current new.current root (Alone c.in-Alone.child) (row_put c.args.key c.args.value.now) (λ k r e. cc) c.requires.some_levels c.requires.few_levels
-    (subst (λ n. Edits old.current new.current root.page (record { level = root.levels - 1; low = 0; high = last_key; root = true; pages = n }) (Alone c.in-Alone.child) (row_put c.args.key c.args.value.now)) c.page_count-count.ensures.count
-    (subst (λ (e : Expect). Edits old.current new.current root.page e (Alone c.in-Alone.child) (row_put c.args.key c.args.value.now)) c.root_expect-expect.ensures (rw c.in-Alone.is at (c.in_ok-put_in.ensures.edits told))))
+    (at_root old.count _ old.current new.current root c.top_of-top.result (Alone c.in-Alone.child) (row_put c.args.key c.args.value.now) c.page_count-count.ensures.count c.top_of-top.ensures (rw c.in-Alone.is at (c.in_ok-put_in.ensures.edits told)))
 
 pub returns-in-Whole-clause-rows : goal.returns-in-Whole-clause-rows
 returns-in-Whole-clause-rows g c = λ told.
@@ -25,8 +28,7 @@ returns-in-Whole-clause-rows g c = λ told.
     let old = g.P.Pages.standing c.args.pages.now in
     let new = g.P.Pages.standing c.put_in.new.pages in
     root_edited old.count old.current new.current root Whole (row_put c.args.key c.args.value.now) (λ k r e. cc) c.requires.some_levels c.requires.few_levels
-    (subst (λ n. Edits old.current new.current root.page (record { level = root.levels - 1; low = 0; high = last_key; root = true; pages = n }) Whole (row_put c.args.key c.args.value.now)) c.page_count-count.ensures.count
-    (subst (λ (e : Expect). Edits old.current new.current root.page e Whole (row_put c.args.key c.args.value.now)) c.root_expect-expect.ensures (rw c.in-Whole.is at (c.in_ok-put_in.ensures.edits told))))
+    (at_root old.count _ old.current new.current root c.top_of-top.result Whole (row_put c.args.key c.args.value.now) c.page_count-count.ensures.count c.top_of-top.ensures (rw c.in-Whole.is at (c.in_ok-put_in.ensures.edits told)))
 
 pub returns-in-Short-clause-rows : goal.returns-in-Short-clause-rows
 returns-in-Short-clause-rows g c = λ told.
@@ -34,8 +36,7 @@ returns-in-Short-clause-rows g c = λ told.
     let old = g.P.Pages.standing c.args.pages.now in
     let new = g.P.Pages.standing c.put_in.new.pages in
     root_edited old.count old.current new.current root Short (row_put c.args.key c.args.value.now) (λ k r e. cc) c.requires.some_levels c.requires.few_levels
-    (subst (λ n. Edits old.current new.current root.page (record { level = root.levels - 1; low = 0; high = last_key; root = true; pages = n }) Short (row_put c.args.key c.args.value.now)) c.page_count-count.ensures.count
-    (subst (λ (e : Expect). Edits old.current new.current root.page e Short (row_put c.args.key c.args.value.now)) c.root_expect-expect.ensures (rw c.in-Short.is at (c.in_ok-put_in.ensures.edits told))))
+    (at_root old.count _ old.current new.current root c.top_of-top.result Short (row_put c.args.key c.args.value.now) c.page_count-count.ensures.count c.top_of-top.ensures (rw c.in-Short.is at (c.in_ok-put_in.ensures.edits told)))
 
 pub returns-in_ok-write_new-in-Cut-clause-rows : goal.returns-in_ok-write_new-in-Cut-clause-rows
 returns-in_ok-write_new-in-Cut-clause-rows g c = λ told.
@@ -46,12 +47,45 @@ returns-in_ok-write_new-in-Cut-clause-rows g c = λ told.
     let new = g.P.Pages.standing c.write_new.new.pages in
     let step = row_put c.args.key c.args.value.now in
     let told_mid = subst IsTrue (sym c.in_ok-put_in.ensures.continues.told) told in
-    let told_a = subst IsTrue (sym c.in_ok-top-in-Cut.ensures.continues.told) told_mid in
-    let stays = subst (λ (e : Expect). StaysBelow e (Cut c.in-Cut.separator c.in-Cut.right)) c.root_expect-expect.ensures (rw c.in-Cut.is at c.in_ok-put_in.ensures.below) in
-    root_cut old.count old.current mid.current a.current new.current root c.in_ok-top-in-Cut.top c.in-Cut.separator c.in-Cut.right c.root_of.new.page step c.requires.some_levels
+    let told_a = subst IsTrue (sym c.in_ok-page-in-Cut.ensures.continues.told) told_mid in
+    let stays = subst (λ (p : Place). StaysBelow p.expect (Cut c.in-Cut.separator c.in-Cut.right)) c.top_of-top.ensures (rw c.in-Cut.is at c.in_ok-put_in.ensures.below) in
+    root_cut old.count old.current mid.current a.current new.current root c.in_ok-page-in-Cut.page c.in-Cut.separator c.in-Cut.right c.root_of.new.page step c.requires.some_levels
     (few_levels root.levels c.requires.few_levels (stays refl))
-    (subst (λ n. Edits old.current mid.current root.page (record { level = root.levels - 1; low = 0; high = last_key; root = true; pages = n }) (Cut c.in-Cut.separator c.in-Cut.right) step) c.page_count-count.ensures.count
-    (subst (λ (e : Expect). Edits old.current mid.current root.page e (Cut c.in-Cut.separator c.in-Cut.right) step) c.root_expect-expect.ensures (rw c.in-Cut.is at (c.in_ok-put_in.ensures.edits told))))
-    (subst (λ n. Takes n mid.current a.current c.in_ok-top-in-Cut.top) c.in_ok-put_in.ensures.continues.count (c.in_ok-top-in-Cut.ensures.moves told_mid))
+    (at_root old.count _ old.current mid.current root c.top_of-top.result (Cut c.in-Cut.separator c.in-Cut.right) step c.page_count-count.ensures.count c.top_of-top.ensures (rw c.in-Cut.is at (c.in_ok-put_in.ensures.edits told)))
+    (subst (λ n. Takes n mid.current a.current c.in_ok-page-in-Cut.page) c.in_ok-put_in.ensures.continues.count (c.in_ok-page-in-Cut.ensures.moves told_mid))
     (c.in_ok-write_new-in-Cut.ensures.writes told_a)
     (subst (λ n. IsNewRoot c.root_of.new.page root.levels root.page c.in-Cut.separator c.in-Cut.right n) c.page_count-count.ensures.count c.root_of.ensures)
+
+pub returns-in_err-put_in-clause-sound : goal.returns-in_err-put_in-clause-sound
+returns-in_err-put_in-clause-sound g c = λ told rows used free stands.
+    let old = g.P.Pages.standing c.args.pages.now in
+    let root = c.args.root.now in
+    let lack = IsLack (pages_at_hand old.count old.current used free) (length (row_put c.args.key c.args.value.now rows)) (length rows) in
+    let at = root_stands old.count _ old.current root c.top_of-top.result rows used free c.page_count-count.ensures.count c.top_of-top.ensures stands in
+    let h : IfErr c.put_in.result lack =
+    put_lack old.count _ old.current root c.top_of-top.result rows used free c.args.key c.args.value.now c.put_in.result c.page_count-count.ensures.count c.top_of-top.ensures stands (c.put_in.ensures.sound told free at stands.header) in
+    let k = subst (λ r. IfErr r lack) c.in_err-put_in.was h in
+    search (rules, k)
+
+pub returns-in_err-page-in-Cut-clause-sound : goal.returns-in_err-page-in-Cut-clause-sound
+returns-in_err-page-in-Cut-clause-sound g c = λ told rows used free stands.
+    let old = g.P.Pages.standing c.args.pages.now in
+    let mid = g.P.Pages.standing c.put_in.new.pages in
+    let root = c.args.root.now in
+    let lack = IsLack (pages_at_hand old.count old.current used free) (length (row_put c.args.key c.args.value.now rows)) (length rows) in
+    let below = c.in_ok-put_in.ensures in
+    let told_mid = subst IsTrue (sym below.continues.told) told in
+    let h : IfErr c.take.result lack =
+    take_lack old.count _ mid.count old.current mid.current root c.top_of-top.result rows used free c.args.key c.args.value.now c.in-Cut.separator c.in-Cut.right c.take.result c.page_count-count.ensures.count c.top_of-top.ensures below.continues.count
+    stands (rw c.in-Cut.is at (below.edits told)) (rw c.in-Cut.is at (below.takes told)) (c.take.ensures.sound told_mid) in
+    let k = subst (λ r. IfErr r lack) c.in_err-page-in-Cut.was h in
+    search (rules, k)
+
+pub returns-in_err-write_new-in-Cut-clause-sound : goal.returns-in_err-write_new-in-Cut-clause-sound
+returns-in_err-write_new-in-Cut-clause-sound g c = λ told rows used free stands.
+    let old = g.P.Pages.standing c.args.pages.now in
+    let lack = IsLack (pages_at_hand old.count old.current used free) (length (row_put c.args.key c.args.value.now rows)) (length rows) in
+    let h : IfErr c.write_new.result lack =
+    fault_lack (pages_at_hand old.count old.current used free) (length (row_put c.args.key c.args.value.now rows)) (length rows) c.write_new.result c.write_new.ensures.sound in
+    let k = subst (λ r. IfErr r lack) c.in_err-write_new-in-Cut.was h in
+    search (rules, k)

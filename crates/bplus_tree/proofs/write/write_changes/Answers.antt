@@ -1,8 +1,9 @@
 use Rattle.std.proofs.Common.{◌≡◌, ℕ, ◌+◌, ◌-◌, ◌≤◌, inl, Bool, true, false, IsTrue, arith, refl, ap, sym, subst, ◌∙◌, cond}
 use Rattle.std.specs.Str.{bytes_eq}
 use Rattle.line_pages.proofs.StandingLaws.{Continues-refl, Continues-trans}
-use Rattle.bplus_tree.specs.Written.{line_part, changed_in}
+use Rattle.bplus_tree.specs.Written.{Differs, line_part, changed_in}
 use Rattle.bplus_tree.proofs.WrittenLaws.{changed_all, changed_at, changed_none, visited_on, visited_one, writing_start, writing_step, writing_end}
+use Rattle.bplus_tree.proofs.TouchedLaws.{only_refl, only_then}
 use Rattle.bplus_tree.proofs.write.write_changes.Goals as goal
 
 pub loop-line-init : goal.loop-line-init
@@ -13,6 +14,7 @@ loop-line-init g c =
       steady = λ s. s;
       continues = Continues-refl (g.P.Pages.may_leave c.args.pages.now) (g.P.Pages.is_steady c.args.pages.now) old;
       visited = inl (refl, refl);
+      touched = only_refl c.args.page (Differs c.args.old.now c.args.new.now) old;
       nvm_kept = refl;
       ssd_kept = refl;
       room = ap (λ (n : ℕ). old.room + n) (changed_all c.args.old.now c.args.new.now);
@@ -42,6 +44,7 @@ loop-line-preserved g c =
       steady = λ steady. step.steady (before.steady steady);
       continues = Continues-trans before.continues before.steady step.continues;
       visited = visited_on c.args.page old mid new before.visited step.visited step.again;
+      touched = only_then c.args.page (Differs c.args.old.now c.args.new.now) before.touched step.touches;
       nvm_kept = step.cause.kept.0 ∙ before.nvm_kept;
       ssd_kept = step.cause.kept.1 ∙ before.ssd_kept;
       room = omega (arith, before.room, step.room, changed_at c.args.old.now c.args.new.now l c.loop-line-test.true);

@@ -2,7 +2,7 @@
 use Rattle.std.proofs.Common.{◌≡◌, ◌+◌, ◌-◌, length, IsTrue}
 use Rattle.line_pages.specs.Bytes.{bytes_of}
 use Rattle.line_pages.specs.Standing.{Continues}
-use Rattle.bplus_tree.specs.Written.{Visited, changed_in, lines_changed}
+use Rattle.bplus_tree.specs.Written.{Visited, Differs, WritesOnly, changed_in, lines_changed}
 use Rattle.bplus_tree.proofs.WrittenLaws.{Writing}
 use Rattle.bplus_tree.proofs.write.write_changes.Given as goal
 
@@ -12,6 +12,7 @@ invariant-loop-line g l = record {
   steady : g.P.Pages.is_steady l.fn.pages → g.P.Pages.is_steady l.pages;
   continues : Continues (g.P.Pages.may_leave l.fn.pages) (g.P.Pages.may_leave l.pages) (g.P.Pages.is_steady l.fn.pages) (g.P.Pages.standing l.fn.pages) (g.P.Pages.standing l.pages);
   visited : Visited l.page (g.P.Pages.standing l.fn.pages) (g.P.Pages.standing l.pages);
+  touched : WritesOnly l.page (Differs l.old l.new) (g.P.Pages.standing l.fn.pages) (g.P.Pages.standing l.pages);
   nvm_kept : (g.P.Pages.standing l.pages).nvm_faults ≡ (g.P.Pages.standing l.fn.pages).nvm_faults;
   ssd_kept : (g.P.Pages.standing l.pages).ssd_faults ≡ (g.P.Pages.standing l.fn.pages).ssd_faults;
   room : (g.P.Pages.standing l.pages).room + lines_changed l.old l.new ≡ (g.P.Pages.standing l.fn.pages).room + changed_in l.old l.new l.line (64 - l.line);

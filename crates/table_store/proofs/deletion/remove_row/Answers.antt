@@ -1,7 +1,10 @@
-use Rattle.std.proofs.Common.{IsTrue, sym, subst, arith}
-use Rattle.slotted_page.specs.Rows.{row_delete}
+use Rattle.std.proofs.Common.{◌≡◌, ◌+◌, ℕ, Result, OnOk, IfErr, IsTrue, rules, sym, subst, arith}
+use Rattle.line_pages.specs.declared.stop.Stop.{Stop}
 use Rattle.line_pages.proofs.StandingLaws.{Continues-trans}
-use Rattle.table_store.proofs.RowsLaws.{stepped_by, rows_deleted}
+use Rattle.slotted_page.specs.Rows.{row_delete}
+use Rattle.bplus_tree.specs.Damage.{IsFault}
+use Rattle.table_store.specs.Catalog.{entry_in, entry_rows, entry_pages}
+use Rattle.table_store.proofs.RowsLaws.{stands_in, stepped_by, rows_deleted, counted_by}
 use Rattle.table_store.proofs.deletion.remove_row.Goals as goal
 
 pub returns-clause-changed : goal.returns-clause-changed
@@ -17,3 +20,20 @@ returns-clause-changed g c = λ told name store is found.
 
 pub returns-clause-continues : goal.returns-clause-continues
 returns-clause-continues g c = Continues-trans c.in_ok-delete_row.ensures.continues c.in_ok-delete_row.ensures.steady c.write_place.ensures.continues
+
+pub returns-clause-counted : goal.returns-clause-counted
+returns-clause-counted g c = λ told.
+    let place = c.args.place.now in
+    let mid = g.P.Pages.standing c.delete_row.new.pages in
+    let new = g.P.Pages.standing c.write_place.new.pages in
+    subst (λ (n : ℕ). OnOk c.write_place.result ((entry_in (new.current 0 (2 + place.at))).rows ≡ n)) c.saturating_sub-rows.ensures
+    (counted_by mid.current new.current place c.delete_row.new.root c.saturating_sub-rows.result c.write_place.result (c.write_place.ensures.after (subst IsTrue (sym c.in_ok-delete_row.ensures.continues.told) told)))
+
+pub returns-in_err-delete_row-clause-sound : goal.returns-in_err-delete_row-clause-sound
+returns-in_err-delete_row-clause-sound g c = λ told name store is.
+    let old = g.P.Pages.standing c.args.pages.now in
+    let place = c.args.place.now in
+    let stops = rw c.root_of-root.ensures at (c.delete_row.ensures.sound told) in
+    let fault : IfErr c.delete_row.result IsFault = stops (entry_rows old.current place.entry) (entry_pages old.current place.entry) store.free (stands_in c.args.limits.now old.count old.current store name place is c.requires.fits) in
+    let here : IsFault c.in_err-delete_row.field-0.0 = subst (λ (r : Result (Unit {0}) Stop). IfErr r IsFault) c.in_err-delete_row.was fault in
+    search (rules, here)

@@ -4,6 +4,7 @@ use Rattle.table_store.specs.Stored.{is_known}
 use Rattle.table_store.specs.Scanning.{next_of, is_no_table}
 use Rattle.table_store.proofs.CreateLaws.{unknown_by, present_is}
 use Rattle.table_store.proofs.LookupLaws.{known_some, named_none, answer_in, sound_in}
+use Rattle.table_store.proofs.ScanLaws.{scan_none, scan_some}
 use Rattle.table_store.proofs.scan.scan_next.Goals as goal
 
 pub returns-in-None-clause-row : goal.returns-in-None-clause-row
@@ -37,3 +38,16 @@ returns-in-Some-clause-sound g c = λ told.
     sound_in c.args.limits.now old.count now.count old.current now.current c.args.name.now c.in-Some.place c.next_in.result found.continues.count (found.reads.current told)
     (sym (found.place told) ∙ c.in-Some.is) (rw c.in-Some.is at found.fits).entry
     (rw c.root_of-root.ensures at (c.next_in.ensures.sound (subst IsTrue (sym found.continues.told) told)))
+
+pub returns-in-None-clause-touches : goal.returns-in-None-clause-touches
+returns-in-None-clause-touches g c = λ told closed store.
+    scan_none c.args.name.now (g.P.Pages.standing c.args.pages.now) (g.P.Pages.standing c.find_entry.new.pages) closed c.in_ok-find_entry.ensures.reads
+
+pub returns-in-Some-clause-touches : goal.returns-in-Some-clause-touches
+returns-in-Some-clause-touches g c = λ told closed.
+    let old = g.P.Pages.standing c.args.pages.now in
+    let now = g.P.Pages.standing c.find_entry.new.pages in
+    let found = c.in_ok-find_entry.ensures in
+    scan_some c.args.limits.now c.args.name.now c.in-Some.place old now (g.P.Pages.standing c.next_in.new.pages) c.next_in.result
+    (sym (found.place told) ∙ c.in-Some.is) (rw c.in-Some.is at found.fits).entry closed found.continues.count (found.reads.current told) found.reads
+    (rw c.root_of-root.ensures at (c.next_in.ensures.touches (subst IsTrue (sym found.continues.told) told)))

@@ -1,9 +1,10 @@
-use Rattle.std.proofs.Common.{◌≡◌, ◌+◌, ◌≤◌, ℕ, List, Some, Bool, false, is_some, IsTrue, OnOk, sym, subst, ◌∙◌, arith}
-use Rattle.line_pages.specs.Lines.{Lines}
+use Rattle.std.proofs.Common.{◌≡◌, ◌+◌, ◌*◌, ◌/◌, Result, IfErr, rules, ◌≤◌, ℕ, List, Some, Bool, is_some, IsTrue, sym, subst, ◌∙◌, arith}
 use Rattle.slotted_page.specs.Rows.{row_get, row_put}
-use Rattle.table_store.specs.Catalog.{entries, place_of, entry_rows}
+use Rattle.table_store.specs.Catalog.{entries, place_of, entry_rows, entry_pages}
 use Rattle.table_store.specs.Stored.{IsStore}
 use Rattle.table_store.specs.Changed.{ChangesTable}
+use Rattle.line_pages.specs.declared.stop.Stop.{Stop}
+use Rattle.bplus_tree.specs.Damage.{IsFault}
 use Rattle.table_store.proofs.RowsLaws.{place_rooted, as_before, is_full, is_stored}
 use Rattle.table_store.proofs.storing.put_at.Goals.{else-not-found-via-then-not-found+else-place-limits, else-not-found-via-else-not-found}
 use Rattle.table_store.proofs.storing.put_at.Goals as goal
@@ -34,6 +35,30 @@ returns-clause-changed g c = λ told name store is.
     let found = c.in_ok-found.ensures in
     let tree = place_rooted c.args.limits.now old.count old.current store name place is c.requires.fits in
     as_before (λ n all. (name : List ℕ) → IsStore c.args.limits.now n all → place_of name 0 (entries all) ≡ Some place → c.in_ok-found.found ≡ is_some (row_get c.args.key (entry_rows all place.entry))
-        → ChangesTable c.args.limits.now n all (g.P.Pages.standing c.store_row.new.pages).current name (row_put c.args.key c.args.value.now))
+    → ChangesTable c.args.limits.now n all (g.P.Pages.standing c.store_row.new.pages).current name (row_put c.args.key c.args.value.now))
     old.count now.count old.current now.current found.continues.count (found.keeps.current told) (c.in_ok-store_row.ensures.changed (subst IsTrue (sym found.continues.told) told)) name store is
     (found.found told (entry_rows old.current place.entry) _ tree)
+
+pub returns-in_err-found-clause-sound : goal.returns-in_err-found-clause-sound
+returns-in_err-found-clause-sound g c = λ told name store is enough.
+    let old = g.P.Pages.standing c.args.pages.now in
+    let place = c.args.place.now in
+    let tree = place_rooted c.args.limits.now old.count old.current store name place is c.requires.fits in
+    let fault : IfErr c.has_row.result IsFault = c.has_row.ensures.sound told (entry_rows old.current place.entry) (entry_pages old.current place.entry) tree in
+    let here : IsFault c.in_err-found.field-0.0 = subst (λ (r : Result Bool Stop). IfErr r IsFault) c.in_err-found.was fault in
+    search (rules, here)
+
+pub returns-in_err-store_row-clause-sound : goal.returns-in_err-store_row-clause-sound
+returns-in_err-store_row-clause-sound g c = λ told name store is enough.
+    let old = g.P.Pages.standing c.args.pages.now in
+    let now = g.P.Pages.standing c.has_row.new.pages in
+    let place = c.args.place.now in
+    let found = c.in_ok-found.ensures in
+    let tree = place_rooted c.args.limits.now old.count old.current store name place is c.requires.fits in
+    let fault : IfErr c.store_row.result IsFault =
+    as_before (λ n all. (name : List ℕ) → IsStore c.args.limits.now n all → place_of name 0 (entries all) ≡ Some place → c.in_ok-found.found ≡ is_some (row_get c.args.key (entry_rows all place.entry))
+    → 1 + c.args.limits.now.tables * (c.args.limits.now.rows / 2 + 8) ≤ n → IfErr c.store_row.result IsFault)
+    old.count now.count old.current now.current found.continues.count (found.keeps.current told) (c.store_row.ensures.sound (subst IsTrue (sym found.continues.told) told)) name store is
+    (found.found told (entry_rows old.current place.entry) (entry_pages old.current place.entry) tree) enough in
+    let here : IsFault c.in_err-store_row.field-0.0 = subst (λ (r : Result (Unit {0}) Stop). IfErr r IsFault) c.in_err-store_row.was fault in
+    search (rules, here)

@@ -1,7 +1,9 @@
-use Rattle.std.proofs.Common.{IsTrue, sym, subst, ◌∙◌}
+use Rattle.std.proofs.Common.{◌+◌, ◌≤◌, cond, Result, IsTrue, IfErr, refl, sym, subst, rules}
+use Rattle.line_pages.specs.declared.stop.Stop.{Stop}
+use Rattle.bplus_tree.specs.Damage.{IsFault}
 use Rattle.slotted_page.specs.Rows.{row_put}
 use Rattle.line_pages.proofs.StandingLaws.{Continues-trans}
-use Rattle.table_store.proofs.RowsLaws.{stepped_by, rows_put, few_after}
+use Rattle.table_store.proofs.RowsLaws.{stepped_by, rows_put, few_after, sound_put}
 use Rattle.table_store.proofs.storing.store_row.Goals as goal
 
 pub returns-clause-changed : goal.returns-clause-changed
@@ -17,3 +19,16 @@ returns-clause-changed g c = λ told name store is found.
 
 pub returns-clause-continues : goal.returns-clause-continues
 returns-clause-continues g c = Continues-trans c.in_ok-put_row.ensures.continues c.in_ok-put_row.ensures.steady c.write_place.ensures.continues
+
+pub returns-in_err-put_row-clause-sound : goal.returns-in_err-put_row-clause-sound
+returns-in_err-put_row-clause-sound g c = λ told name store is found enough.
+    let old = g.P.Pages.standing c.args.pages.now in
+    let place = c.args.place.now in
+    let after = cond c.args.found place.entry.rows (place.entry.rows + 1) in
+    let stops = rw (c.root_of-root.ensures, c.bytes.ensures.value) at (c.put_row.ensures.sound told) in
+    let most : c.args.limits.now.rows ≤ 1000000 = search rules in
+    let fault : IfErr c.put_row.result IsFault =
+    sound_put c.args.limits.now old.count old.current name place c.args.key c.args.value.now c.args.found after c.put_row.result c.requires.fits most stops store is found refl
+    (few_after c.args.limits.now.rows after place.entry.rows c.args.found refl c.requires.fits.entry.rows c.requires.left) enough in
+    let here : IsFault c.in_err-put_row.field-0.0 = subst (λ (r : Result (Unit {0}) Stop). IfErr r IsFault) c.in_err-put_row.was fault in
+    search (rules, here)

@@ -1,0 +1,28 @@
+use Rattle.std.proofs.Common.{rules, ℕ, length, IfErr, IsTrue, sym, subst}
+use Rattle.line_pages.specs.Lines.{Lines}
+use Rattle.slotted_page.specs.Rows.{row_put}
+use Rattle.bplus_tree.specs.Damage.{IsLack, IsFault, pages_at_hand}
+use Rattle.bplus_tree.proofs.LackLaws.{fault_lack}
+use Rattle.bplus_tree.proofs.RootLaws.{stands_on}
+use Rattle.bplus_tree.proofs.tree.put.Goals as goal
+
+pub returns-in_err-found-clause-sound : goal.returns-in_err-found-clause-sound
+returns-in_err-found-clause-sound g c = λ told rows used free stands.
+    let old = g.P.Pages.standing c.args.pages.now in
+    let lack = IsLack (pages_at_hand old.count old.current used free) (length (row_put c.args.key c.args.value.now rows)) (length rows) in
+    let h : IfErr c.has_key.result lack =
+    fault_lack (pages_at_hand old.count old.current used free) (length (row_put c.args.key c.args.value.now rows)) (length rows) c.has_key.result (c.has_key.ensures.sound told rows used stands.rooted) in
+    let k = subst (λ r. IfErr r lack) c.in_err-found.was h in
+    search (rules, k)
+
+pub returns-in_err-put_row-clause-sound : goal.returns-in_err-put_row-clause-sound
+returns-in_err-put_row-clause-sound g c = λ told rows used free stands.
+    let old = g.P.Pages.standing c.args.pages.now in
+    let mid = g.P.Pages.standing c.has_key.new.pages in
+    let first = c.in_ok-found.ensures in
+    let lack = IsLack (pages_at_hand old.count old.current used free) (length (row_put c.args.key c.args.value.now rows)) (length rows) in
+    let at_mid = c.put_row.ensures.sound (subst IsTrue (sym first.continues.told) told) rows used free
+    (stands_on old.count mid.count old.current mid.current c.args.root.now rows used free first.continues.count (first.keeps.current told) stands) in
+    let h : IfErr c.put_row.result lack = search (rules, at_mid) in
+    let k = subst (λ r. IfErr r lack) c.in_err-put_row.was h in
+    search (rules, k)

@@ -1,0 +1,216 @@
+//! Changes of a tree: down to the leaf of a key, and up again along the path.
+ghost use Rattle.std.specs.Prelude.{◌≡◌, ◌≢◌, ◌+◌, ◌*◌, ◌<◌, ◌≤◌, ℕ, List, [], length, true, IsTrue, OnOk, IfOk, IfErr};
+ghost use Rattle.std.specs.List.{list_all};
+ghost use Rattle.line_pages.specs.Standing.{Continues, HasCause, KeepsLines};
+ghost use Rattle.slotted_page.specs.Rows.{row_put, row_delete};
+ghost use Rattle.slotted_page.specs.Node.{is_printable};
+ghost use Rattle.bplus_tree.specs.Space.{FitsHeader};
+ghost use Rattle.bplus_tree.specs.Tree.{tree_rows};
+ghost use Rattle.bplus_tree.specs.Damage.{IsTreeDamage, IsFault, StopsFor, spare_pages};
+ghost use Rattle.bplus_tree.specs.Edit.{Edits, IsSafe, IsSpent, StaysBelow};
+ghost use Rattle.bplus_tree.specs.Path.{IsPlace, Leads, MayFollow, Settles, StandsAbove, StandsAt, StopsAbove, TakesFor, room_above, root_place};
+
+use crate::access::look;
+use crate::change::{add_child, delete_leaf, mend, put_leaf};
+use crate::outcome::Outcome;
+use crate::root::{Root, child_expect, root_expect};
+use arrayvec::ArrayVec;
+use line_pages::{Pages, Stop};
+use slotted_page::{Expect, Spot, Work};
+
+/// A page of a tree, and what is expected of it.
+#[derive(Clone, Copy, Debug, PartialEq, Eq)]
+pub(crate) struct Place {
+    pub page: u64,
+    pub expect: Expect,
+}
+
+/// An inner page on the way down to a key, and the first key of the child that the way went on to.
+#[derive(Clone, Copy, Debug, PartialEq, Eq)]
+pub(crate) struct Passed {
+    pub place: Place,
+    pub low: u64,
+}
+
+impl Default for Passed {
+    ghost is_default = { λ passed. passed.low ≡ 0 };
+
+    fn default() -> Passed {
+        Passed {
+            place: Place {
+                page: 0,
+                expect: Expect {
+                    level: 0,
+                    low: 0,
+                    high: 0,
+                    root: false,
+                    pages: 0,
+                },
+            },
+            low: 0,
+        }
+    }
+}
+
+/// The inner pages on the way down to a key, the root first. A tree has at most three levels of them.
+type Path = ArrayVec<Passed, 3>;
+
+/// The place of a root.
+pub fn top_of(root: &Root, count: u64) -> Place
+    requires { 1 ≤ root.now.levels }
+    ensures { result ≡ root_place root.now count }
+{
+    Place {
+        page: root.page,
+        expect: root_expect(root, count),
+    }
+}
+
+/// Goes down to the leaf of a key, and keeps the path.
+fn descend<P: Pages>(
+    pages: &mut P,
+    top: Place,
+    key: u64,
+    path: &mut Path,
+    work: &mut Work,
+) -> Result<Place, Stop>
+    requires ready { P.is_ready pages.old }
+    requires top { IsPlace (P.standing pages.old).count top }
+    requires few_levels { top.expect.level ≤ 3 }
+    requires above { top.expect.low ≤ key }
+    requires within { key ≤ top.expect.high }
+    requires empty { path.old.items ≡ [] }
+    ensures place { IfOk result (IsPlace (P.standing pages.old).count) }
+    ensures level { IfOk result (λ leaf. leaf.expect.level ≡ 0) }
+    ensures above { IfOk result (λ leaf. leaf.expect.low ≤ key) }
+    ensures within { IfOk result (λ leaf. key ≤ leaf.expect.high) }
+    ensures leads { IfOk result (Leads (P.standing pages.old).told (P.standing pages.old).current (P.standing pages.old).count key top path.new.items) }
+    ensures keeps { OnOk result (KeepsLines (P.standing pages.old) (P.standing pages.new)) }
+    ensures sound { IsTrue (P.standing pages.old).told → (free : List ℕ) → StandsAt (P.standing pages.old).current top.page top.expect free → IfErr result IsFault }
+    ensures cause { HasCause (IsTreeDamage (P.standing pages.old).told (P.standing pages.old).count work.new.page) (P.standing pages.old) (P.standing pages.new) result }
+    ensures continues { Continues (P.may_leave pages.old) (P.may_leave pages.new) (P.is_steady pages.old) (P.standing pages.old) (P.standing pages.new) }
+    ensures few { (P.standing pages.new).visits ≤ (P.standing pages.old).visits + top.expect.level + 1 }
+    ensures ready { OnOk result (P.is_ready pages.new) }
+    ensures steady { P.is_steady pages.old → OnOk result (P.is_steady pages.new) }
+{
+    let mut place = top;
+    loop {
+        match look(pages, place.page, &place.expect, key, work)? {
+            Spot::Child(_, child, low, high) => {
+                path.push(Passed { place, low });
+                let expect = child_expect(&place.expect, low, high);
+                place = Place {
+                    page: child,
+                    expect,
+                };
+            }
+            _ => return Ok(place),
+        }
+    }
+}
+
+/// What stands for an inner page after its child was changed: it has one more child, is mended, or is as it was.
+fn settle<P: Pages>(
+    pages: &mut P,
+    passed: &Passed,
+    child: Outcome,
+    work: &mut Work,
+) -> Result<Outcome, Stop>
+    requires ready { P.is_ready pages.old }
+    requires place { IsPlace (P.standing pages.old).count passed.now.place }
+    requires level { 1 ≤ passed.now.place.expect.level }
+    requires safe { IsSafe (P.standing pages.old).count passed.now.place.expect child }
+    requires room { room_above child ≤ (P.standing pages.old).room }
+    ensures safe { IfOk result (IsSafe (P.standing pages.old).count passed.now.place.expect) }
+    ensures below { IfOk result (StaysBelow passed.now.place.expect) }
+    ensures settles { IsTrue (P.standing pages.old).told → IfOk result (Settles (P.standing pages.old).current (P.standing pages.new).current passed.now child) }
+    ensures follows { IfOk result (MayFollow child) }
+    ensures room { OnOk result ((P.standing pages.old).room ≤ (P.standing pages.new).room + room_above child) }
+    ensures sound { IsTrue (P.standing pages.old).told → (free : List ℕ) → StandsAbove (P.standing pages.old).current passed.now child free → FitsHeader (P.standing pages.old).count ((P.standing pages.old).current 0 0) → IfErr result (StopsAbove (P.standing pages.old).count (P.standing pages.old).current passed.now child free) }
+    ensures cause { HasCause (IsTreeDamage (P.standing pages.old).told (P.standing pages.old).count work.new.page) (P.standing pages.old) (P.standing pages.new) result }
+    ensures continues { Continues (P.may_leave pages.old) (P.may_leave pages.new) (P.is_steady pages.old) (P.standing pages.old) (P.standing pages.new) }
+    ensures few { (P.standing pages.new).visits ≤ (P.standing pages.old).visits + 13 }
+    ensures ready { OnOk result (P.is_ready pages.new) }
+    ensures steady { P.is_steady pages.old → OnOk result (P.is_steady pages.new) }
+{
+    let place = &passed.place;
+    match child {
+        Outcome::Short => mend(pages, place.page, &place.expect, passed.low, work),
+        Outcome::Cut(separator, right) => {
+            add_child(pages, place.page, &place.expect, separator, right, work)
+        }
+        Outcome::Whole => Ok(Outcome::Whole),
+        Outcome::Alone(_) => Ok(Outcome::Whole),
+    }
+}
+
+/// A put into the tree under a page.
+pub fn put_in<P: Pages>(
+    pages: &mut P,
+    top: Place,
+    key: u64,
+    value: &[u8],
+    work: &mut Work,
+) -> Result<Outcome, Stop>
+    requires ready { P.is_ready pages.old }
+    requires top { IsPlace (P.standing pages.old).count top }
+    requires few_levels { top.expect.level ≤ 3 }
+    requires above { top.expect.low ≤ key }
+    requires within { key ≤ top.expect.high }
+    requires size { length value.now ≤ 480 }
+    requires printable { list_all is_printable value.now ≡ true }
+    requires cut_room { 129 * top.expect.level + 129 ≤ (P.standing pages.old).room }
+    requires join_room { 189 * top.expect.level + 33 ≤ (P.standing pages.old).room }
+    ensures safe { IfOk result (IsSafe (P.standing pages.old).count top.expect) }
+    ensures below { IfOk result (StaysBelow top.expect) }
+    ensures edits { IsTrue (P.standing pages.old).told → IfOk result (λ outcome. Edits (P.standing pages.old).current (P.standing pages.new).current top.page top.expect outcome (row_put key value.now)) }
+    ensures room { IfOk result (IsSpent top.expect.level (P.standing pages.old).room (P.standing pages.new).room) }
+    ensures takes { IsTrue (P.standing pages.old).told → IfOk result (TakesFor (P.standing pages.old).count (P.standing pages.old).current (P.standing pages.new).current top.page top.expect) }
+    ensures sound { IsTrue (P.standing pages.old).told → (free : List ℕ) → StandsAt (P.standing pages.old).current top.page top.expect free → FitsHeader (P.standing pages.old).count ((P.standing pages.old).current 0 0) → IfErr result (StopsFor (spare_pages (P.standing pages.old).count (P.standing pages.old).current free ≤ top.expect.level) (1000000 < length (tree_rows (P.standing pages.old).current top.expect.level top.page))) }
+    ensures cause { HasCause (IsTreeDamage (P.standing pages.old).told (P.standing pages.old).count work.new.page) (P.standing pages.old) (P.standing pages.new) result }
+    ensures continues { Continues (P.may_leave pages.old) (P.may_leave pages.new) (P.is_steady pages.old) (P.standing pages.old) (P.standing pages.new) }
+    ensures few { (P.standing pages.new).visits ≤ (P.standing pages.old).visits + 14 * top.expect.level + 10 }
+    ensures ready { OnOk result (P.is_ready pages.new) }
+    ensures steady { P.is_steady pages.old → OnOk result (P.is_steady pages.new) }
+{
+    let mut path = ArrayVec::new();
+    let leaf = descend(pages, top, key, &mut path, work)?;
+    let mut outcome = put_leaf(pages, leaf.page, &leaf.expect, key, value, work)?;
+    while let Some(passed) = path.pop() {
+        outcome = settle(pages, &passed, outcome, work)?;
+    }
+    Ok(outcome)
+}
+
+/// A delete in the tree under a page.
+pub fn delete_in<P: Pages>(
+    pages: &mut P,
+    top: Place,
+    key: u64,
+    work: &mut Work,
+) -> Result<Outcome, Stop>
+    requires ready { P.is_ready pages.old }
+    requires top { IsPlace (P.standing pages.old).count top }
+    requires few_levels { top.expect.level ≤ 3 }
+    requires above { top.expect.low ≤ key }
+    requires within { key ≤ top.expect.high }
+    requires room { 189 * top.expect.level + 33 ≤ (P.standing pages.old).room }
+    ensures safe { IfOk result (IsSafe (P.standing pages.old).count top.expect) }
+    ensures edits { IsTrue (P.standing pages.old).told → IfOk result (λ outcome. Edits (P.standing pages.old).current (P.standing pages.new).current top.page top.expect outcome (row_delete key)) }
+    ensures uncut { IfOk result (λ outcome. (k r : ℕ) → outcome ≢ Outcome.Cut k r) }
+    ensures room { IfOk result (IsSpent top.expect.level (P.standing pages.old).room (P.standing pages.new).room) }
+    ensures sound { IsTrue (P.standing pages.old).told → (free : List ℕ) → StandsAt (P.standing pages.old).current top.page top.expect free → FitsHeader (P.standing pages.old).count ((P.standing pages.old).current 0 0) → IfErr result IsFault }
+    ensures cause { HasCause (IsTreeDamage (P.standing pages.old).told (P.standing pages.old).count work.new.page) (P.standing pages.old) (P.standing pages.new) result }
+    ensures continues { Continues (P.may_leave pages.old) (P.may_leave pages.new) (P.is_steady pages.old) (P.standing pages.old) (P.standing pages.new) }
+    ensures few { (P.standing pages.new).visits ≤ (P.standing pages.old).visits + 14 * top.expect.level + 10 }
+    ensures ready { OnOk result (P.is_ready pages.new) }
+    ensures steady { P.is_steady pages.old → OnOk result (P.is_steady pages.new) }
+{
+    let mut path = ArrayVec::new();
+    let leaf = descend(pages, top, key, &mut path, work)?;
+    let mut outcome = delete_leaf(pages, leaf.page, &leaf.expect, key, work)?;
+    while let Some(passed) = path.pop() {
+        outcome = settle(pages, &passed, outcome, work)?;
+    }
+    Ok(outcome)
+}
