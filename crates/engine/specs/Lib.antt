@@ -3,3 +3,5 @@ pub mod Engine
 pub mod Steps
 pub mod Commands
 pub mod Scanning
+pub mod Opening
+pub mod Causes

@@ -3,10 +3,12 @@
 
 mod commands;
 mod engine;
+mod opening;
 mod scan;
 mod scanning;
 mod storing;
 mod transaction;
 
 pub use engine::Engine;
+pub use recovery::OpenError;
 pub use scan::{Scan, Step};

@@ -10,6 +10,7 @@ use script::Reply;
 
 impl Engine {
     ghost use Rattle.engine.specs.Engine.{StandsFor};
+    ghost use Rattle.engine.specs.Causes.{Stops};
     ghost use Rattle.engine.specs.Steps.{Does, Replies, after_command};
 
     /// Opens a transaction.
@@ -19,6 +20,7 @@ impl Engine {
         requires tail { self.old.book.log.tail ≤ 2 ^ 61 + 2 ^ 46 }
         ensures does { Does (after_command self.old (Some command.Begin)) self.old (W.Devices.standing world.old) self.new (W.Devices.standing world.new) result }
         ensures replies { Replies self.old (W.Devices.standing world.old) (Some command.Begin) result }
+        ensures cause { Stops self.old (W.Devices.standing world.old) self.new (W.Devices.standing world.new) result }
     {
         storing::begin(&mut self.book, world)?;
         Ok(Reply::Fine)
@@ -30,6 +32,7 @@ impl Engine {
         requires is_open { self.old.book.is_open ≡ true }
         ensures does { Does (after_command self.old (Some command.Commit)) self.old (W.Devices.standing world.old) self.new (W.Devices.standing world.new) result }
         ensures replies { Replies self.old (W.Devices.standing world.old) (Some command.Commit) result }
+        ensures cause { Stops self.old (W.Devices.standing world.old) self.new (W.Devices.standing world.new) result }
     {
         storing::commit(&mut self.book, world)?;
         self.commits += 1;
@@ -42,6 +45,7 @@ impl Engine {
         requires is_open { self.old.book.is_open ≡ true }
         ensures does { Does (after_command self.old (Some command.Abort)) self.old (W.Devices.standing world.old) self.new (W.Devices.standing world.new) result }
         ensures replies { Replies self.old (W.Devices.standing world.old) (Some command.Abort) result }
+        ensures cause { Stops self.old (W.Devices.standing world.old) self.new (W.Devices.standing world.new) result }
     {
         storing::abort(&mut self.book, world)?;
         Ok(Reply::Aborted)
@@ -53,6 +57,7 @@ impl Engine {
         requires closed { self.old.book.is_open ≡ false }
         ensures does { Does (after_command self.old (Some command.Checkpoint)) self.old (W.Devices.standing world.old) self.new (W.Devices.standing world.new) result }
         ensures replies { Replies self.old (W.Devices.standing world.old) (Some command.Checkpoint) result }
+        ensures cause { Stops self.old (W.Devices.standing world.old) self.new (W.Devices.standing world.new) result }
     {
         storing::checkpoint(&mut self.book, world)?;
         Ok(Reply::Fine)
@@ -63,6 +68,7 @@ impl Engine {
         requires { StandsFor self.old (W.Devices.standing world.old) }
         ensures does { Does (after_command self.old (Some command.Drain)) self.old (W.Devices.standing world.old) self.new (W.Devices.standing world.new) result }
         ensures replies { Replies self.old (W.Devices.standing world.old) (Some command.Drain) result }
+        ensures cause { Stops self.old (W.Devices.standing world.old) self.new (W.Devices.standing world.new) result }
     {
         storing::drain(&mut self.book, world)?;
         Ok(Reply::Fine)
@@ -73,6 +79,7 @@ impl Engine {
         requires { StandsFor self.old (W.Devices.standing world.old) }
         ensures does { Does (after_command self.old (Some (command.Clean frames))) self.old (W.Devices.standing world.old) self.new (W.Devices.standing world.new) result }
         ensures replies { Replies self.old (W.Devices.standing world.old) (Some (command.Clean frames)) result }
+        ensures cause { Stops self.old (W.Devices.standing world.old) self.new (W.Devices.standing world.new) result }
     {
         storing::clean(&mut self.book, world, frames)?;
         Ok(Reply::Fine)

@@ -203,7 +203,7 @@ module _ (g : Sizes) (start tail lines blocks : ℕ) (s : State) (stands : Stand
 
   -- So the calls keep the facts of an open store, and make the current lines what recovery gave before.
   pub recover_step : KeepsOpen g tail tail (λ lines. committed_in s) (recover_calls g log₀ tail) s
-  recover_step = record { leads = record { facts = recover_open; moments = λ mid amid i left. (recover_moment mid amid i left).pages }; current = recover_current }
+  recover_step = record { leads = record { facts = recover_open; moments = λ mid amid i left. let is : IsStoreOf g (committed_in s) i = recover_moment mid amid i left in record { is_sized = record { store = is.store; sizes = is.sizes }; pages = is.pages } }; current = recover_current }
 
 -- Devices that stand for a store leave no image but such a store.
 pub stands_leave : (lines blocks : ℕ) (s : State) → Stands whole_lines lines blocks s → LeavesStores (super_of (current s)).sizes (committed_in s) s

@@ -1,5 +1,7 @@
 -- The store's call, as the plain machine sees it.
 use Rattle.engine.proofs.TransactionLaws.{abort_does, abort_replies, does_stopped, nvm_fault}
+use Rattle.std.proofs.Common.{inr}
+use Rattle.engine.proofs.CauseLaws.{stops_abort}
 use Rattle.engine.proofs.engine.Engine.abort.Goals as goal
 
 pub returns-in_err-abort-clause-does : goal.returns-in_err-abort-clause-does
@@ -16,3 +18,8 @@ returns-clause-does g c =
 pub returns-clause-replies : goal.returns-clause-replies
 returns-clause-replies g c =
     abort_replies c.args.self.now (g.W.Devices.standing c.args.world.now) c.requires.ready c.abort.new.book (g.W.Devices.standing c.abort.new.dev) c.requires.is_open
+
+pub returns-in_err-abort-clause-cause : goal.returns-in_err-abort-clause-cause
+returns-in_err-abort-clause-cause g c =
+    stops_abort _ c.args.self.now.book c.abort.new.book (g.W.Devices.standing c.args.world.now) (g.W.Devices.standing c.abort.new.dev) c.from_residual.result c.in_err-abort.field-0.0 c.from_residual.ensures
+    (λ e h. inr (inr (inr h))) c.in_err-abort.ensures.cause

@@ -1,5 +1,6 @@
 -- The store's call, as the plain machine sees it.
 use Rattle.engine.proofs.TransactionLaws.{begin_does, begin_replies, does_stopped, fault_is}
+use Rattle.engine.proofs.CauseLaws.{stops_fault}
 use Rattle.engine.proofs.engine.Engine.begin.Goals as goal
 
 pub returns-in_err-begin-clause-does : goal.returns-in_err-begin-clause-does
@@ -16,3 +17,7 @@ returns-clause-does g c =
 pub returns-clause-replies : goal.returns-clause-replies
 returns-clause-replies g c =
     begin_replies c.args.self.now (g.W.Devices.standing c.args.world.now) c.requires.ready c.begin.new.book (g.W.Devices.standing c.begin.new.dev) c.requires.closed c.in_ok-begin.ensures.call
+
+pub returns-in_err-begin-clause-cause : goal.returns-in_err-begin-clause-cause
+returns-in_err-begin-clause-cause g c =
+    stops_fault _ c.args.self.now.book c.begin.new.book (g.W.Devices.standing c.args.world.now) (g.W.Devices.standing c.begin.new.dev) c.from_residual.result c.in_err-begin.field-0.0 c.from_residual.ensures c.in_err-begin.ensures.cause

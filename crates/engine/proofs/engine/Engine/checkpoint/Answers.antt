@@ -1,5 +1,6 @@
 -- The store's call, as the plain machine sees it.
 use Rattle.engine.proofs.TransactionLaws.{checkpoint_does, checkpoint_replies, does_stopped, fault_is}
+use Rattle.engine.proofs.CauseLaws.{stops_fault}
 use Rattle.engine.proofs.engine.Engine.checkpoint.Goals as goal
 
 pub returns-in_err-checkpoint-clause-does : goal.returns-in_err-checkpoint-clause-does
@@ -16,3 +17,7 @@ returns-clause-does g c =
 pub returns-clause-replies : goal.returns-clause-replies
 returns-clause-replies g c =
     checkpoint_replies c.args.self.now (g.W.Devices.standing c.args.world.now) c.requires.ready c.checkpoint.new.book (g.W.Devices.standing c.checkpoint.new.dev) c.requires.closed
+
+pub returns-in_err-checkpoint-clause-cause : goal.returns-in_err-checkpoint-clause-cause
+returns-in_err-checkpoint-clause-cause g c =
+    stops_fault _ c.args.self.now.book c.checkpoint.new.book (g.W.Devices.standing c.args.world.now) (g.W.Devices.standing c.checkpoint.new.dev) c.from_residual.result c.in_err-checkpoint.field-0.0 c.from_residual.ensures c.in_err-checkpoint.ensures.cause
