@@ -156,8 +156,18 @@ rested engine accesses = record engine { book = record engine.book { accesses = 
 
 pub stands_rested : (engine : Engine) (accesses : Accesses) (d : Device) → StandsFor engine d → StandsFor (rested engine accesses) d
 stands_rested engine accesses d it = record {
-  ready = record { fits = it.ready.fits; allowed = it.ready.allowed; sized = it.ready.sized; room = it.ready.room; below = it.ready.below; few = it.ready.few; begins = it.ready.begins; within = it.ready.within;
-      closed = λ shut. record { room = (it.ready.closed shut).room; first = (it.ready.closed shut).first }; read = it.ready.read };
+  ready = record {
+    fits = it.ready.fits;
+    allowed = it.ready.allowed;
+    sized = it.ready.sized;
+    room = it.ready.room;
+    below = it.ready.below;
+    few = it.ready.few;
+    begins = it.ready.begins;
+    within = it.ready.within;
+    closed = λ shut. record { room = (it.ready.closed shut).room; first = (it.ready.closed shut).first };
+    read = it.ready.read;
+  };
   disk = it.disk;
   limits = it.limits;
   writes = it.writes;
