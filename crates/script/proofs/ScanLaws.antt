@@ -32,7 +32,7 @@ range_low low other high least most (row ∷ rows) l o a =
     rw (le-leb low row.0 (omega arith), le-leb other row.0 (omega arith))
     (ap (λ (rs : List Row). cond (nat_le row.0 high) (row ∷ rs) rs) (range_low low other high (row.0 + 1) most rows (omega arith) (omega arith) a.2))
 
-next_from : (low : ℕ) (rows : List Row) (row : Row) → row_next low rows ≡ Some row → low ≤ row.0
+pub next_from : (low : ℕ) (rows : List Row) (row : Row) → row_next low rows ≡ Some row → low ≤ row.0
 next_from low [] row h = absurd cc
 next_from low (first ∷ rows) row h =
     elim (cases_lt first.0 low) [

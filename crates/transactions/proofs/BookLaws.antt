@@ -1,6 +1,7 @@
 -- Calls of pages, by what they do to the book and the device of a store.
-use Rattle.std.proofs.Common.{◌≡◌, ℕ, ◌+◌, ◌^◌, ◌<◌, ◌≤◌, Bool, true, List, [], ◌∷◌, ◌++◌, length, refl, sym, ap, ◌∙◌, subst, arith, IsTrue, Some, Result, Ok, Err}
+use Rattle.std.proofs.Common.{◌≡◌, ℕ, ◌+◌, ◌^◌, ◌<◌, ◌≤◌, Bool, true, List, [], ◌∷◌, ◌++◌, length, refl, sym, ap, ◌∙◌, subst, arith, IsTrue, Some, Result, Ok, Err, min}
 use Rattle.std.specs.Prelude.{OnOk}
+use mathlib.Core.Path.{fun_ext}
 use Rattle.nvm_model.specs.declared.line.Line.{Line}
 use Rattle.devices.specs.State.{State, Leaves, current, fresh}
 use Rattle.devices.specs.World.{Standing as Device, Goes, Stays, MakesAll, now}
@@ -20,20 +21,20 @@ use Rattle.store_laws.proofs.StepLaws.{write_step, open_left, leaves_earlier, re
 use Rattle.nvm_layout.specs.Sizes.{sizes_of}
 use Rattle.nvm_layout.specs.declared.geometry.Geometry.{Geometry}
 use Rattle.transactions.specs.declared.book.Book.{Book}
-use Rattle.transactions.specs.StoreStanding.{standing_of, book_sizes, reach, reserve, kept_lines, Stands, IsReady, IsSteady}
+use Rattle.transactions.specs.StoreStanding.{past_of, standing_of, book_sizes, reach, reserve, kept_lines, Stands, IsReady, IsSteady}
 use Rattle.transactions.specs.BookCalls.{IsWritten}
 use Rattle.transactions.specs.StoreCalls.{HoldsAlong}
 use Rattle.transactions.proofs.CallLaws.{at_end, holds_ok}
 use Rattle.transactions.proofs.StandsLaws.{stands_read, write_leads, write_along}
 
 -- Every call of pages: nothing apart changes, and each moment recovers to the committed pages.
-pub continues_by : (old new : Book) (a b : Device) (book_name device_name : ℕ)
+pub continues_by : (old new : Book) (a b : Device) (book_name device_name since : ℕ)
     → new.log.geometry ≡ old.log.geometry → new.log.start ≡ old.log.start → new.is_open ≡ old.is_open → new.accepted ≡ old.accepted → reach new ≡ reach old
-    → (added : List Touch) → new.accesses.touches.list ≡ old.accesses.touches.list ++ added → Goes a b → b.block_reads ≡ a.block_reads
+    → (added : List Touch) → new.accesses.touches.list ≡ old.accesses.touches.list ++ added → since ≤ a.clock → Goes a b → b.block_reads ≡ a.block_reads
     → (IsTrue a.told → committed_in (now b) ≡ committed_in (now a))
     → (IsTrue a.told → IsSteady old a → (m : ℕ) → a.clock < m → m ≤ b.clock → (lines : Lines) → MayLeave (book_sizes old) b m lines → lines ≡ committed_in (now a))
-    → Continues (MayLeave (book_sizes old) a) (MayLeave (book_sizes new) b) (IsSteady old a) (standing_of old a book_name device_name) (standing_of new b book_name device_name)
-continues_by old new a b book_name device_name geometry start is_open accepted reaches added touches goes reads kept during = record {
+    → Continues (MayLeave (book_sizes old) a) (MayLeave (book_sizes new) b) (IsSteady old a) (standing_of old a book_name device_name since) (standing_of new b book_name device_name since)
+continues_by old new a b book_name device_name since geometry start is_open accepted reaches added touches early goes reads kept during = record {
   count = ap (λ (g : Geometry). pages (sizes_of g)) geometry;
   told = goes.told;
   committed = kept;
@@ -49,8 +50,9 @@ continues_by old new a b book_name device_name geometry start is_open accepted r
     of_old : (m : ℕ) (lines : Lines) → MayLeave (book_sizes new) b m lines → MayLeave (book_sizes old) b m lines
     of_old m lines left = subst (λ (x : Geometry). MayLeave (sizes_of x) b m lines) geometry left
 
-    same_apart : (standing_of new b book_name device_name).apart ≡ (standing_of old a book_name device_name).apart
+    same_apart : (standing_of new b book_name device_name since).apart ≡ (standing_of old a book_name device_name since).apart
     same_apart =
+        let past : past_of b since ≡ past_of a since = fun_ext (λ m. goes.earlier (min m since) (omega (arith, early))) in
         let e1 = goes.outside in
         let e2 = goes.lines in
         let e3 = goes.blocks in
@@ -59,20 +61,20 @@ continues_by old new a b book_name device_name geometry start is_open accepted r
         cc
 
 -- a call that changes no device
-pub reads_over : (old : Book) (touched : Accesses) (a b : Device) (book_name device_name : ℕ)
-    → (added : List Touch) → touched.touches.list ≡ old.accesses.touches.list ++ added → Goes a b → b.block_reads ≡ a.block_reads → Stays a b
-    → Continues (MayLeave (book_sizes old) a) (MayLeave (book_sizes old) b) (IsSteady old a) (standing_of old a book_name device_name) (standing_of (record old { accesses = touched }) b book_name device_name)
-reads_over old touched a b book_name device_name added touches goes reads stays =
-    continues_by old (record old { accesses = touched }) a b book_name device_name refl refl refl refl refl added touches goes reads
+pub reads_over : (old : Book) (touched : Accesses) (a b : Device) (book_name device_name since : ℕ)
+    → (added : List Touch) → touched.touches.list ≡ old.accesses.touches.list ++ added → since ≤ a.clock → Goes a b → b.block_reads ≡ a.block_reads → Stays a b
+    → Continues (MayLeave (book_sizes old) a) (MayLeave (book_sizes old) b) (IsSteady old a) (standing_of old a book_name device_name since) (standing_of (record old { accesses = touched }) b book_name device_name since)
+reads_over old touched a b book_name device_name since added touches early goes reads stays =
+    continues_by old (record old { accesses = touched }) a b book_name device_name since refl refl refl refl refl added touches early goes reads
     (λ told. ap committed_in (at_end goes stays told))
     (λ told steady m low high lines left. open_left (book_sizes old) old.log.start old.log.tail (now a) (steady told).facts lines left.0
     (subst (λ (s : State). Leaves s left.0) ((stays told).each m (omega arith) high) left.1) left.2)
 
 -- the touch of a call
-pub touched_by : {T E : Type 0} (old new : Book) (a b : Device) (book_name device_name page line : ℕ) (writes : Bool) (r : Result T E) → new.accesses.open_access ≡ Some (page, writes)
+pub touched_by : {T E : Type 0} (old new : Book) (a b : Device) (book_name device_name since page line : ℕ) (writes : Bool) (r : Result T E) → new.accesses.open_access ≡ Some (page, writes)
     → new.accesses.touches.list ≡ old.accesses.touches.list ++ touch_of old.accesses.open_access page line writes ∷ []
-    → IsTouch page line writes (standing_of old a book_name device_name) (standing_of new b book_name device_name) r
-touched_by old new a b book_name device_name page line writes r access touches = record {
+    → IsTouch page line writes (standing_of old a book_name device_name since) (standing_of new b book_name device_name since) r
+touched_by old new a b book_name device_name since page line writes r access touches = record {
   access = access;
   visits = ap (λ ts. length (accesses ts)) touches ∙ accesses_push old.accesses.touches.list (touch_of old.accesses.open_access page line writes);
   touches = holds_ok r touches;
@@ -122,11 +124,11 @@ module _ (old : Book) (touched : Accesses) (new : Book) (a b : Device) (page lin
   seen_leads : IsTrue a.told → LeadsTo (book_sizes old) Facts (write_calls (book_sizes old) old.log.tail page line value (now a)) (fresh (current (now a)))
   seen_leads told = leads_from (fresh (current (now a))) (ready.read told)
 
-  pub write_continues : (book_name device_name : ℕ) (added : List Touch) → touched.touches.list ≡ old.accesses.touches.list ++ added → b.block_reads ≡ a.block_reads
-      → Continues (MayLeave (book_sizes old) a) (MayLeave (book_sizes new) b) (IsSteady old a) (standing_of old a book_name device_name) (standing_of new b book_name device_name)
-  write_continues book_name device_name added touches reads =
-      continues_by old new a b book_name device_name written.geometry written.start written.is_open written.accepted written.reach_is added
-      (ap (λ (x : Accesses). x.touches.list) written.accesses ∙ touches) goes reads
+  pub write_continues : (book_name device_name since : ℕ) (added : List Touch) → touched.touches.list ≡ old.accesses.touches.list ++ added → since ≤ a.clock → b.block_reads ≡ a.block_reads
+      → Continues (MayLeave (book_sizes old) a) (MayLeave (book_sizes new) b) (IsSteady old a) (standing_of old a book_name device_name since) (standing_of new b book_name device_name since)
+  write_continues book_name device_name since added touches early reads =
+      continues_by old new a b book_name device_name since written.geometry written.start written.is_open written.accepted written.reach_is added
+      (ap (λ (x : Accesses). x.touches.list) written.accesses ∙ touches) early goes reads
       (λ told. read_committed (write_calls (book_sizes old) old.log.tail page line value (now a)) a b r goes makes told (seen_leads told))
       (λ told steady. steady_during (write_calls (book_sizes old) old.log.tail page line value (now a)) a b r goes makes told (leads_from (now a) (steady told)))
 
@@ -150,12 +152,14 @@ module _ (old : Book) (touched : Accesses) (new : Book) (a b : Device) (page lin
       let behind : old.first ≤ old.log.tail = ready.within in
       let kept : kept_lines new ≡ kept_lines old = same_kept in
       let under : reach old + kept_lines old ≤ 2 ^ 62 = ready.below in
+      let most : old.room ≤ 640 = ready.few in
       record {
         fits = subst (λ (x : Geometry). nvm_lines (sizes_of x) ≤ b.lines) (sym written.geometry) (subst (λ n. nvm_lines (book_sizes old) ≤ n) (sym goes.lines) ready.fits);
         allowed = subst (λ (x : Geometry). is_allowed (sizes_of x) ≡ true) (sym written.geometry) ready.allowed;
         sized = omega (arith, enough, lines, count);
         room = omega (arith, all, reaches, kept, start, ring);
         below = omega (arith, under, reaches, kept);
+        few = omega (arith, most, reaches, tail);
         begins = omega (arith, begins, start, first);
         within = omega (arith, behind, tail, first);
         closed = λ shut. let none : old.room ≡ 0 = (ready.closed (sym written.is_open ∙ shut)).room in absurd (omega (arith, none, some));

@@ -54,6 +54,7 @@ module _ (old : Book) (log : Log) (loose : LineSet) (a b : Device) {T E : Type 0
         sized = subst (λ (x : Geometry). pages (sizes_of x) ≤ pages_of loose) (sym emptied.geometry) (subst (λ n. pages (book_sizes old) ≤ n) (sym sized) ready.sized);
         room = omega (arith, none, no_room, tail, start);
         below = omega (arith, under, none, no_room, tail);
+        few = omega (arith, no_room);
         begins = omega (arith, start, at);
         within = omega (arith, tail, at);
         closed = λ still. record { room = no_room; first = at ∙ sym tail };

@@ -52,6 +52,7 @@ ended_ready old log a b ready opened goes geometry start tail read =
       sized = subst (λ (x : Geometry). pages (sizes_of x) ≤ pages_of old.loose) (sym geometry) ready.sized;
       room = omega (arith, all, one, start, tail, ring);
       below = omega (arith, under, one, tail);
+      few = omega arith;
       begins = omega (arith, begins, behind, start, tail);
       within = omega arith;
       closed = λ shut. record { room = refl; first = refl };

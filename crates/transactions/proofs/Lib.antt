@@ -3,6 +3,7 @@ pub mod CallLaws
 pub mod ClosingLaws
 pub mod EmptiedLaws
 pub mod EndingLaws
+pub mod FieldSteps
 pub mod NewLaws
 pub mod OpeningLaws
 pub mod SizeLaws

@@ -41,6 +41,7 @@ module _ (log : Log) (loose : LineSet) (book : Book) (d : Device) (made : IsNew 
         sized = subst (λ (x : Log). pages (sizes_of x.geometry) ≤ pages_of book.loose) (sym same) (subst (λ (x : LineSet). pages (sizes_of log.geometry) ≤ pages_of x) (sym made.loose_is) sized);
         room = omega (arith, none, no_room, tail, start);
         below = omega (arith, none, no_room, tail, low);
+        few = omega (arith, no_room);
         begins = omega (arith, start, first);
         within = omega (arith, tail, first);
         closed = λ shut. record { room = no_room; first = first ∙ sym tail };

@@ -23,6 +23,7 @@ opened_ready book d ready shut low takes =
       sized = ready.sized;
       room = omega (arith, all, takes);
       below = omega (arith, all, low, few);
+      few = omega arith;
       begins = ready.begins;
       within = ready.within;
       closed = λ still. absurd (cc);

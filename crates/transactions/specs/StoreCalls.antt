@@ -90,6 +90,7 @@ pub record Ends (old new : Book) : Type 0 where
   pub accepted : new.accepted ≡ old.accepted
   pub room : new.room ≡ 0
   pub start : new.log.start ≡ old.log.start
+  pub tail : new.log.tail ≡ old.log.tail + 1
   pub reach_rises : reach new ≤ reach old + 1921
 
 -- The log is emptied, and names no line.

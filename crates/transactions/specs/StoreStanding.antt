@@ -1,5 +1,5 @@
 -- What a book and its device show as a store of pages.
-use Rattle.std.specs.Prelude.{◌≡◌, ℕ, ◌+◌, ◌-◌, ◌*◌, ◌^◌, ◌≤◌, Bool, true, false, IsTrue, length, if◌then◌else◌}
+use Rattle.std.specs.Prelude.{◌≡◌, ℕ, ◌+◌, ◌-◌, ◌*◌, ◌^◌, ◌≤◌, min, Bool, true, false, IsTrue, length, if◌then◌else◌}
 use Rattle.devices.specs.State.{State, current, fresh}
 use Rattle.devices.specs.World.{Standing as Device, Outside, now}
 use Rattle.line_pages.specs.Touch.{accesses}
@@ -22,6 +22,9 @@ pub record Apart : Type 0 where
   pub told : Bool
   pub honest : Bool
   pub block_reads : ℕ
+  -- the moment at which the store was put over it, and its states up to then
+  pub since : ℕ
+  pub past : ℕ → State
   -- of the book
   pub geometry : Geometry
   pub start : ℕ
@@ -39,8 +42,12 @@ book_sizes book = sizes_of book.log.geometry
 abbrev pub reach : Book → ℕ
 reach book = book.log.tail + 3 * book.room
 
-abbrev pub standing_of : Book → Device → ℕ → ℕ → Standing Apart
-standing_of book d book_name device_name = record {
+-- the states of a device at each moment up to this one, and from then on the one at it
+abbrev pub past_of : Device → ℕ → ℕ → State
+past_of d since m = d.at (min m since)
+
+abbrev pub standing_of : Book → Device → ℕ → ℕ → ℕ → Standing Apart
+standing_of book d book_name device_name since = record {
   count = pages (book_sizes book);
   told = d.told;
   current = pages_in (book_sizes book) (now d);
@@ -59,6 +66,8 @@ standing_of book d book_name device_name = record {
     told = d.told;
     honest = d.honest;
     block_reads = d.block_reads;
+    since = since;
+    past = past_of d since;
     geometry = book.log.geometry;
     start = book.log.start;
     is_open = book.is_open;
@@ -87,14 +96,15 @@ pub record NoneOpen (book : Book) : Type 0 where
   pub first : book.first ≡ book.log.tail
 
 -- The book stands for the device: its sizes are allowed and fit, the log has room for a record of each line that may still
--- be written, now and with each further write, and for the end of an open transaction, and as one reads the device the
--- facts of an open store hold.
+-- be written, at most 640 now, and with each further write, and for the end of an open transaction, and as one reads the
+-- device the facts of an open store hold.
 pub record IsReady (book : Book) (d : Device) : Type 0 where
   pub fits : nvm_lines (book_sizes book) ≤ d.lines
   pub allowed : is_allowed (book_sizes book) ≡ true
   pub sized : pages (book_sizes book) ≤ pages_of book.loose
   pub room : reach book + kept_lines book ≤ book.log.start + ring_lines (book_sizes book)
   pub below : reach book + kept_lines book ≤ 2 ^ 62
+  pub few : book.room ≤ 640
   pub begins : book.log.start ≤ book.first
   pub within : book.first ≤ book.log.tail
   pub closed : book.is_open ≡ false → NoneOpen book

@@ -62,6 +62,7 @@ impl<'a, D: Devices> Store<'a, D> {
         // What stays, however far it gets.
         ensures call { StoreCall (IsCommitted (D.standing self.old.dev.now)) self.old.book.now (D.standing self.old.dev.now) self.new.book.now (D.standing self.new.dev.now) }
         ensures same_references { (self.new.book.ghost_name ≡ self.old.book.ghost_name) × (self.new.dev.ghost_name ≡ self.old.dev.ghost_name) }
+        ensures before { self.new.before ≡ self.old.before }
     {
         self.make_room()?;
         let book = &mut *self.book;
@@ -80,6 +81,7 @@ impl<'a, D: Devices> Store<'a, D> {
         ensures cause { FaultCause (D.standing self.old.dev.now) (D.standing self.new.dev.now) result }
         ensures call { StoreCall (IsCommitted (D.standing self.old.dev.now)) self.old.book.now (D.standing self.old.dev.now) self.new.book.now (D.standing self.new.dev.now) }
         ensures same_references { (self.new.book.ghost_name ≡ self.old.book.ghost_name) × (self.new.dev.ghost_name ≡ self.old.dev.ghost_name) }
+        ensures before { self.new.before ≡ self.old.before }
     {
         let book = &*self.book;
         if book.has_room() {
@@ -101,6 +103,7 @@ impl<'a, D: Devices> Store<'a, D> {
         ensures ready { IsReady self.new.book.now (D.standing self.new.dev.now) }
         ensures steady { IsSteady self.old.book.now (D.standing self.old.dev.now) → IsSteady self.new.book.now (D.standing self.new.dev.now) }
         ensures same_references { (self.new.book.ghost_name ≡ self.old.book.ghost_name) × (self.new.dev.ghost_name ≡ self.old.dev.ghost_name) }
+        ensures before { self.new.before ≡ self.old.before }
     {
         let book = &mut *self.book;
         book.accepted += 1;

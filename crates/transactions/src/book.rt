@@ -1,5 +1,5 @@
 //! What a store of pages keeps in memory beside its device.
-ghost use Rattle.std.specs.Prelude.{◌≡◌, ◌<◌, ◌≤◌, true};
+ghost use Rattle.std.specs.Prelude.{◌≡◌, ◌<◌, ◌≤◌, true, None};
 ghost use Rattle.store_meaning.specs.Layout.{pages, nvm_lines, frame_line, is_allowed};
 
 use line_pages::{Accesses, LineSet};
@@ -60,6 +60,15 @@ impl Book {
         ensures { result ≡ self.now.accepted }
     {
         self.accepted
+    }
+
+    /// Ends the open access: the next call on a page begins one. No device is needed for it.
+    pub fn rest(&mut self)
+        ensures same { self.new ≡ record self.old { accesses = self.new.accesses } }
+        ensures access { self.new.accesses.open_access ≡ None }
+        ensures touches { self.new.accesses.touches.list ≡ self.old.accesses.touches.list }
+    {
+        self.accesses.end();
     }
 
     /// The NVM line of a line of a page: page p stands in frame p.

@@ -31,6 +31,7 @@ impl<'a, D: Devices> Store<'a, D> {
         // What stays, however far it gets.
         ensures call { StoreCall (IsCommitted (D.standing self.old.dev.now)) self.old.book.now (D.standing self.old.dev.now) self.new.book.now (D.standing self.new.dev.now) }
         ensures same_references { (self.new.book.ghost_name ≡ self.old.book.ghost_name) × (self.new.dev.ghost_name ≡ self.old.dev.ghost_name) }
+        ensures before { self.new.before ≡ self.old.before }
     {
         let book = &mut *self.book;
         match empty_log(&mut book.log, self.dev) {
@@ -48,6 +49,7 @@ impl<'a, D: Devices> Store<'a, D> {
         ensures ok { result ≡ Ok tt }
         ensures same { (self.new.book.now ≡ self.old.book.now) × (self.new.dev.now ≡ self.old.dev.now) }
         ensures same_references { (self.new.book.ghost_name ≡ self.old.book.ghost_name) × (self.new.dev.ghost_name ≡ self.old.dev.ghost_name) }
+        ensures before { self.new.before ≡ self.old.before }
     {
         Ok(())
     }
@@ -58,6 +60,7 @@ impl<'a, D: Devices> Store<'a, D> {
         ensures ok { result ≡ Ok tt }
         ensures same { (self.new.book.now ≡ self.old.book.now) × (self.new.dev.now ≡ self.old.dev.now) }
         ensures same_references { (self.new.book.ghost_name ≡ self.old.book.ghost_name) × (self.new.dev.ghost_name ≡ self.old.dev.ghost_name) }
+        ensures before { self.new.before ≡ self.old.before }
     {
         Ok(())
     }

@@ -35,6 +35,7 @@ impl<'a, D: Devices> Store<'a, D> {
         // What stays, however far it gets.
         ensures call { StoreCall (IsOldOrNew self.old.book.now (D.standing self.old.dev.now)) self.old.book.now (D.standing self.old.dev.now) self.new.book.now (D.standing self.new.dev.now) }
         ensures same_references { (self.new.book.ghost_name ≡ self.old.book.ghost_name) × (self.new.dev.ghost_name ≡ self.old.dev.ghost_name) }
+        ensures before { self.new.before ≡ self.old.before }
     {
         let book = &mut *self.book;
         match book.log.end(self.dev, EndKind::Commit) {

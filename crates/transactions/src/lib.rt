@@ -9,6 +9,7 @@ mod checkpoint;
 mod commit;
 mod emptying;
 mod putting;
+mod snapshot;
 mod store;
 #[cfg(test)]
 mod tests;

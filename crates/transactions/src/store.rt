@@ -1,7 +1,8 @@
 //! A book over its device, as a store of pages.
-ghost use Rattle.std.specs.Prelude.{◌≡◌};
+ghost use Rattle.std.specs.Prelude.{◌≡◌, ◌≤◌};
 
 use crate::book::Book;
+use crate::snapshot::Snapshot;
 use crate::writing::eight;
 use devices::{Devices, Failed};
 use line_pages::{Pages, Stop, whole_line};
@@ -12,6 +13,8 @@ use nvm_model::Line;
 pub struct Store<'a, D> {
     pub(crate) book: &'a mut Book,
     pub(crate) dev: &'a mut D,
+    /// The device as it was when the store was put over it.
+    pub(crate) before: Snapshot<D>,
 }
 
 impl<'a, D: Devices> Store<'a, D> {
@@ -19,8 +22,10 @@ impl<'a, D: Devices> Store<'a, D> {
     pub fn over(book: &'a mut Book, dev: &'a mut D) -> Store<'a, D>
         ensures same_references { (result.book.ghost_name ≡ book.entry.ghost_name) × (result.dev.ghost_name ≡ dev.entry.ghost_name) }
         ensures same { (result.book.now ≡ book.old) × (result.dev.now ≡ dev.old) }
+        ensures before { result.before.value ≡ dev.old }
     {
-        Store { book, dev }
+        let before = Snapshot::of(&*dev);
+        Store { book, dev, before }
     }
 }
 
@@ -30,9 +35,9 @@ impl<'a, D: Devices> Pages for Store<'a, D> {
 
     ghost Apart = { StoreApart };
 
-    ghost standing = { λ s. standing_of s.book.now (D.standing s.dev.now) s.book.ghost_name s.dev.ghost_name };
+    ghost standing = { λ s. standing_of s.book.now (D.standing s.dev.now) s.book.ghost_name s.dev.ghost_name (D.standing s.before.value).clock };
 
-    ghost is_ready = { λ s. IsReady s.book.now (D.standing s.dev.now) };
+    ghost is_ready = { λ s. IsReady s.book.now (D.standing s.dev.now) × ((D.standing s.before.value).clock ≤ (D.standing s.dev.now).clock) };
 
     ghost is_steady = { λ s. IsSteady s.book.now (D.standing s.dev.now) };
 
@@ -63,6 +68,6 @@ impl<'a, D: Devices> Pages for Store<'a, D> {
 
     fn rest(&mut self) {
         let book = &mut *self.book;
-        book.accesses.end();
+        book.rest();
     }
 }

@@ -9,24 +9,24 @@ use Rattle.transactions.proofs.store.StorePages.read_line.Goals as goal
 
 pub returns-in-Ok-clause-continues : goal.returns-in-Ok-clause-continues
 returns-in-Ok-clause-continues g c =
-    reads_over c.args.self.now.book.now c.touch.new.self (g.D.Devices.standing c.args.self.now.dev.now) (g.D.Devices.standing c.load.new.self) _ _
-    (touch_of c.args.self.now.book.now.accesses.open_access c.args.page c.args.line false ∷ []) c.touch.ensures.touches c.load.ensures.goes c.load.ensures.cause.reads c.load.ensures.stays
+    reads_over c.args.self.now.book.now c.touch.new.self (g.D.Devices.standing c.args.self.now.dev.now) (g.D.Devices.standing c.load.new.self) _ _ _
+    (touch_of c.args.self.now.book.now.accesses.open_access c.args.page c.args.line false ∷ []) c.touch.ensures.touches c.requires.ready.1 c.load.ensures.goes c.load.ensures.cause.reads c.load.ensures.stays
 
 pub returns-in-Ok-clause-reads : goal.returns-in-Ok-clause-reads
 returns-in-Ok-clause-reads g c = record {
-  touch = touched_by c.args.self.now.book.now (record c.args.self.now.book.now { accesses = c.touch.new.self }) (g.D.Devices.standing c.args.self.now.dev.now) (g.D.Devices.standing c.load.new.self) _ _ c.args.page c.args.line false _ c.touch.ensures.access c.touch.ensures.touches;
+  touch = touched_by c.args.self.now.book.now (record c.args.self.now.book.now { accesses = c.touch.new.self }) (g.D.Devices.standing c.args.self.now.dev.now) (g.D.Devices.standing c.load.new.self) _ _ _ c.args.page c.args.line false _ c.touch.ensures.access c.touch.ensures.touches;
   current = λ told. ap (pages_in (book_sizes c.args.self.now.book.now)) (at_end c.load.ensures.goes c.load.ensures.stays told);
   room = refl;
 }
 
 pub returns-in-Err-clause-continues : goal.returns-in-Err-clause-continues
 returns-in-Err-clause-continues g c =
-    reads_over c.args.self.now.book.now c.touch.new.self (g.D.Devices.standing c.args.self.now.dev.now) (g.D.Devices.standing c.load.new.self) _ _
-    (touch_of c.args.self.now.book.now.accesses.open_access c.args.page c.args.line false ∷ []) c.touch.ensures.touches c.load.ensures.goes c.load.ensures.cause.reads c.load.ensures.stays
+    reads_over c.args.self.now.book.now c.touch.new.self (g.D.Devices.standing c.args.self.now.dev.now) (g.D.Devices.standing c.load.new.self) _ _ _
+    (touch_of c.args.self.now.book.now.accesses.open_access c.args.page c.args.line false ∷ []) c.touch.ensures.touches c.requires.ready.1 c.load.ensures.goes c.load.ensures.cause.reads c.load.ensures.stays
 
 pub returns-in-Err-clause-reads : goal.returns-in-Err-clause-reads
 returns-in-Err-clause-reads g c = record {
-  touch = touched_by c.args.self.now.book.now (record c.args.self.now.book.now { accesses = c.touch.new.self }) (g.D.Devices.standing c.args.self.now.dev.now) (g.D.Devices.standing c.load.new.self) _ _ c.args.page c.args.line false _ c.touch.ensures.access c.touch.ensures.touches;
+  touch = touched_by c.args.self.now.book.now (record c.args.self.now.book.now { accesses = c.touch.new.self }) (g.D.Devices.standing c.args.self.now.dev.now) (g.D.Devices.standing c.load.new.self) _ _ _ c.args.page c.args.line false _ c.touch.ensures.access c.touch.ensures.touches;
   current = λ told. tt;
   room = tt;
 }

@@ -1,0 +1,9 @@
+pub mod HoldsLaws
+pub mod DoesLaws
+pub mod TransactionLaws
+pub mod TableLaws
+pub mod CommandLaws
+pub mod OpenLaws
+pub mod AnswerLaws
+pub mod ScanningLaws
+pub mod CauseLaws

@@ -1,0 +1,224 @@
+-- What the calls that open and end transactions mean for the plain machine.
+use Rattle.std.proofs.Common.{◌≡◌, ◌⊎◌, ℕ, ◌+◌, ◌*◌, ◌^◌, ◌<◌, ◌≤◌, List, refl, sym, ap, ◌∙◌, subst, inl, inr, arith, true, false, Bool, IsTrue, Result, Ok, Err, Option, Some, None, [], ◌∷◌, is_some}
+use Rattle.std.specs.Prelude.{OnOk, IfErr, IfOk, IsErr, IsErrAnd}
+use Rattle.devices.specs.World.{Standing, Goes, now}
+use Rattle.devices.proofs.MomentLaws.{Goes-refl}
+use Rattle.line_pages.specs.Lines.{Lines}
+use Rattle.line_pages.specs.declared.stop.Stop.{Stop}
+use Rattle.line_pages.specs.declared.stop.Stop.TheVariants.{Nvm, Ssd, Damaged}
+use Rattle.store_meaning.specs.Layout.{Sizes, pages, nvm_lines, ssd_blocks}
+use Rattle.store_laws.specs.ShownPages.{pages_in, committed_in}
+use Rattle.store_laws.specs.Steps.{MayLeave}
+use Rattle.nvm_layout.specs.Sizes.{sizes_of}
+use Rattle.nvm_layout.specs.declared.geometry.Geometry.{Geometry}
+use Rattle.table_store.specs.Catalog.{Table}
+use Rattle.transactions.specs.declared.book.Book.{Book}
+use Rattle.transactions.specs.StoreStanding.{book_sizes, reach, kept_lines, reserve, IsReady, IsSteady}
+use Rattle.transactions.specs.StoreCalls as store
+use Rattle.transactions.specs.StoreCalls.{StoreCall, IsCommitted, IsOldOrNew, KeepsLines, CommitsLines, AbortsLines, Begins, Ends, Checkpoints, FaultCause}
+use Rattle.script.specs.Machine.{Bounds, State, Open, current, step, accepted}
+use Rattle.script.specs.declared.command.Command.{Command}
+use Rattle.script.specs.declared.command.Command.TheVariants as command
+use Rattle.script.specs.declared.command.Reply.TheVariants as reply
+use Rattle.engine.specs.declared.engine.Engine.{Engine}
+use Rattle.engine.specs.Holds.{AreLimits, HoldsTables, bounds_in}
+use Rattle.engine.specs.Engine.{engine_sizes, StandsFor, IsSteadyFor, IsTransaction, Shows, IsFault}
+use Rattle.engine.specs.Steps.{Does, Replies, after_command}
+use Rattle.engine.proofs.HoldsLaws.{holds_same}
+use Rattle.engine.proofs.DoesLaws.{does_same, does_kept, does_chosen}
+
+-- ---- the machine's state, by the book
+
+pub none_open : (book : Book) (t : Option Open) → IsTransaction book t → book.is_open ≡ false → t ≡ None
+none_open book None is closed = refl
+none_open book (Some o) is closed = absurd (bad (sym is.0 ∙ closed))
+  where
+    bad : true ≡ false → ⊥
+    bad e = absurd (cc)
+
+pub some_open : (book : Book) (t : Option Open) → IsTransaction book t → book.is_open ≡ true → (o : Open) × (t ≡ Some o) × (o.writes ≡ book.accepted)
+some_open book None is open_now = absurd (bad (sym is ∙ open_now))
+  where
+    bad : false ≡ true → ⊥
+    bad e = absurd (cc)
+some_open book (Some o) is open_now = (o, refl, is.1)
+
+pub closed_transaction : (book : Book) (t : Option Open) → t ≡ None → book.is_open ≡ false → IsTransaction book t
+closed_transaction book t none closed = subst (λ (x : Option Open). IsTransaction book x) (sym none) closed
+
+pub current_closed : (s : State) → s.transaction ≡ None → current s ≡ s.tables
+current_closed s none = rw none refl
+
+-- each command, where it is not refused
+pub step_begin : (bounds : Bounds) (s : State) → s.transaction ≡ None → step bounds s (Some command.Begin) ≡ accepted s command.Begin
+step_begin bounds s none = rw none refl
+
+pub step_commit : (bounds : Bounds) (s : State) (o : Open) → s.transaction ≡ Some o → step bounds s (Some command.Commit) ≡ accepted s command.Commit
+step_commit bounds s o some = rw some refl
+
+pub step_abort : (bounds : Bounds) (s : State) (o : Open) → s.transaction ≡ Some o → step bounds s (Some command.Abort) ≡ accepted s command.Abort
+step_abort bounds s o some = rw some refl
+
+pub step_checkpoint : (bounds : Bounds) (s : State) → s.transaction ≡ None → step bounds s (Some command.Checkpoint) ≡ accepted s command.Checkpoint
+step_checkpoint bounds s none = rw none refl
+
+-- ---- what an engine stands for and shows behind a call
+
+pub stands_by : (old new : Engine) (a b : Standing) → StandsFor old a → new.book.log.geometry ≡ old.book.log.geometry → new.limits ≡ old.limits → new.writes ≡ old.writes → Goes a b → IsReady new.book b
+    → (new.book.is_open ≡ true → new.book.accepted ≤ old.writes) → (new.book.is_open ≡ true → new.book.accepted < old.writes → 640 ≤ new.book.room) → new.commits ≤ new.book.log.tail → StandsFor new b
+stands_by old new a b stands geometry limits writes goes ready few room counted = record {
+  ready = ready;
+  disk = subst (λ n. ssd_blocks (engine_sizes new) ≤ n) (sym goes.blocks) (subst (λ (x : Geometry). ssd_blocks (sizes_of x) ≤ a.blocks) (sym geometry) stands.disk);
+  limits = record {
+    tables = ap (λ x. x.tables) limits ∙ stands.limits.tables ∙ sym (ap (λ (x : Geometry). (sizes_of x).tables) geometry);
+    rows = ap (λ x. x.rows) limits ∙ stands.limits.rows ∙ sym (ap (λ (x : Geometry). (sizes_of x).rows) geometry);
+  };
+  writes = writes ∙ stands.writes ∙ sym (ap (λ (x : Geometry). x.writes) geometry);
+  few = λ is. subst (λ n. new.book.accepted ≤ n) (sym writes) (few is);
+  room = λ is more. room is (subst (λ n. new.book.accepted < n) writes more);
+  counted = counted;
+}
+
+pub shows_by : (old new : Engine) (b : Standing) (t : State) (kept seen : Lines) → new.book.log.geometry ≡ old.book.log.geometry → committed_in (now b) ≡ kept → pages_in (engine_sizes new) (now b) ≡ seen
+    → HoldsTables (engine_sizes old) kept t.tables → HoldsTables (engine_sizes old) seen (current t) → IsTransaction new.book t.transaction → new.commits ≡ t.commits → Shows new b t
+shows_by old new b t kept seen geometry kept_is seen_is holds sees transaction commits = record {
+  committed = subst (λ (x : Geometry). HoldsTables (sizes_of x) (committed_in (now b)) t.tables) (sym geometry) (holds_same (engine_sizes old) kept (committed_in (now b)) t.tables kept_is holds);
+  seen = subst (λ (x : Geometry). HoldsTables (sizes_of x) (pages_in (engine_sizes new) (now b)) (current t)) (sym geometry) (holds_same (engine_sizes old) seen (pages_in (engine_sizes new) (now b)) (current t) seen_is sees);
+  transaction = transaction;
+  commits = commits;
+}
+
+-- ---- faults
+
+pub fault_is : (a b : Standing) (why : Stop) → store.IsFault a b why → IsFault why
+fault_is a b Nvm is = tt
+fault_is a b Ssd is = absurd is
+fault_is a b (Damaged evidence) is = absurd is
+
+pub nvm_fault : (why : Stop) → why ≡ Nvm → IsFault why
+nvm_fault why is = subst IsFault (sym is) tt
+
+-- a stop that was handed on
+pub handed_on : {T : Type 0} (r : Result T Stop) (why : Stop) (P : Stop → Type 0) → IsErr r × IsErrAnd r (λ found. found ≡ why) → P why → IfErr r P
+handed_on (Ok v) why P is p = tt
+handed_on (Err found) why P is p = subst P (sym is.1) p
+
+-- where a store's call answers ok, and where it stops
+pub does_stopped : {T : Type 0} (after : State → State) (old : Engine) (a : Standing) (new : Engine) (b : Standing) (r : Result T Stop) (why : Stop) → IsErr r × IsErrAnd r (λ found. found ≡ why) → StandsFor old a
+    → new.book.log.geometry ≡ old.book.log.geometry → Goes a b
+    → (IsTrue a.told → IsSteady old.book a → (m : ℕ) → a.clock < m → m ≤ b.clock → (lines : Lines) → MayLeave (engine_sizes old) b m lines → lines ≡ committed_in (now a))
+    → (IsTrue a.told → (s : State) → Shows old a s → IsFault why) → Does after old a new b r
+does_stopped after old a new b (Ok v) why is stands geometry goes during fault = let none : false ≡ true = is.0 in absurd (cc)
+does_stopped after old a new b (Err found) why is stands geometry goes during fault =
+    does_kept after old a new b (Err found) stands geometry goes during tt (λ steady. tt) tt (λ told s shows. subst IsFault (sym is.1) (fault told s shows)) (λ told s shows. tt)
+
+-- ---- the calls
+
+module _ (old : Engine) (a : Standing) (stands : StandsFor old a) (book : Book) (b : Standing) where
+  abbrev with_book : Engine
+  with_book = record old { book = book }
+
+  below : old.book.log.tail ≤ 2 ^ 62
+  below = let all : reach old.book + kept_lines old.book ≤ 2 ^ 62 = stands.ready.below in omega (arith, all)
+
+  module _ (closed : old.book.is_open ≡ false) (call : StoreCall (IsCommitted a) old.book a book b) where
+    was_closed : (s : State) → Shows old a s → s.transaction ≡ None
+    was_closed s is = none_open old.book s.transaction is.transaction closed
+
+    pub begin_does : (lines : IsTrue a.told → KeepsLines old.book a book b) → Begins old.book book → IsReady book b → (IsSteady old.book a → IsSteady book b)
+        → Does (after_command old (Some command.Begin)) old a with_book b (Ok reply.Fine)
+    begin_does lines begins ready steady =
+        does_kept (after_command old (Some command.Begin)) old a with_book b (Ok reply.Fine) stands call.geometry call.goes call.during begins.reach_rises steady
+        (stands_by old with_book a b stands call.geometry refl refl call.goes ready (λ is. subst (λ n. n ≤ old.writes) (sym begins.accepted) (omega arith)) (λ is more. subst (λ n. 640 ≤ n) (sym begins.room) (omega arith))
+        (subst (λ n. old.commits ≤ n) (sym begins.tail) stands.counted)) (λ told s is. tt)
+        (λ told s is.
+            subst (λ (t : State). Shows with_book b t) (sym (ap (λ x. x.0) (step_begin (bounds_in (engine_sizes old)) s (was_closed s is))))
+            (shows_by old with_book b (accepted s command.Begin).0 (committed_in (now a)) (pages_in (engine_sizes old) (now a)) call.geometry (lines told).committed (lines told).current is.committed
+            (subst (λ (T : List Table). HoldsTables (engine_sizes old) (pages_in (engine_sizes old) (now a)) T) (current_closed s (was_closed s is)) is.seen) (begins.is_open, sym begins.accepted) is.commits))
+
+    pub begin_replies : Replies old a (Some command.Begin) (Ok reply.Fine)
+    begin_replies = λ told s is. ap (λ x. x.1) (step_begin (bounds_in (engine_sizes old)) s (was_closed s is))
+
+  module _ (open_now : old.book.is_open ≡ true) where
+    -- the machine's transaction
+    its : (s : State) → Shows old a s → (o : Open) × (s.transaction ≡ Some o) × (o.writes ≡ old.book.accepted)
+    its s is = some_open old.book s.transaction is.transaction open_now
+
+    abort_step_is : (s : State) → Shows old a s → step (bounds_in (engine_sizes old)) s (Some command.Abort) ≡ accepted s command.Abort
+    abort_step_is s is = let t = its s is in step_abort (bounds_in (engine_sizes old)) s t.0 t.1
+
+    commit_step_is : (s : State) → Shows old a s → step (bounds_in (engine_sizes old)) s (Some command.Commit) ≡ accepted s command.Commit
+    commit_step_is s is = let t = its s is in step_commit (bounds_in (engine_sizes old)) s t.0 t.1
+
+    closed_facts : {P : Type 0} → book.is_open ≡ false → book.is_open ≡ true → P
+    closed_facts closed is = let bad : false ≡ true = sym closed ∙ is in absurd (cc)
+
+    pub abort_does : StoreCall (IsCommitted a) old.book a book b → (lines : IsTrue a.told → AbortsLines old.book a book b) → Ends old.book book → IsReady book b → (IsSteady old.book a → IsSteady book b)
+        → Does (after_command old (Some command.Abort)) old a with_book b (Ok reply.Aborted)
+    abort_does call lines ends ready steady =
+        does_kept (after_command old (Some command.Abort)) old a with_book b (Ok reply.Aborted) stands call.geometry call.goes call.during ends.reach_rises steady
+        (stands_by old with_book a b stands call.geometry refl refl call.goes ready (λ is. closed_facts ends.is_open is) (λ is more. closed_facts ends.is_open is)
+        (let low : old.commits ≤ old.book.log.tail = stands.counted in let moved : book.log.tail ≡ old.book.log.tail + 1 = ends.tail in omega (arith, low, moved))) (λ told s is. tt)
+        (λ told s is.
+            subst (λ (t : State). Shows with_book b t) (sym (ap (λ x. x.0) (abort_step_is s is)))
+            (shows_by old with_book b (accepted s command.Abort).0 (committed_in (now a)) (committed_in (now a)) call.geometry (lines told).committed (lines told).current is.committed is.committed ends.is_open is.commits))
+
+    pub abort_replies : Replies old a (Some command.Abort) (Ok reply.Aborted)
+    abort_replies = λ told s is. ap (λ x. x.1) (abort_step_is s is)
+
+    -- one commit more
+    abbrev counted : Engine
+    counted = record old { book = book; commits = old.commits + 1 }
+
+    pub commit_does : StoreCall (IsOldOrNew old.book a) old.book a book b → (lines : IsTrue a.told → CommitsLines old.book a book b) → Ends old.book book → IsReady book b → (IsSteady old.book a → IsSteady book b)
+        → Does (after_command old (Some command.Commit)) old a counted b (Ok (reply.Committed (old.commits + 1)))
+    commit_does call lines ends ready steady =
+        does_chosen (after_command old (Some command.Commit)) old a counted b (Ok (reply.Committed (old.commits + 1))) stands call.geometry call.goes call.during ends.reach_rises steady
+        (stands_by old counted a b stands call.geometry refl refl call.goes ready (λ is. closed_facts ends.is_open is) (λ is more. closed_facts ends.is_open is)
+        (let low : old.commits ≤ old.book.log.tail = stands.counted in let moved : book.log.tail ≡ old.book.log.tail + 1 = ends.tail in omega (arith, low, moved))) (λ told s is. tt)
+        (λ told s is.
+            subst (λ (t : State). Shows counted b t) (sym (ap (λ x. x.0) (commit_step_is s is)))
+            (shows_by old counted b (accepted s command.Commit).0 (pages_in (engine_sizes old) (now a)) (pages_in (engine_sizes old) (now a)) call.geometry (lines told).committed (lines told).current is.seen is.seen ends.is_open
+            (ap (λ n. n + 1) is.commits)))
+        (λ s is. ap (λ x. x.0.tables) (commit_step_is s is))
+
+    pub commit_stopped : {T : Type 0} (r : Result T Stop) (why : Stop) → IsErr r × IsErrAnd r (λ found. found ≡ why) → StoreCall (IsOldOrNew old.book a) old.book a book b → IsFault why
+        → Does (after_command old (Some command.Commit)) old a with_book b r
+    commit_stopped (Ok v) why is call fault = let none : false ≡ true = is.0 in absurd (cc)
+    commit_stopped (Err found) why is call fault =
+        does_chosen (after_command old (Some command.Commit)) old a with_book b (Err found) stands call.geometry call.goes call.during tt (λ steady. tt) tt (λ told s shows. subst IsFault (sym is.1) fault) (λ told s shows. tt)
+        (λ s is. ap (λ x. x.0.tables) (commit_step_is s is))
+
+    pub commit_replies : Replies old a (Some command.Commit) (Ok (reply.Committed (old.commits + 1)))
+    commit_replies = λ told s is. ap (λ x. x.1) (commit_step_is s is) ∙ ap (λ n. reply.Committed (n + 1) ∷ []) (sym is.commits)
+
+  module _ (closed : old.book.is_open ≡ false) where
+    stays_closed : (s : State) → Shows old a s → s.transaction ≡ None
+    stays_closed s is = none_open old.book s.transaction is.transaction closed
+
+    pub checkpoint_does : StoreCall (IsCommitted a) old.book a book b → (lines : IsTrue a.told → KeepsLines old.book a book b) → Checkpoints old.book book → IsReady book b → (IsSteady old.book a → IsSteady book b)
+        → Does (after_command old (Some command.Checkpoint)) old a with_book b (Ok reply.Fine)
+    checkpoint_does call lines made ready steady =
+        does_kept (after_command old (Some command.Checkpoint)) old a with_book b (Ok reply.Fine) stands call.geometry call.goes call.during
+        (let empty : book.room ≡ 0 = made.room in let same : book.log.tail ≡ old.book.log.tail = made.tail in omega (arith, empty, same)) steady
+        (stands_by old with_book a b stands call.geometry refl refl call.goes ready (λ is. let bad : false ≡ true = sym made.is_open ∙ is in absurd (cc)) (λ is more. let bad : false ≡ true = sym made.is_open ∙ is in absurd (cc))
+        (subst (λ n. old.commits ≤ n) (sym made.tail) stands.counted)) (λ told s is. tt)
+        (λ told s is.
+            subst (λ (t : State). Shows with_book b t) (sym (ap (λ x. x.0) (step_checkpoint (bounds_in (engine_sizes old)) s (stays_closed s is))))
+            (shows_by old with_book b s (committed_in (now a)) (pages_in (engine_sizes old) (now a)) call.geometry (lines told).committed (lines told).current is.committed is.seen
+            (closed_transaction book s.transaction (stays_closed s is) made.is_open) is.commits))
+
+    pub checkpoint_replies : Replies old a (Some command.Checkpoint) (Ok reply.Fine)
+    checkpoint_replies = λ told s is. ap (λ x. x.1) (step_checkpoint (bounds_in (engine_sizes old)) s (stays_closed s is))
+
+-- nothing is done
+pub does_still : {T : Type 0} (after : State → State) (old : Engine) (a : Standing) (value : T) → StandsFor old a → (IsTrue a.told → (s : State) → Shows old a s → s ≡ after s) → Does after old a old a (Ok value)
+does_still after old a value stands same =
+    does_same (λ s. s) after old a old a (Ok value)
+    (does_kept (λ s. s) old a old a (Ok value) stands refl (Goes-refl a) (λ told steady m low high. absurd (omega (arith, low, high))) (omega arith) (λ steady. steady) stands (λ told s is. tt) (λ told s is. is)) same
+
+pub does_nothing : {T : Type 0} (after : State → State) (old : Engine) (a : Standing) (book : Book) (b : Standing) (value : T) → StandsFor old a → book ≡ old.book → b ≡ a
+    → (IsTrue a.told → (s : State) → Shows old a s → s ≡ after s) → Does after old a (record old { book = book }) b (Ok value)
+does_nothing after old a book b value stands same_book same_device same =
+    subst (λ (x : Book). Does after old a (record old { book = x }) b (Ok value)) (sym same_book)
+    (subst (λ (x : Standing). Does after old a old x (Ok value)) (sym same_device) (does_still after old a value stands same))

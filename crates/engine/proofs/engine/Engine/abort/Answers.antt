@@ -1,0 +1,25 @@
+-- The store's call, as the plain machine sees it.
+use Rattle.engine.proofs.TransactionLaws.{abort_does, abort_replies, does_stopped, nvm_fault}
+use Rattle.std.proofs.Common.{inr}
+use Rattle.engine.proofs.CauseLaws.{stops_abort}
+use Rattle.engine.proofs.engine.Engine.abort.Goals as goal
+
+pub returns-in_err-abort-clause-does : goal.returns-in_err-abort-clause-does
+returns-in_err-abort-clause-does g c =
+    does_stopped _ c.args.self.now (g.W.Devices.standing c.args.world.now) (record c.args.self.now { book = c.abort.new.book }) (g.W.Devices.standing c.abort.new.dev) c.from_residual.result c.in_err-abort.field-0.0
+    c.from_residual.ensures c.requires.ready c.in_err-abort.ensures.call.geometry c.in_err-abort.ensures.call.goes c.in_err-abort.ensures.call.during
+    (λ told s shows. nvm_fault c.in_err-abort.field-0.0 (c.in_err-abort.ensures.sound told))
+
+pub returns-clause-does : goal.returns-clause-does
+returns-clause-does g c =
+    abort_does c.args.self.now (g.W.Devices.standing c.args.world.now) c.requires.ready c.abort.new.book (g.W.Devices.standing c.abort.new.dev) c.requires.is_open c.in_ok-abort.ensures.call
+    c.in_ok-abort.ensures.lines c.in_ok-abort.ensures.ends c.in_ok-abort.ensures.ready c.in_ok-abort.ensures.steady
+
+pub returns-clause-replies : goal.returns-clause-replies
+returns-clause-replies g c =
+    abort_replies c.args.self.now (g.W.Devices.standing c.args.world.now) c.requires.ready c.abort.new.book (g.W.Devices.standing c.abort.new.dev) c.requires.is_open
+
+pub returns-in_err-abort-clause-cause : goal.returns-in_err-abort-clause-cause
+returns-in_err-abort-clause-cause g c =
+    stops_abort _ c.args.self.now.book c.abort.new.book (g.W.Devices.standing c.args.world.now) (g.W.Devices.standing c.abort.new.dev) c.from_residual.result c.in_err-abort.field-0.0 c.from_residual.ensures
+    (λ e h. inr (inr (inr h))) c.in_err-abort.ensures.cause

@@ -1,0 +1,35 @@
+use Rattle.std.proofs.Common.{◌≡◌, ◌∙◌, ap, refl, rules, Ok, List}
+use Rattle.line_pages.proofs.StandingLaws.{page_keeps}
+use Rattle.table_store.specs.Catalog.{Table}
+use Rattle.table_store.specs.Stored.{is_known}
+use Rattle.script.specs.Machine.{State}
+use Rattle.engine.proofs.CommandLaws.{on_device, does_fails, does_stays, cause_fails, fault_is, store_shown}
+use Rattle.engine.proofs.AnswerLaws.{put_spent}
+use Rattle.engine.proofs.engine.Engine.knows.Goals as goal
+
+pub returns-in_err-known-clause-does : goal.returns-in_err-known-clause-does
+returns-in_err-known-clause-does g c =
+    let a = g.W.Devices.standing c.args.world.now in
+    on_device g.W.Devices.standing (λ (s : State). s) c.args.self.now a _ _ c.has_table.new.pages.dev.now c.from_residual.result (search rules)
+    (does_fails c.args.self.now a (g.W.Devices.standing c.has_table.new.pages.dev.now) c.has_table.new.pages.book.now c.has_table.new.work c.requires
+    (rw (c.over-store.ensures.same.0, c.over-store.ensures.same.1) at c.has_table.ensures.continues) (ap (λ x. (g.W.Devices.standing x).clock) c.over-store.ensures.before)
+    _ c.from_residual.result c.in_err-known.field-0.0 c.from_residual.ensures
+    (λ told s shows. fault_is c.in_err-known.field-0.0 ((rw (c.over-store.ensures.same.0, c.over-store.ensures.same.1) at c.in_err-known.ensures.sound) told (store_shown c.args.self.now a s c.requires shows))))
+
+pub returns-in_err-known-clause-cause : goal.returns-in_err-known-clause-cause
+returns-in_err-known-clause-cause g c =
+    cause_fails g.W.Devices.standing _ c.args.self.now.book c.has_table.new.pages.book.now (g.W.Devices.standing c.args.world.now) _ c.has_table.new.pages.dev.now _ _ _ _ _ _ c.from_residual.result c.in_err-known.field-0.0 (search rules) c.from_residual.ensures
+    (rw (c.over-store.ensures.same.0, c.over-store.ensures.same.1) at c.in_err-known.ensures.cause)
+
+pub returns-clause-does : goal.returns-clause-does
+returns-clause-does g c =
+    let a = g.W.Devices.standing c.args.world.now in
+    on_device g.W.Devices.standing (λ (s : State). s) c.args.self.now a _ _ c.has_table.new.pages.dev.now (Ok c.in_ok-known.known) (search rules)
+    (does_stays c.args.self.now a (g.W.Devices.standing c.has_table.new.pages.dev.now) c.has_table.new.pages.book.now c.has_table.new.work c.requires
+    (rw (c.over-store.ensures.same.0, c.over-store.ensures.same.1) at c.has_table.ensures.continues) (ap (λ x. (g.W.Devices.standing x).clock) c.over-store.ensures.before)
+    c.in_ok-known.ensures.ready.0 (page_keeps (rw (c.over-store.ensures.same.0, c.over-store.ensures.same.1) at c.in_ok-known.ensures.reads)) (λ (s : State). s) c.in_ok-known.known
+    (rw (c.over-store.ensures.same.0, c.over-store.ensures.same.1) at c.in_ok-known.ensures.steady) (λ told s shows. refl))
+
+pub returns-clause-known : goal.returns-clause-known
+returns-clause-known g c = λ told s shows.
+    (rw (c.over-store.ensures.same.0, c.over-store.ensures.same.1) at c.in_ok-known.ensures.known) told ∙ ap (λ (T : List Table). is_known c.args.name.now T) shows.seen.tables_are

@@ -1,0 +1,20 @@
+use Rattle.std.proofs.Common.{ap, sym, Some, arith, false}
+use Rattle.table_store.specs.Stored.{is_known}
+use Rattle.script.specs.Machine.{State, current}
+use Rattle.script.specs.declared.command.Command.TheVariants as command
+use Rattle.script.specs.declared.command.Reply.TheVariants as reply
+use Rattle.engine.specs.Commands.{reason_of}
+use Rattle.engine.specs.Steps.{after_command}
+use Rattle.engine.proofs.DoesLaws.{does_same}
+use Rattle.engine.proofs.CommandLaws.{replies_by}
+use Rattle.engine.proofs.AnswerLaws.{put_spent}
+use Rattle.engine.proofs.engine.Engine.put.Goals as goal
+
+pub returns-then-accepted-self-clause-does : goal.returns-then-accepted-self-clause-does
+returns-then-accepted-self-clause-does g c =
+    does_same (λ (s : State). s) (after_command c.args.self.now (Some (command.Put c.args.name.now c.args.key c.args.value.now))) c.args.self.now (g.W.Devices.standing c.args.world.now) c.refuse_write.new.self (g.W.Devices.standing c.refuse_write.new.world) c.refuse_write.result
+    c.refuse_write.ensures.does (λ told s shows. sym (ap (λ p. p.0) (put_spent c.args.self.now (g.W.Devices.standing c.args.world.now) c.requires.stands s shows c.requires.is_open (omega (arith, c.if-accepted-self.true, c.accepted.ensures)) c.args.name.now c.args.key c.args.value.now)))
+
+pub returns-then-accepted-self-clause-replies : goal.returns-then-accepted-self-clause-replies
+returns-then-accepted-self-clause-replies g c = λ told s shows.
+    replies_by c.refuse_write.result (reply.Refused (reason_of (is_known c.args.name.now (current s)) false)) _ (ap (λ p. p.1) (put_spent c.args.self.now (g.W.Devices.standing c.args.world.now) c.requires.stands s shows c.requires.is_open (omega (arith, c.if-accepted-self.true, c.accepted.ensures)) c.args.name.now c.args.key c.args.value.now)) (c.refuse_write.ensures.refused told s shows)

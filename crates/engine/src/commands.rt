@@ -1,0 +1,236 @@
+//! What commands on tables do.
+ghost use Rattle.std.specs.Prelude.{◌≡◌, ◌<◌, ◌≤◌, true, Some, IsTrue, IfOk};
+ghost use Rattle.line_pages.specs.Standing.{HasCause};
+ghost use Rattle.table_store.specs.Catalog.{IsCatalogDamage};
+ghost use Rattle.table_store.specs.Created.{IsCreateDamage};
+ghost use Rattle.table_store.specs.Stored.{is_known, IsLookupDamage};
+ghost use Rattle.table_store.specs.Changed.{IsChangeDamage};
+ghost use Rattle.script.specs.Machine.{State, current as seen_tables};
+ghost use Rattle.script.specs.Script.{machine};
+ghost use Rattle.script.specs.declared.command.Command.TheVariants.{Create, Put, Del, Get, Scan as ScanRows};
+ghost use Rattle.engine.specs.Commands.{shown, reply_of, reason_of};
+ghost use Rattle.engine.specs.Holds.{bounds_in};
+ghost use Rattle.engine.specs.Engine.{engine_sizes, StandsFor, Shows};
+ghost use Rattle.engine.specs.Steps.{Does, Replies, after_command, step_replies, IsBegun};
+
+use crate::engine::Engine;
+use crate::scan::{Scan, Step};
+use devices::{Devices, World};
+use line_pages::Stop;
+use script::{Reason, Reply};
+use slotted_page::Value;
+use table_store::{Created, Deleted, Got, Name, Stored, has_table};
+use transactions::Store;
+
+/// The reply to a look-up.
+fn reply_to(got: Got) -> Reply
+    ensures { result ≡ reply_of got }
+{
+    match got {
+        Got::Found(value) => Reply::Found(value),
+        Got::Absent => Reply::Absent,
+        Got::NoTable => Reply::Refused(Reason::Table),
+    }
+}
+
+/// Why a write is refused that would be one too many, its name being known or new.
+fn spent_reason(known: bool, creates: bool) -> Reason
+    ensures { result ≡ reason_of known creates }
+{
+    match (known, creates) {
+        (true, true) | (false, false) => Reason::Table,
+        (true, false) | (false, true) => Reason::Writes,
+    }
+}
+
+impl Engine {
+    /// Whether a table has the name.
+    fn knows<W: World>(&mut self, world: &mut W, name: &Name) -> Result<bool, Stop>
+        requires { StandsFor self.old (W.Devices.standing world.old) }
+        ensures does { Does (λ s. s) self.old (W.Devices.standing world.old) self.new (W.Devices.standing world.new) result }
+        ensures known { IsTrue (W.Devices.standing world.old).told → (s : State) → Shows self.old (W.Devices.standing world.old) s → IfOk result (λ known. known ≡ is_known name.now (seen_tables s)) }
+        ensures cause { HasCause (λ e. IsTrue (W.Devices.standing world.old).told → IsCatalogDamage self.old.limits (shown self.old (W.Devices.standing world.old)).count (shown self.old (W.Devices.standing world.old)).current self.new.work.page e) (shown self.old (W.Devices.standing world.old)) (shown self.new (W.Devices.standing world.new)) result }
+    {
+        let mut store = Store::over(&mut self.book, world);
+        let known = has_table(&mut store, &self.limits, name, &mut self.work)?;
+        Ok(known)
+    }
+
+    /// Refuses a write of a transaction that has had all its writes: for its name, if that is not as it must be.
+    fn refuse_write<W: World>(
+        &mut self,
+        world: &mut W,
+        name: &Name,
+        creates: bool,
+    ) -> Result<Reply, Stop>
+        requires { StandsFor self.old (W.Devices.standing world.old) }
+        ensures does { Does (λ s. s) self.old (W.Devices.standing world.old) self.new (W.Devices.standing world.new) result }
+        ensures refused { IsTrue (W.Devices.standing world.old).told → (s : State) → Shows self.old (W.Devices.standing world.old) s → IfOk result (λ reply. reply ≡ Reply.Refused (reason_of (is_known name.now (seen_tables s)) creates)) }
+        ensures cause { HasCause (λ e. IsTrue (W.Devices.standing world.old).told → IsCatalogDamage self.old.limits (shown self.old (W.Devices.standing world.old)).count (shown self.old (W.Devices.standing world.old)).current self.new.work.page e) (shown self.old (W.Devices.standing world.old)) (shown self.new (W.Devices.standing world.new)) result }
+    {
+        let known = self.knows(world, name)?;
+        Ok(Reply::Refused(spent_reason(known, creates)))
+    }
+
+    /// `get`: the value at a key.
+    pub(crate) fn get<W: World>(
+        &mut self,
+        world: &mut W,
+        name: &Name,
+        key: u64,
+    ) -> Result<Reply, Stop>
+        requires { StandsFor self.old (W.Devices.standing world.old) }
+        ensures does { Does (after_command self.old (Some (Get name.now key))) self.old (W.Devices.standing world.old) self.new (W.Devices.standing world.new) result }
+        ensures replies { Replies self.old (W.Devices.standing world.old) (Some (Get name.now key)) result }
+        ensures cause { HasCause (λ e. IsTrue (W.Devices.standing world.old).told → IsLookupDamage self.old.limits (shown self.old (W.Devices.standing world.old)).count (shown self.old (W.Devices.standing world.old)).current self.new.work.page e) (shown self.old (W.Devices.standing world.old)) (shown self.new (W.Devices.standing world.new)) result }
+    {
+        let mut store = Store::over(&mut self.book, world);
+        let got = table_store::get(&mut store, &self.limits, name, key, &mut self.work)?;
+        Ok(reply_to(got))
+    }
+
+    /// `scan`: the rows from one key to another, which `next_row` gives.
+    pub(crate) fn scan<W: World>(
+        &mut self,
+        world: &mut W,
+        name: Name,
+        from: u64,
+        to: u64,
+    ) -> Result<Step, Stop>
+        requires { StandsFor self.old (W.Devices.standing world.old) }
+        ensures does { Does (after_command self.old (Some (ScanRows name from to))) self.old (W.Devices.standing world.old) self.new (W.Devices.standing world.new) result }
+        ensures replies { IsTrue (W.Devices.standing world.old).told → (s : State) → Shows self.old (W.Devices.standing world.old) s → IfOk result (λ step. ((machine (bounds_in (engine_sizes self.old))).step s (Some (ScanRows name from to))).1 ≡ step_replies step (seen_tables s)) }
+        ensures begun { IfOk result IsBegun }
+        ensures cause { HasCause (λ e. IsTrue (W.Devices.standing world.old).told → IsCatalogDamage self.old.limits (shown self.old (W.Devices.standing world.old)).count (shown self.old (W.Devices.standing world.old)).current self.new.work.page e) (shown self.old (W.Devices.standing world.old)) (shown self.new (W.Devices.standing world.new)) result }
+    {
+        if !self.knows(world, &name)? {
+            return Ok(Step::Said(Reply::Refused(Reason::Table)));
+        }
+        Ok(Step::Scanning(Scan {
+            name,
+            from,
+            to,
+            count: 0,
+            over: false,
+        }))
+    }
+
+    /// `create`: a table without rows, in an open transaction.
+    pub(crate) fn create<W: World>(&mut self, world: &mut W, name: &Name) -> Result<Reply, Stop>
+        requires stands { StandsFor self.old (W.Devices.standing world.old) }
+        requires is_open { self.old.book.is_open ≡ true }
+        ensures does { Does (after_command self.old (Some (Create name.now))) self.old (W.Devices.standing world.old) self.new (W.Devices.standing world.new) result }
+        ensures replies { Replies self.old (W.Devices.standing world.old) (Some (Create name.now)) result }
+        ensures cause { HasCause (λ e. IsTrue (W.Devices.standing world.old).told → IsCreateDamage self.old.limits (shown self.old (W.Devices.standing world.old)).count (shown self.old (W.Devices.standing world.old)).current self.new.work.page e) (shown self.old (W.Devices.standing world.old)) (shown self.new (W.Devices.standing world.new)) result }
+    {
+        if self.book.accepted() >= self.writes {
+            return self.refuse_write(world, name, true);
+        }
+        self.create_table(world, name)
+    }
+
+    /// The same where the transaction may have one more write.
+    fn create_table<W: World>(&mut self, world: &mut W, name: &Name) -> Result<Reply, Stop>
+        requires stands { StandsFor self.old (W.Devices.standing world.old) }
+        requires is_open { self.old.book.is_open ≡ true }
+        requires more { self.old.book.accepted < self.old.writes }
+        ensures does { Does (after_command self.old (Some (Create name.now))) self.old (W.Devices.standing world.old) self.new (W.Devices.standing world.new) result }
+        ensures replies { Replies self.old (W.Devices.standing world.old) (Some (Create name.now)) result }
+        ensures cause { HasCause (λ e. IsTrue (W.Devices.standing world.old).told → IsCreateDamage self.old.limits (shown self.old (W.Devices.standing world.old)).count (shown self.old (W.Devices.standing world.old)).current self.new.work.page e) (shown self.old (W.Devices.standing world.old)) (shown self.new (W.Devices.standing world.new)) result }
+    {
+        let mut store = Store::over(&mut self.book, world);
+        match table_store::create(&mut store, &self.limits, name, &mut self.work)? {
+            Created::Made => {
+                store.next_write();
+                Ok(Reply::Fine)
+            }
+            Created::Present => Ok(Reply::Refused(Reason::Table)),
+            Created::NoSlot => Ok(Reply::Refused(Reason::Tables)),
+        }
+    }
+
+    /// `put`: a value at a key, in an open transaction.
+    pub(crate) fn put<W: World>(
+        &mut self,
+        world: &mut W,
+        name: &Name,
+        key: u64,
+        value: &Value,
+    ) -> Result<Reply, Stop>
+        requires stands { StandsFor self.old (W.Devices.standing world.old) }
+        requires is_open { self.old.book.is_open ≡ true }
+        ensures does { Does (after_command self.old (Some (Put name.now key value.now))) self.old (W.Devices.standing world.old) self.new (W.Devices.standing world.new) result }
+        ensures replies { Replies self.old (W.Devices.standing world.old) (Some (Put name.now key value.now)) result }
+        ensures cause { HasCause (IsChangeDamage (W.Devices.standing world.old).told self.old.limits (shown self.old (W.Devices.standing world.old)).count (shown self.old (W.Devices.standing world.old)).current self.new.work.page) (shown self.old (W.Devices.standing world.old)) (shown self.new (W.Devices.standing world.new)) result }
+    {
+        if self.book.accepted() >= self.writes {
+            return self.refuse_write(world, name, false);
+        }
+        self.put_row(world, name, key, value)
+    }
+
+    /// The same where the transaction may have one more write.
+    fn put_row<W: World>(
+        &mut self,
+        world: &mut W,
+        name: &Name,
+        key: u64,
+        value: &Value,
+    ) -> Result<Reply, Stop>
+        requires stands { StandsFor self.old (W.Devices.standing world.old) }
+        requires is_open { self.old.book.is_open ≡ true }
+        requires more { self.old.book.accepted < self.old.writes }
+        ensures does { Does (after_command self.old (Some (Put name.now key value.now))) self.old (W.Devices.standing world.old) self.new (W.Devices.standing world.new) result }
+        ensures replies { Replies self.old (W.Devices.standing world.old) (Some (Put name.now key value.now)) result }
+        ensures cause { HasCause (IsChangeDamage (W.Devices.standing world.old).told self.old.limits (shown self.old (W.Devices.standing world.old)).count (shown self.old (W.Devices.standing world.old)).current self.new.work.page) (shown self.old (W.Devices.standing world.old)) (shown self.new (W.Devices.standing world.new)) result }
+    {
+        let mut store = Store::over(&mut self.book, world);
+        match table_store::put(&mut store, &self.limits, name, key, value, &mut self.work)? {
+            Stored::Done => {
+                store.next_write();
+                Ok(Reply::Fine)
+            }
+            Stored::TableFull => Ok(Reply::Refused(Reason::Full)),
+            Stored::NoTable => Ok(Reply::Refused(Reason::Table)),
+        }
+    }
+
+    /// `del`: no row with the key, in an open transaction.
+    pub(crate) fn del<W: World>(
+        &mut self,
+        world: &mut W,
+        name: &Name,
+        key: u64,
+    ) -> Result<Reply, Stop>
+        requires stands { StandsFor self.old (W.Devices.standing world.old) }
+        requires is_open { self.old.book.is_open ≡ true }
+        ensures does { Does (after_command self.old (Some (Del name.now key))) self.old (W.Devices.standing world.old) self.new (W.Devices.standing world.new) result }
+        ensures replies { Replies self.old (W.Devices.standing world.old) (Some (Del name.now key)) result }
+        ensures cause { HasCause (IsChangeDamage (W.Devices.standing world.old).told self.old.limits (shown self.old (W.Devices.standing world.old)).count (shown self.old (W.Devices.standing world.old)).current self.new.work.page) (shown self.old (W.Devices.standing world.old)) (shown self.new (W.Devices.standing world.new)) result }
+    {
+        if self.book.accepted() >= self.writes {
+            return self.refuse_write(world, name, false);
+        }
+        self.del_row(world, name, key)
+    }
+
+    /// The same where the transaction may have one more write.
+    fn del_row<W: World>(&mut self, world: &mut W, name: &Name, key: u64) -> Result<Reply, Stop>
+        requires stands { StandsFor self.old (W.Devices.standing world.old) }
+        requires is_open { self.old.book.is_open ≡ true }
+        requires more { self.old.book.accepted < self.old.writes }
+        ensures does { Does (after_command self.old (Some (Del name.now key))) self.old (W.Devices.standing world.old) self.new (W.Devices.standing world.new) result }
+        ensures replies { Replies self.old (W.Devices.standing world.old) (Some (Del name.now key)) result }
+        ensures cause { HasCause (IsChangeDamage (W.Devices.standing world.old).told self.old.limits (shown self.old (W.Devices.standing world.old)).count (shown self.old (W.Devices.standing world.old)).current self.new.work.page) (shown self.old (W.Devices.standing world.old)) (shown self.new (W.Devices.standing world.new)) result }
+    {
+        let mut store = Store::over(&mut self.book, world);
+        match table_store::delete(&mut store, &self.limits, name, key, &mut self.work)? {
+            Deleted::Done => {
+                store.next_write();
+                Ok(Reply::Fine)
+            }
+            Deleted::Absent => Ok(Reply::Absent),
+            Deleted::NoTable => Ok(Reply::Refused(Reason::Table)),
+        }
+    }
+}

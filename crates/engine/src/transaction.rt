@@ -1,0 +1,87 @@
+//! The commands that open and end transactions, and those that only move what is stored.
+ghost use Rattle.std.specs.Prelude.{◌≡◌, ◌+◌, ◌^◌, ◌≤◌, true, false, Some, IsTrue};
+ghost use Rattle.script.specs.declared.command.Command.TheVariants as command;
+
+use crate::engine::Engine;
+use crate::storing;
+use devices::{Devices, World};
+use line_pages::Stop;
+use script::Reply;
+
+impl Engine {
+    ghost use Rattle.engine.specs.Engine.{StandsFor};
+    ghost use Rattle.engine.specs.Causes.{Stops};
+    ghost use Rattle.engine.specs.Steps.{Does, Replies, after_command};
+
+    /// Opens a transaction.
+    pub(crate) fn begin<W: World>(&mut self, world: &mut W) -> Result<Reply, Stop>
+        requires ready { StandsFor self.old (W.Devices.standing world.old) }
+        requires closed { self.old.book.is_open ≡ false }
+        requires tail { self.old.book.log.tail ≤ 2 ^ 61 + 2 ^ 46 }
+        ensures does { Does (after_command self.old (Some command.Begin)) self.old (W.Devices.standing world.old) self.new (W.Devices.standing world.new) result }
+        ensures replies { Replies self.old (W.Devices.standing world.old) (Some command.Begin) result }
+        ensures cause { Stops self.old (W.Devices.standing world.old) self.new (W.Devices.standing world.new) result }
+    {
+        storing::begin(&mut self.book, world)?;
+        Ok(Reply::Fine)
+    }
+
+    /// Ends the open transaction: its writes stand, and are counted as one commit.
+    pub(crate) fn commit<W: World>(&mut self, world: &mut W) -> Result<Reply, Stop>
+        requires ready { StandsFor self.old (W.Devices.standing world.old) }
+        requires is_open { self.old.book.is_open ≡ true }
+        ensures does { Does (after_command self.old (Some command.Commit)) self.old (W.Devices.standing world.old) self.new (W.Devices.standing world.new) result }
+        ensures replies { Replies self.old (W.Devices.standing world.old) (Some command.Commit) result }
+        ensures cause { Stops self.old (W.Devices.standing world.old) self.new (W.Devices.standing world.new) result }
+    {
+        storing::commit(&mut self.book, world)?;
+        self.commits += 1;
+        Ok(Reply::Committed(self.commits))
+    }
+
+    /// Ends the open transaction: its writes are dropped.
+    pub(crate) fn abort<W: World>(&mut self, world: &mut W) -> Result<Reply, Stop>
+        requires ready { StandsFor self.old (W.Devices.standing world.old) }
+        requires is_open { self.old.book.is_open ≡ true }
+        ensures does { Does (after_command self.old (Some command.Abort)) self.old (W.Devices.standing world.old) self.new (W.Devices.standing world.new) result }
+        ensures replies { Replies self.old (W.Devices.standing world.old) (Some command.Abort) result }
+        ensures cause { Stops self.old (W.Devices.standing world.old) self.new (W.Devices.standing world.new) result }
+    {
+        storing::abort(&mut self.book, world)?;
+        Ok(Reply::Aborted)
+    }
+
+    /// Empties the log. No table changes.
+    pub(crate) fn checkpoint<W: World>(&mut self, world: &mut W) -> Result<Reply, Stop>
+        requires ready { StandsFor self.old (W.Devices.standing world.old) }
+        requires closed { self.old.book.is_open ≡ false }
+        ensures does { Does (after_command self.old (Some command.Checkpoint)) self.old (W.Devices.standing world.old) self.new (W.Devices.standing world.new) result }
+        ensures replies { Replies self.old (W.Devices.standing world.old) (Some command.Checkpoint) result }
+        ensures cause { Stops self.old (W.Devices.standing world.old) self.new (W.Devices.standing world.new) result }
+    {
+        storing::checkpoint(&mut self.book, world)?;
+        Ok(Reply::Fine)
+    }
+
+    /// Drains a block of the log. No table changes.
+    pub(crate) fn drain<W: World>(&mut self, world: &mut W) -> Result<Reply, Stop>
+        requires { StandsFor self.old (W.Devices.standing world.old) }
+        ensures does { Does (after_command self.old (Some command.Drain)) self.old (W.Devices.standing world.old) self.new (W.Devices.standing world.new) result }
+        ensures replies { Replies self.old (W.Devices.standing world.old) (Some command.Drain) result }
+        ensures cause { Stops self.old (W.Devices.standing world.old) self.new (W.Devices.standing world.new) result }
+    {
+        storing::drain(&mut self.book, world)?;
+        Ok(Reply::Fine)
+    }
+
+    /// Cleans up to so many frames. No table changes.
+    pub(crate) fn clean<W: World>(&mut self, world: &mut W, frames: u32) -> Result<Reply, Stop>
+        requires { StandsFor self.old (W.Devices.standing world.old) }
+        ensures does { Does (after_command self.old (Some (command.Clean frames))) self.old (W.Devices.standing world.old) self.new (W.Devices.standing world.new) result }
+        ensures replies { Replies self.old (W.Devices.standing world.old) (Some (command.Clean frames)) result }
+        ensures cause { Stops self.old (W.Devices.standing world.old) self.new (W.Devices.standing world.new) result }
+    {
+        storing::clean(&mut self.book, world, frames)?;
+        Ok(Reply::Fine)
+    }
+}
