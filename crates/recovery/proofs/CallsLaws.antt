@@ -1,10 +1,10 @@
 -- How lists of device calls join: none, and one more in a loop.
-use Rattle.std.proofs.Common.{◌≡◌, ℕ, zero, suc, ◌+◌, ◌-◌, ◌<◌, ◌≤◌, List, [], ◌∷◌, ◌++◌, refl, sym, ap, ◌∙◌, subst, arith, IsTrue, Result, Ok, Err}
+use Rattle.std.proofs.Common.{◌≡◌, ℕ, zero, suc, ◌+◌, ◌-◌, ◌<◌, List, [], ◌∷◌, ◌++◌, refl, sym, ap, ◌∙◌, subst, arith, Result, Ok, Err}
 use Rattle.std.specs.Prelude.{IsErr}
 use Rattle.nvm_model.specs.declared.line.Line.{Line}
-use Rattle.devices.specs.State.{State, Call}
+use Rattle.devices.specs.State.{Call}
 use Rattle.devices.specs.State.Call.{flush}
-use Rattle.devices.specs.World.{Standing, Goes, MakesAll, Makes, now}
+use Rattle.devices.specs.World.{Standing, Goes, MakesAll, Makes}
 use Rattle.devices.proofs.CallLaws.{makes_one, makes_then, makes_stop}
 use Rattle.devices.proofs.JoinLaws.{Moments-at}
 use Rattle.recovery.specs.Calls.{flush_calls, line_put}

@@ -1,14 +1,14 @@
 -- A store that fits its devices is opened, but for a fault or want of memory.
-use Rattle.std.proofs.Common.{◌≡◌, ◌⊎◌, ℕ, ◌-◌, ◌<◌, ◌≤◌, ◌^◌, Bool, true, false, not, ◌||◌, eqb, ltb, cond, List, refl, sym, ap, ◌∙◌, subst, inl, inr, arith, slice_index, IsTrue, Option, Some, None, Result, Ok, Err}
+use Rattle.std.proofs.Common.{◌≡◌, ◌⊎◌, ℕ, ◌-◌, ◌≤◌, ◌^◌, Bool, false, not, ◌||◌, eqb, ltb, cond, List, refl, sym, ap, ◌∙◌, inl, inr, arith, slice_index, IsTrue, Some, None, Result, Ok, Err}
 use Rattle.std.proofs.lemmas.Bool.{le-ltb, eq-eqb}
 use Rattle.std.specs.Prelude.{IfErr}
 use Rattle.devices.specs.State.{current}
 use Rattle.devices.specs.World.{Standing, now}
 use Rattle.line_pages.specs.declared.stop.Evidence.{Evidence}
 use Rattle.line_pages.specs.declared.stop.Evidence.TheVariants as evidence
-use Rattle.nvm_layout.specs.Opening.{Finding, finding, super_from, sizes_from, words_of, IsEvidence}
+use Rattle.nvm_layout.specs.Opening.{Finding, finding, super_from, sizes_from, IsEvidence}
 use Rattle.nvm_layout.specs.Opening.Finding.{another, too_small, ended, sound, fails}
-use Rattle.store_meaning.specs.Layout.{Sizes, is_allowed, nvm_lines, ssd_blocks, ring_lines}
+use Rattle.store_meaning.specs.Layout.{is_allowed, nvm_lines, ssd_blocks, ring_lines}
 use Rattle.store_meaning.specs.Format.{magic, LogFault}
 use Rattle.store_meaning.specs.Format.Format.{whole_lines}
 use Rattle.store_meaning.specs.Recovered.{Super, super_of, image_log_check}

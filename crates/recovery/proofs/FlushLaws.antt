@@ -1,10 +1,9 @@
 -- What flushed lines and a line that is put leave.
-use Rattle.std.proofs.Common.{◌≡◌, ◌≢◌, ◌⊎◌, ℕ, zero, suc, ◌+◌, ◌<◌, ◌≤◌, List, [], ◌∷◌, ◌++◌, take, refl, sym, ap, ◌∙◌, subst, inl, inr, arith, slice_index}
-use Rattle.std.proofs.lemmas.Bool.{cases_eq, cases_lt}
+use Rattle.std.proofs.Common.{◌≡◌, ◌≢◌, ℕ, zero, suc, ◌+◌, ◌<◌, ◌≤◌, List, [], ◌∷◌, ◌++◌, take, refl, sym, ap, ◌∙◌, subst, inl, inr, arith, slice_index}
+use Rattle.std.proofs.lemmas.Bool.{cases_eq}
 use Rattle.nvm_model.specs.declared.line.Line.{Line}
 use Rattle.nvm_model.specs.Word.{Word, IsSingle, marked, stored, trimmed}
-use Rattle.devices.specs.State.{State, Call, after_all, flushed, fenced, line_stored}
-use Rattle.devices.specs.State.Call.{flush, store_line, fence}
+use Rattle.devices.specs.State.{State, Call, after_all, flushed, line_stored}
 use Rattle.devices.specs.Growth.{AreWithin}
 use Rattle.devices.proofs.StateLaws.{flushed_same, flushed_other, line_stored_same, line_stored_other}
 use Rattle.recovery.specs.Calls.{line_put, flush_calls}

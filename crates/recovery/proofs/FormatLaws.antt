@@ -1,14 +1,13 @@
 -- A format: no magic word while all else is made durable, and then the magic word.
-use Rattle.std.proofs.Common.{◌≡◌, ◌≢◌, ◌⊎◌, ℕ, zero, suc, ◌+◌, ◌-◌, ◌*◌, ◌<◌, ◌≤◌, true, ◌&&◌, cond, ltb, List, [], ◌∷◌, ◌++◌, refl, sym, ap, ◌∙◌, subst, inl, inr, arith, false, None, IsTrue, Result, Ok, Err}
-use Rattle.std.proofs.lemmas.Bool.{and_parts, le-ltb, lt-ltb, cond-true}
+use Rattle.std.proofs.Common.{◌≡◌, ◌≢◌, ◌⊎◌, ℕ, zero, suc, ◌+◌, ◌-◌, ◌*◌, ◌<◌, ◌≤◌, true, ◌&&◌, ltb, List, [], ◌∷◌, ◌++◌, refl, sym, ap, ◌∙◌, subst, inl, inr, arith, false, None, IsTrue, Result, Ok, Err}
+use Rattle.std.proofs.lemmas.Bool.{and_parts, lt-ltb, cond-true}
 use Rattle.std.proofs.lemmas.Bool.Decides.{nat_tests}
-use Rattle.std.proofs.lemmas.Result.{on_ok_weaker}
 use Rattle.std.specs.Prelude.{nat_le}
 use Rattle.nvm_model.specs.declared.line.Line.{Line}
 use Rattle.nvm_model.specs.Memory.{line_of}
-use Rattle.nvm_model.specs.Word.{Word, IsVersion, IsSingle, IsSteady, single, trimmed}
+use Rattle.nvm_model.specs.Word.{Word, IsVersion, IsSingle, single, trimmed}
 use Rattle.nvm_model.proofs.WordLaws.{single_version, IsSingle-trimmed}
-use Rattle.devices.specs.State.{State, Image, Leaves, Amid, Call, after_all, current, fresh, fenced, word_stored}
+use Rattle.devices.specs.State.{State, Image, Leaves, Amid, after_all, current, fresh, word_stored}
 use Rattle.devices.specs.State.Call.{fence}
 use Rattle.devices.specs.Growth.{Grows, AreWithin, no_write}
 use Rattle.devices.specs.World.{Standing, Moments, MakesAll, now}
@@ -16,7 +15,7 @@ use Rattle.devices.proofs.FreshLaws.{fresh_only}
 use Rattle.devices.proofs.StateLaws.{flushed_other, word_stored_other}
 use Rattle.devices.proofs.GrowthLaws.{Amid-grows, Amid_append, after_all_append}
 use Rattle.devices.proofs.MomentLaws.{Moments-map}
-use Rattle.store_meaning.specs.Layout.{Sizes, is_allowed, in_ranges, pages, nvm_lines, ssd_blocks, frame_line, ring_lines}
+use Rattle.store_meaning.specs.Layout.{Sizes, is_allowed, in_ranges, pages, nvm_lines, ssd_blocks, frame_line}
 use Rattle.store_meaning.specs.Log.{Log, no_log, grouped, is_logged}
 use Rattle.store_meaning.specs.Format.{Format, magic, word_in, entries, log_check, zero_line}
 use Rattle.store_meaning.specs.Format.Format.{whole_lines, named_words, with_cuts}
@@ -29,8 +28,8 @@ use Rattle.store_meaning.proofs.FreshLaws.{fresh_stands}
 use Rattle.store_meaning.proofs.PutLaws.{single_at}
 use Rattle.store_meaning.proofs.RecoveredLaws.{line_of-same}
 use Rattle.store_laws.specs.OpenFacts.{super_with}
-use Rattle.recovery.specs.Calls.{line_put, gate_put, flush_calls, ends_puts, super_puts, pages_puts, prepare_calls, format_calls, sizes_line, number_line}
-use Rattle.recovery.specs.Empty.{catalog_line, IsEmptyStore, HasNoMagic, MayFormat, Formats}
+use Rattle.recovery.specs.Calls.{line_put, gate_put, flush_calls, super_puts, pages_puts, prepare_calls, format_calls, sizes_line, number_line}
+use Rattle.recovery.specs.Empty.{catalog_line, IsEmptyStore, MayFormat, Formats}
 use Rattle.recovery.proofs.FlushLaws.{within_append, flushes_within, flushes_made, put_other, put_same, put_kept, fenced_single}
 
 zero_no_magic : (x : ℕ) → x ≡ 0 → (format : Format) → x ≢ magic format

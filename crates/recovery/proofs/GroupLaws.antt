@@ -1,10 +1,8 @@
 -- A replay over a device, entry by entry.
-use Rattle.std.proofs.Common.{◌≡◌, ◌⊎◌, ℕ, zero, suc, ◌+◌, ◌-◌, ◌*◌, ◌<◌, ◌≤◌, List, [], ◌∷◌, ◌++◌, refl, sym, ap, ◌∙◌, subst, inl, inr, arith, IsTrue, Option, Some, None, Result, Ok, Err}
+use Rattle.std.proofs.Common.{◌≡◌, ◌⊎◌, ℕ, ◌+◌, ◌-◌, ◌*◌, ◌<◌, ◌≤◌, List, [], ◌∷◌, ◌++◌, refl, sym, ap, ◌∙◌, subst, inl, inr, arith, IsTrue, Option, Some, None, Result, Ok, Err}
 use Rattle.std.proofs.lemmas.Bool.{cases_lt}
-use Rattle.std.specs.Prelude.{IfOk}
 use Rattle.nvm_model.specs.declared.line.Line.{Line}
-use Rattle.devices.specs.State.{State, Call}
-use Rattle.devices.specs.World.{Standing, Goes, Stays, MakesAll, now}
+use Rattle.devices.specs.World.{Standing, Goes, Stays, MakesAll}
 use Rattle.devices.proofs.CallLaws.{makes_then, makes_stop}
 use Rattle.nvm_layout.specs.Opening.{NoFault}
 use Rattle.nvm_layout.specs.Sizes.{sizes_of}
@@ -21,10 +19,10 @@ use Rattle.store_meaning.specs.Log.Entry.{item, commit, abort}
 use Rattle.store_meaning.specs.Format.{word_in, entries, entry_check}
 use Rattle.store_meaning.specs.Format.Format.{whole_lines}
 use Rattle.store_meaning.proofs.LogLaws.{changes-append}
-use Rattle.recovery.specs.Calls.{redo_calls, undo_calls, ending_calls, groups_calls, replay_calls}
-use Rattle.recovery.specs.Reading.{lines_at, entries_from, entry_at, change_at, changes_at, PassFrom, IsRecordAt, AreRecords}
+use Rattle.recovery.specs.Calls.{undo_calls, ending_calls, groups_calls, replay_calls}
+use Rattle.recovery.specs.Reading.{entries_from, entry_at, change_at, PassFrom, IsRecordAt, AreRecords}
 use Rattle.recovery.specs.Heads.{ReadsHead}
-use Rattle.recovery.specs.Replaying.{group_end, held_lines, group_changes, open_changes, Writes, UndoesGroup, EndsGroup, IsNext, TakesEntry, ReplaysLog}
+use Rattle.recovery.specs.Replaying.{group_end, held_lines, group_changes, open_changes, Writes, UndoesGroup, EndsGroup, IsNext, TakesEntry}
 use Rattle.recovery.specs.declared.replaying.Group.{Group}
 use Rattle.recovery.specs.declared.errors.OpenError.{OpenError}
 use Rattle.recovery.specs.declared.errors.OpenError.TheVariants.{Nvm, Ssd, NotAStore, TooSmall, LogEnded, Damaged, NoMemory}

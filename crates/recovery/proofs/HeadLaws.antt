@@ -1,11 +1,10 @@
 -- The heads of a log, read one after the other.
-use Rattle.std.proofs.Common.{◌≡◌, ℕ, ◌+◌, ◌-◌, ◌<◌, ◌≤◌, refl, sym, ap, ◌∙◌, subst, inl, inr, arith, List, IsTrue, Option, Some, None, Result, Ok, Err}
+use Rattle.std.proofs.Common.{◌≡◌, ℕ, ◌+◌, ◌-◌, ◌<◌, ◌≤◌, refl, sym, ap, ◌∙◌, subst, inl, inr, IsTrue, Some, None, Result, Ok, Err}
 use Rattle.nvm_model.specs.declared.line.Line.{Line}
 use Rattle.devices.specs.State.{State}
-use Rattle.devices.specs.World.{Standing, Goes, Stays, Rose, NvmCause, now}
+use Rattle.devices.specs.World.{Standing, Goes, Stays, Rose, now}
 use Rattle.devices.proofs.MomentLaws.{Goes-on}
 use Rattle.devices.proofs.JoinLaws.{Stays-now}
-use Rattle.line_pages.specs.declared.stop.Evidence.{Evidence}
 use Rattle.line_pages.specs.declared.stop.Evidence.TheVariants as evidence
 use Rattle.nvm_layout.specs.Opening.{NoFault}
 use Rattle.nvm_layout.specs.Sizes.{sizes_of}
@@ -15,12 +14,12 @@ use Rattle.nvm_log.specs.declared.head.Head.TheVariants as head
 use Rattle.nvm_log.specs.declared.record.EndKind.TheVariants.{Commit, Abort}
 use Rattle.nvm_log.specs.declared.log.Log.{Log}
 use Rattle.store_meaning.specs.Layout.{Sizes}
-use Rattle.store_meaning.specs.Format.{entry_check, log_check, LogFault}
+use Rattle.store_meaning.specs.Format.{entry_check, log_check}
 use Rattle.store_meaning.specs.Format.Format.{whole_lines}
 use Rattle.store_meaning.specs.Recovered.{from}
 use Rattle.recovery.specs.Causes.{OpenCause, OpenStops}
-use Rattle.recovery.specs.Reading.{lines_at, IsRecordAt}
-use Rattle.recovery.specs.Heads.{head_lines, IsJudged, IsLoaded, ReadsHead, IsFault, IsLogEvidence, IsFirstFault, KeepsFault, FindsFault, ChecksLog, fault_in}
+use Rattle.recovery.specs.Reading.{lines_at}
+use Rattle.recovery.specs.Heads.{head_lines, IsJudged, IsLoaded, ReadsHead, ChecksLog, fault_in}
 use Rattle.recovery.specs.declared.errors.OpenError.{OpenError}
 use Rattle.recovery.specs.declared.errors.OpenError.TheVariants.{Nvm, Ssd, NotAStore, TooSmall, LogEnded, Damaged, NoMemory}
 use Rattle.recovery.proofs.ReadingLaws.{Advances, advance_record, advance_end, first_fault, none_left}

@@ -1,40 +1,35 @@
 -- What an opening answers and leaves, by what its parts do.
-use Rattle.std.proofs.Common.{◌≡◌, ◌≢◌, ◌⊎◌, ℕ, ◌<◌, ◌≤◌, ◌^◌, true, List, refl, sym, ap, ◌∙◌, subst, inl, inr, arith, slice_index, IsTrue, Option, Some, None, Result, Ok, Err}
+use Rattle.std.proofs.Common.{◌≡◌, ◌≢◌, ℕ, ◌<◌, ◌≤◌, refl, sym, ap, ◌∙◌, subst, inl, inr, slice_index, IsTrue, Option, Some, None, Result, Ok, Err}
 use Rattle.std.proofs.lemmas.Bool.{cases_lt}
 use Rattle.std.specs.Prelude.{IfErr, OnOk}
 use Rattle.devices.specs.State.{State, Image, current, fresh}
 use Rattle.devices.specs.World.{Standing, Goes, Stays, Moments, MakesAll, now}
-use Rattle.devices.proofs.MomentLaws.{Goes-trans, Goes-on, Moments-trans, Moments-map}
+use Rattle.devices.proofs.MomentLaws.{Goes-on, Moments-trans, Moments-map}
 use Rattle.devices.proofs.JoinLaws.{Stays-now, Stays-trans}
-use Rattle.line_pages.specs.declared.stop.Evidence.{Evidence}
 use Rattle.line_pages.specs.declared.line_set.LineSet.{LineSet}
 use Rattle.nvm_log.specs.declared.log.Log.{Log}
 use Rattle.nvm_layout.specs.Gates.{gates_of}
-use Rattle.nvm_layout.specs.Opening.{NoFault, Finding, finding, super_from, sizes_from, words_of, IsEvidence, IsOpen, SuperCause, Answers as SuperAnswers}
-use Rattle.nvm_layout.specs.Opening.Finding.{sound}
+use Rattle.nvm_layout.specs.Opening.{finding, super_from, sizes_from, words_of, IsOpen, Answers as SuperAnswers}
 use Rattle.nvm_layout.specs.Sizes.{sizes_of}
 use Rattle.nvm_layout.specs.declared.errors.SuperError.{SuperError}
 use Rattle.nvm_layout.specs.declared.errors.SuperError.TheVariants as super_error
 use Rattle.nvm_layout.specs.declared.superblock.Super.{Super as Gates}
-use Rattle.store_meaning.specs.Layout.{Sizes, is_allowed, nvm_lines, ssd_blocks}
-use Rattle.store_meaning.specs.Log.{Log as Groups}
+use Rattle.store_meaning.specs.Layout.{Sizes, nvm_lines, ssd_blocks}
 use Rattle.store_meaning.specs.Format.{magic, LogFault}
 use Rattle.store_meaning.specs.Format.Format.{whole_lines}
 use Rattle.store_meaning.specs.Recovered.{Super, super_of, super_check, log_of, log_lines, log_line, image_log_check, IsStore}
 use Rattle.store_meaning.specs.InOrder.{Stands}
-use Rattle.store_meaning.proofs.CheckLaws.{super_passes, checks_from}
+use Rattle.store_meaning.proofs.CheckLaws.{checks_from}
 use Rattle.store_meaning.proofs.FreshLaws.{fresh_stands}
 use Rattle.store_laws.specs.OpenFacts.{OpenFacts, super_with}
 use Rattle.store_laws.specs.ShownPages.{pages_in, committed_in}
 use Rattle.store_laws.specs.Steps.{KeepsOpen}
 use Rattle.store_laws.proofs.StepLaws.{read_open, read_current, read_committed, steady_facts}
 use Rattle.recovery.specs.Calls.{recover_calls}
-use Rattle.recovery.specs.Causes.{OpenCause}
 use Rattle.recovery.specs.Errors.{open_error}
 use Rattle.recovery.specs.Heads.{IsLogEvidence, IsFoundFault, KeepsEvidence}
 use Rattle.recovery.specs.Recovering.{LeavesStores}
-use Rattle.recovery.specs.Replaying.{Writes}
-use Rattle.recovery.specs.Opening.{Answers, IsAnswer, IsFound, IsSuper, IsFirstIn, FindsInLog, KeepsStore, Recovered, ReopensLog}
+use Rattle.recovery.specs.Opening.{Answers, IsAnswer, IsFound, KeepsStore, Recovered, ReopensLog}
 use Rattle.recovery.specs.declared.opening.Parts.{Parts}
 use Rattle.recovery.specs.declared.errors.OpenError.{OpenError}
 use Rattle.recovery.specs.declared.errors.OpenError.TheVariants.{Nvm, Ssd, NotAStore, TooSmall, LogEnded, Damaged, NoMemory}

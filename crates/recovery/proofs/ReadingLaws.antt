@@ -4,15 +4,15 @@ use Rattle.std.specs.Prelude.{nat_le}
 use Rattle.std.proofs.lemmas.Bool.{eqb-true, leb-false, ltb-false}
 use Rattle.nvm_model.specs.declared.line.Line.{Line}
 use Rattle.store_meaning.specs.Layout.{Sizes, pages}
-use Rattle.store_meaning.specs.Log.{Change, Item, Entry, Group, Log, changes, extended, grouped, no_log}
+use Rattle.store_meaning.specs.Log.{Change, Entry, Group, Log, changes, extended, grouped, no_log}
 use Rattle.store_meaning.specs.Log.Item.{write, cut}
 use Rattle.store_meaning.specs.Log.Entry.{item, commit, abort}
-use Rattle.store_meaning.specs.Format.{word_in, is_kind, is_cut, lines_behind, line_change, entry_of, entries, head_check, entry_check, log_check, LogFault}
+use Rattle.store_meaning.specs.Format.{word_in, is_kind, lines_behind, line_change, entry_of, entries, head_check, entry_check, log_check, LogFault}
 use Rattle.store_meaning.specs.Format.Format.{whole_lines}
 use Rattle.store_meaning.specs.Recovered.{from}
 use Rattle.store_meaning.proofs.LogLaws.{changes-append}
 use Rattle.store_laws.specs.OpenGroup.{IsOfStore, AreOfStore}
-use Rattle.recovery.specs.Reading.{entries_from, PassFrom, change_at, changes_at, entry_at, IsRecordAt, AreRecords}
+use Rattle.recovery.specs.Reading.{entries_from, PassFrom, change_at, changes_at, entry_at, IsRecordAt}
 use Rattle.recovery.proofs.ReplayLaws.{GroupsOfStore, LogOfStore}
 
 -- tests one after the other, none of which answers

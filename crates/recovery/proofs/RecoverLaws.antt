@@ -1,10 +1,10 @@
 -- A recovery: at each moment every image is a store that recovers to the same lines, and at its end the log is empty and every
 -- home is durable.
-use Rattle.std.proofs.Common.{◌≡◌, ◌≢◌, ◌⊎◌, ℕ, ◌+◌, ◌*◌, ◌<◌, ◌≤◌, true, List, [], ◌∷◌, ◌++◌, refl, sym, ap, ◌∙◌, subst, inl, inr, arith, None}
+use Rattle.std.proofs.Common.{◌≡◌, ◌≢◌, ℕ, ◌*◌, ◌<◌, true, List, [], ◌∷◌, refl, sym, ap, ◌∙◌, subst, inl, inr, arith}
 use Rattle.nvm_model.specs.declared.line.Line.{Line}
 use Rattle.nvm_model.specs.Word.{Word, IsSingle, trimmed}
 use Rattle.nvm_model.proofs.WordLaws.{single_version}
-use Rattle.devices.specs.State.{State, Image, Leaves, Amid, Call, after_all, current, fenced, word_stored, flushed}
+use Rattle.devices.specs.State.{State, Image, Leaves, Amid, after_all, current, fenced, word_stored}
 use Rattle.devices.specs.State.Call.{fence}
 use Rattle.devices.specs.Growth.{Grows, no_store, no_write}
 use Rattle.devices.proofs.GrowthLaws.{Amid_end, Amid_append, Amid-grows, after_all_append}
@@ -13,14 +13,13 @@ use Rattle.store_meaning.specs.Layout.{Sizes, pages, frame_line}
 use Rattle.store_meaning.specs.Log.{Words, Log, is_logged, no_log, grouped, replayed as replay_log}
 use Rattle.store_meaning.specs.Format.{Format, entries}
 use Rattle.store_meaning.specs.Format.Format.{whole_lines}
-use Rattle.store_meaning.specs.Recovered.{Super, super_of, log_lines, log_of, home, recovered, recovered_pages, lines_of, IsStore}
+use Rattle.store_meaning.specs.Recovered.{Super, super_of, log_of, home, recovered, recovered_pages, lines_of, IsStore}
 use Rattle.store_meaning.specs.InOrder.{Stands, HomeStands}
 use Rattle.store_meaning.specs.Put.{CanPut, start_calls}
 use Rattle.store_meaning.specs.StoreFacts.{Bookkeeping, IsWord, StoreFacts}
-use Rattle.store_meaning.specs.AtEnd.{HomesHoldAll, LogEnds, starting}
+use Rattle.store_meaning.specs.AtEnd.{LogEnds, starting}
 use Rattle.store_meaning.proofs.EndsLaws.{none_ends}
 use Rattle.store_meaning.proofs.FactsLaws.{current_leaves}
-use Rattle.store_meaning.proofs.PutLaws.{durable_super}
 use Rattle.store_meaning.proofs.RecoveredLaws.{lines_of-same}
 use Rattle.store_meaning.proofs.StartLaws.{start_facts, start_done, start_single, start_super, start_empty}
 use Rattle.store_laws.specs.Calls.{checkpoint_calls}
@@ -30,11 +29,9 @@ use Rattle.store_laws.specs.ShownPages.{words_in, pages_in, committed_in}
 use Rattle.store_laws.proofs.CheckpointLaws.{grown_leaves, grown_facts}
 use Rattle.store_laws.proofs.OpenLaws.{pages_by, facts_can_store}
 use Rattle.recovery.specs.Calls.{flush_calls, replay_calls, settle_calls, recover_calls}
-use Rattle.recovery.specs.Recovering.{IsStoreOf, LeavesStores}
+use Rattle.recovery.specs.Recovering.{LeavesStores}
 use Rattle.recovery.proofs.FlushLaws.{flushes_within, flushes_newest, flushes_made, fenced_single}
 use Rattle.recovery.proofs.StandsLaws.{stands_facts, stands_log, same_super}
-use Rattle.recovery.proofs.ReadingLaws.{checked_of_store}
-use Rattle.recovery.proofs.ReplayCallsLaws
 use Rattle.recovery.proofs.ReplayLaws.{LogOfStore, Replays, replay_words, replay_logged, replays_moment}
 
 module _ (g : Sizes) (start tail lines blocks : ℕ) (s : State) (stands : Stands whole_lines lines blocks s) (is : super_of (current s) ≡ super_with g start tail)

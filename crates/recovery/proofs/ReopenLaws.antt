@@ -1,8 +1,7 @@
 -- A log is checked, replayed and emptied over a device.
-use Rattle.std.proofs.Common.{◌≡◌, ◌≢◌, ℕ, ◌+◌, ◌-◌, ◌<◌, ◌≤◌, true, List, [], ◌∷◌, ◌++◌, refl, sym, ap, ◌∙◌, subst, arith, IsTrue, Option, Some, None, Result, Ok, Err}
-use Rattle.std.specs.Prelude.{IsErr, IfErr}
+use Rattle.std.proofs.Common.{◌≡◌, ℕ, ◌-◌, ◌<◌, [], ◌++◌, refl, sym, ap, ◌∙◌, subst, IsTrue, Option, Some, None, Result, Ok, Err}
 use Rattle.nvm_model.specs.declared.line.Line.{Line}
-use Rattle.devices.specs.State.{State, Image, Call, current}
+use Rattle.devices.specs.State.{Image, current}
 use Rattle.devices.specs.World.{Standing, Goes, Stays, MakesAll, now}
 use Rattle.devices.specs.declared.traits.Failed.{Failed}
 use Rattle.devices.proofs.MomentLaws.{Goes-trans}
@@ -14,14 +13,14 @@ use Rattle.nvm_layout.specs.declared.geometry.Geometry.{Geometry}
 use Rattle.nvm_layout.specs.declared.superblock.Super.{Super as Gates}
 use Rattle.nvm_log.specs.declared.log.Log.{Log}
 use Rattle.store_meaning.specs.Layout.{Sizes}
-use Rattle.store_meaning.specs.Log.{Log as Groups, grouped, no_log}
+use Rattle.store_meaning.specs.Log.{grouped, no_log}
 use Rattle.store_meaning.specs.Format.{entries, log_check, LogFault}
 use Rattle.store_meaning.specs.Format.Format.{whole_lines}
 use Rattle.store_meaning.specs.Recovered.{Super, super_of, log_of, log_line, from, image_log_check}
 use Rattle.store_meaning.proofs.CheckLaws.{super_passes, allowed_ring}
 use Rattle.store_laws.specs.OpenFacts.{super_with}
 use Rattle.recovery.specs.Calls.{replay_calls, settle_calls, recover_calls}
-use Rattle.recovery.specs.Reading.{lines_at, entries_from, PassFrom}
+use Rattle.recovery.specs.Reading.{entries_from, PassFrom}
 use Rattle.recovery.specs.Heads.{KeepsEvidence, IsFoundFault, FindsFault, ChecksLog, fault_in}
 use Rattle.recovery.specs.Replaying.{held_lines, Writes, ReplaysLog}
 use Rattle.recovery.specs.Opening.{ReopensLog}

@@ -1,5 +1,5 @@
 -- The calls of a replay, record by record and group by group, and that they leave the log.
-use Rattle.std.proofs.Common.{◌≡◌, ◌≢◌, ◌⊎◌, ℕ, zero, suc, ◌+◌, ◌-◌, ◌*◌, ◌<◌, ◌≤◌, Bool, true, false, cond, ltb, List, [], ◌∷◌, ◌++◌, refl, sym, ap, ◌∙◌, subst, inl, inr, arith, append_assoc, append-nil}
+use Rattle.std.proofs.Common.{◌≡◌, ℕ, ◌<◌, ◌≤◌, Bool, true, false, cond, List, [], ◌∷◌, ◌++◌, refl, sym, ap, ◌∙◌, arith, append_assoc, append-nil}
 use mathlib.Core.Path.{fun_ext}
 use Rattle.nvm_model.specs.declared.line.Line.{Line}
 use Rattle.nvm_model.specs.Word.{Word}
@@ -7,8 +7,7 @@ use Rattle.devices.specs.State.{State, Call, after, after_all, current, line_sto
 use Rattle.devices.specs.State.Call.{store_line}
 use Rattle.devices.proofs.StateLaws.{line_stored_other}
 use Rattle.store_meaning.specs.Layout.{Sizes, ring_line, frame_line, frames_start}
-use Rattle.store_meaning.specs.Log.{Change, Group, Item, Entry, Log, changes, extended, grouped}
-use Rattle.store_meaning.specs.Log.Item.{write, cut}
+use Rattle.store_meaning.specs.Log.{Change, Group, Entry, Log, changes, extended, grouped}
 use Rattle.store_meaning.specs.Log.Entry.{item, commit, abort}
 use Rattle.store_meaning.proofs.PutLaws.{log_line-same}
 use Rattle.recovery.specs.Calls.{redo_calls, undo_calls, ending_calls, group_calls, groups_calls, replay_calls}

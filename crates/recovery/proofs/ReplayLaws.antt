@@ -1,5 +1,5 @@
 -- A replay in place: what its calls make of the newest words, and that at each moment every image recovers to the same words.
-use Rattle.std.proofs.Common.{◌≡◌, ◌≢◌, ◌⊎◌, ℕ, zero, suc, ◌+◌, ◌*◌, ◌<◌, ◌≤◌, Bool, true, false, ◌&&◌, ◌||◌, cond, List, [], ◌∷◌, ◌++◌, refl, sym, ap, ◌∙◌, subst, inl, inr, arith, slice_index}
+use Rattle.std.proofs.Common.{◌≡◌, ◌≢◌, ℕ, ◌<◌, Bool, true, false, ◌||◌, cond, List, [], ◌∷◌, ◌++◌, refl, sym, ap, ◌∙◌, subst, inl, inr}
 use Rattle.std.proofs.lemmas.Bool.{cases_Bool, cases_eq}
 use Rattle.nvm_model.specs.declared.line.Line.{Line}
 use Rattle.nvm_model.specs.Word.{Word}
@@ -18,7 +18,7 @@ use Rattle.store_meaning.specs.StoreFacts.{StoreFacts}
 use Rattle.store_meaning.specs.AtEnd.{HasLog}
 use Rattle.store_meaning.proofs.FactsLaws.{current_leaves}
 use Rattle.store_meaning.proofs.LayoutLaws.{frame_apart}
-use Rattle.store_meaning.proofs.LogLaws.{or_second, written_named, written_other, written_word, redone_word, undone_word, applied_all_word}
+use Rattle.store_meaning.proofs.LogLaws.{written_named, written_other, written_word, redone_word, undone_word, applied_all_word}
 use Rattle.store_meaning.proofs.LogLaws.{plain_replay}
 use Rattle.store_meaning.proofs.StoreLaws.{Stored, store_same, store_grows_facts}
 use Rattle.store_laws.specs.OpenFacts.{keeping}

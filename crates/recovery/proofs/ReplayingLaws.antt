@@ -1,29 +1,26 @@
 -- A replay over a device, record by record, group by group.
-use Rattle.std.proofs.Common.{◌≡◌, ℕ, zero, suc, ◌+◌, ◌-◌, ◌*◌, ◌<◌, ◌≤◌, List, [], ◌∷◌, ◌++◌, refl, sym, ap, ◌∙◌, subst, arith, IsTrue, Result, Ok, Err, append-nil, append_assoc}
-use Rattle.std.specs.Prelude.{IsErr, IfErr}
+use Rattle.std.proofs.Common.{◌≡◌, ℕ, suc, ◌+◌, ◌-◌, ◌*◌, ◌<◌, List, [], ◌∷◌, ◌++◌, refl, sym, ap, ◌∙◌, subst, arith, IsTrue, Result, Ok, Err}
+use Rattle.std.specs.Prelude.{IsErr}
 use Rattle.nvm_model.specs.declared.line.Line.{Line}
-use Rattle.devices.specs.State.{State, Call, after_all}
+use Rattle.devices.specs.State.{Call}
 use Rattle.devices.specs.State.Call.{store_line}
 use Rattle.devices.specs.World.{Standing, Goes, Stays, Makes, MakesAll, now}
-use Rattle.devices.proofs.MomentLaws.{Goes-trans, Goes-on}
+use Rattle.devices.proofs.MomentLaws.{Goes-on}
 use Rattle.devices.proofs.JoinLaws.{Stays-now}
 use Rattle.devices.proofs.CallLaws.{makes_one, makes_then, makes_stop}
 use Rattle.nvm_layout.specs.Sizes.{sizes_of}
-use Rattle.nvm_log.specs.Entries.{end_entry}
 use Rattle.nvm_log.specs.declared.head.Head.TheVariants as head
 use Rattle.nvm_log.specs.declared.log.Log.{Log}
 use Rattle.store_meaning.specs.Layout.{Sizes, frame_line}
-use Rattle.store_meaning.specs.Log.{Change, Entry}
 use Rattle.store_meaning.specs.Format.{word_in}
 use Rattle.recovery.specs.Calls.{redo_calls, undo_calls}
-use Rattle.recovery.specs.Reading.{lines_at, change_at, changes_at, IsRecordAt, AreRecords}
+use Rattle.recovery.specs.Reading.{lines_at, changes_at, IsRecordAt, AreRecords}
 use Rattle.recovery.specs.Heads.{ReadsHead}
-use Rattle.recovery.specs.Replaying.{side_line, group_end, held_lines, group_changes, Writes, CopiesLine, StoresRecord}
+use Rattle.recovery.specs.Replaying.{side_line, held_lines, Writes, CopiesLine, StoresRecord}
 use Rattle.recovery.specs.declared.replaying.Group.{Group}
 use Rattle.recovery.specs.declared.replaying.Side.{Side}
 use Rattle.recovery.specs.declared.replaying.Side.TheVariants.{Before, After}
 use Rattle.recovery.specs.declared.errors.OpenError.{OpenError}
-use Rattle.recovery.specs.declared.errors.OpenError.TheVariants.{Nvm}
 use Rattle.recovery.proofs.CallsLaws.{makes_as}
 use Rattle.recovery.proofs.ReadingLaws.{changes_at-more}
 use Rattle.recovery.proofs.ReplayCallsLaws.{redo_calls-append, undo_calls-append, AreFrameStores, frames_lines, redo_frames, undo_frames}

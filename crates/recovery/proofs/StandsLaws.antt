@@ -1,10 +1,10 @@
 -- Devices that stand for a store have the facts of an open store, whose current and committed words are what recovery gives.
-use Rattle.std.proofs.Common.{◌≡◌, ℕ, zero, suc, ◌-◌, ◌<◌, ◌≤◌, Bool, false, true, ◌||◌, List, refl, sym, ap, ◌∙◌, subst, inl, inr, arith, None}
+use Rattle.std.proofs.Common.{◌≡◌, ℕ, zero, suc, ◌-◌, ◌<◌, ◌≤◌, Bool, false, true, ◌||◌, List, sym, ap, ◌∙◌, subst, arith}
 use Rattle.nvm_model.specs.declared.line.Line.{Line}
 use Rattle.nvm_model.specs.Word.{IsSingle}
 use Rattle.nvm_model.proofs.WordLaws.{single_version}
 use Rattle.devices.specs.State.{State, Image, Leaves, current}
-use Rattle.store_meaning.specs.Layout.{Sizes, pages, frame_line}
+use Rattle.store_meaning.specs.Layout.{frame_line}
 use Rattle.store_meaning.specs.Log.{Words, Log, no_log, grouped, is_logged}
 use Rattle.store_meaning.specs.Format.{entries}
 use Rattle.store_meaning.specs.Format.Format.{whole_lines}

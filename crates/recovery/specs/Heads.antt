@@ -1,5 +1,5 @@
 -- What a line is found to be as a head of a log, and what is found of all heads.
-use Rattle.std.specs.Prelude.{◌≡◌, ℕ, ◌-◌, Bool, IsTrue, Option, Some, None, Result, Ok, Err, IfErr}
+use Rattle.std.specs.Prelude.{◌≡◌, ℕ, ◌-◌, IsTrue, Option, Some, None, Result, Ok, Err, IfErr}
 use Rattle.nvm_model.specs.declared.line.Line.{Line}
 use Rattle.devices.specs.World.{Standing, now}
 use Rattle.line_pages.specs.declared.stop.Evidence.{Evidence}

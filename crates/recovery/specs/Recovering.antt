@@ -1,5 +1,5 @@
 -- What recovery leaves: the images on the way, and the store at its end.
-use Rattle.std.specs.Prelude.{◌≡◌, ℕ, List, [], ◌∷◌}
+use Rattle.std.specs.Prelude.{◌≡◌}
 use Rattle.devices.specs.State.{State, Image, Leaves}
 use Rattle.line_pages.specs.Lines.{Lines}
 use Rattle.store_meaning.specs.Layout.{Sizes}

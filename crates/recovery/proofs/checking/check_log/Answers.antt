@@ -1,5 +1,5 @@
 -- Head by head.
-use Rattle.std.proofs.Common.{◌≡◌, ◌+◌, ◌≤◌, ◌∙◌, refl, ap, sym, subst, arith, Err, Ok, Result}
+use Rattle.std.proofs.Common.{◌≡◌, ◌+◌, ◌≤◌, ◌∙◌, refl, ap, sym, subst, arith, Err, Result}
 use Rattle.std.proofs.lemmas.Result.{err_from_is_err_and}
 use Rattle.devices.proofs.MomentLaws.{Goes-refl, Goes-trans, Goes-on}
 use Rattle.devices.proofs.JoinLaws.{Stays-refl, Stays-trans}

@@ -1,7 +1,6 @@
 -- What the calls make of the store.
 use Rattle.nvm_layout.specs.Sizes.{sizes_of}
 use Rattle.recovery.specs.declared.errors.FormatError.TheVariants.{Nvm}
-use Rattle.recovery.proofs.RecoverLaws
 use Rattle.recovery.proofs.FormatLaws.{format_done, format_stopped}
 use Rattle.recovery.proofs.formatting.format_at.Goals as goal
 

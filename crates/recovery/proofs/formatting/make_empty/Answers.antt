@@ -3,7 +3,6 @@ use Rattle.devices.proofs.MomentLaws.{Goes-trans}
 use Rattle.devices.proofs.CallLaws.{makes_then, makes_stop}
 use Rattle.store_meaning.specs.Format.{magic}
 use Rattle.store_meaning.specs.Format.Format.{whole_lines}
-use Rattle.nvm_layout.specs.Sizes.{sizes_of}
 use Rattle.recovery.specs.Calls.{gate_put}
 use Rattle.recovery.proofs.formatting.make_empty.Goals as goal
 

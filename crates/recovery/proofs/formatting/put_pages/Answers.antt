@@ -1,5 +1,5 @@
 -- The lines of the frames, and the catalog.
-use Rattle.std.proofs.Common.{ℕ, ◌+◌, ◌*◌, refl, ap, ◌∙◌, arith}
+use Rattle.std.proofs.Common.{refl, ap, ◌∙◌}
 use Rattle.devices.proofs.CallLaws.{makes_then, makes_stop}
 use Rattle.nvm_model.specs.declared.line.Line.{Line}
 use Rattle.store_meaning.specs.Layout.{frame_line}

@@ -2,7 +2,6 @@
 use Rattle.std.proofs.Common.{◌*◌, ap}
 use Rattle.devices.proofs.MomentLaws.{Goes-trans}
 use Rattle.devices.proofs.CallLaws.{makes_one, makes_then, makes_stop}
-use Rattle.nvm_layout.specs.Sizes.{sizes_of}
 use Rattle.store_meaning.specs.Put.{start_calls}
 use Rattle.store_laws.specs.Calls.{checkpoint_calls}
 use Rattle.recovery.proofs.CallsLaws.{flushes_are}

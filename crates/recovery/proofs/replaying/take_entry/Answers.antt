@@ -1,12 +1,10 @@
 -- A record is one of the group; an end writes it.
-use Rattle.std.proofs.Common.{◌≡◌, ◌+◌, ◌<◌, sym, ap, ◌∙◌, subst, Ok, Err, Result}
+use Rattle.std.proofs.Common.{◌+◌, sym, ap, ◌∙◌, subst, Ok, Err}
 use Rattle.std.proofs.lemmas.Result.{err_from_is_err_and}
-use Rattle.nvm_log.specs.declared.head.Head.{Head}
 use Rattle.nvm_log.specs.declared.head.Head.TheVariants as head
 use Rattle.recovery.specs.Heads.{ReadsHead}
-use Rattle.recovery.specs.Replaying.{TakesEntry, group_end}
+use Rattle.recovery.specs.Replaying.{TakesEntry}
 use Rattle.recovery.specs.declared.errors.OpenError.{OpenError}
-use Rattle.recovery.specs.declared.replaying.Group.{Group}
 use Rattle.recovery.proofs.GroupLaws.{record_taken, head_stops, end_taken, end_stops}
 use Rattle.recovery.proofs.replaying.take_entry.Goals as goal
 

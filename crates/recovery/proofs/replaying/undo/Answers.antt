@@ -1,10 +1,8 @@
 -- Record by record, from last to first.
-use Rattle.std.proofs.Common.{◌≡◌, ◌+◌, ◌-◌, ◌*◌, ◌<◌, ◌≤◌, List, refl, arith, sym, ap, ◌∙◌, subst, Err}
+use Rattle.std.proofs.Common.{◌≡◌, ◌+◌, ◌-◌, ◌<◌, ◌≤◌, refl, arith, sym, ap, ◌∙◌, Err}
 use Rattle.std.proofs.lemmas.Result.{err_from_is_err_and}
-use Rattle.devices.specs.State.{Call}
 use Rattle.devices.proofs.MomentLaws.{Goes-refl, Goes-trans}
 use Rattle.nvm_layout.specs.Sizes.{sizes_of}
-use Rattle.store_meaning.specs.Log.{Change}
 use Rattle.recovery.specs.Calls.{undo_calls}
 use Rattle.recovery.specs.declared.errors.OpenError.{OpenError}
 use Rattle.recovery.proofs.CallsLaws.{makes_none, makes_as}
