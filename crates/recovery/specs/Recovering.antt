@@ -1,10 +1,19 @@
 -- What recovery leaves: the images on the way, and the store at its end.
-use Rattle.std.specs.Prelude.{◌≡◌}
+use Rattle.std.specs.Prelude.{◌≡◌, ℕ}
 use Rattle.devices.specs.State.{State, Image, Leaves}
 use Rattle.line_pages.specs.Lines.{Lines}
-use Rattle.store_meaning.specs.Layout.{Sizes}
+use Rattle.store_meaning.specs.Layout.{Sizes, pages}
 use Rattle.store_meaning.specs.Format.Format.{whole_lines}
-use Rattle.store_meaning.specs.Recovered.{super_of, recovered_pages, IsStore}
+use Rattle.store_meaning.specs.Recovered.{super_of, recovered_pages, lines_of, IsStore}
+use Rattle.store_meaning.specs.StoreFacts.{Bookkeeping, StoreFacts}
+
+-- The facts of an open store hold, with some books of these sizes, whose committed lines are these in an image of any tail.
+pub record HoldsFacts (g : Sizes) (lines : Lines) (s : State) : Type 0 where
+  pub books : Bookkeeping
+  pub sizes : books.sizes ≡ g
+  pub format : books.format ≡ whole_lines
+  pub committed : (n : ℕ) → lines_of (pages g) (books.committed n) ≡ lines
+  pub facts : StoreFacts books s
 
 -- the image is a store of these sizes that recovers to these lines
 pub record IsStoreOf (g : Sizes) (lines : Lines) (i : Image) : Type 0 where
