@@ -28,7 +28,7 @@ use Rattle.store_laws.proofs.StepLaws.{read_open, read_current, read_committed, 
 use Rattle.recovery.specs.Calls.{recover_calls}
 use Rattle.recovery.specs.Errors.{open_error}
 use Rattle.recovery.specs.Heads.{IsLogEvidence, IsFoundFault, KeepsEvidence}
-use Rattle.recovery.specs.Recovering.{LeavesStores}
+use Rattle.recovery.specs.Recovering.{LeavesStores, HoldsFacts}
 use Rattle.recovery.specs.Opening.{Answers, IsAnswer, IsFound, KeepsStore, Recovered, ReopensLog}
 use Rattle.recovery.specs.declared.opening.Parts.{Parts}
 use Rattle.recovery.specs.declared.errors.OpenError.{OpenError}
@@ -36,7 +36,7 @@ use Rattle.recovery.specs.declared.errors.OpenError.TheVariants.{Nvm, Ssd, NotAS
 use Rattle.recovery.proofs.ReadingLaws.{checked_of_store}
 use Rattle.recovery.proofs.ReplayLaws.{LogOfStore}
 use Rattle.recovery.proofs.ReplayingLaws.{told_then}
-use Rattle.recovery.proofs.RecoverLaws.{recover_step, recover_moment, stands_leave}
+use Rattle.recovery.proofs.RecoverLaws.{recover_step, recover_moment, recover_facts, stands_leave, stands_hold}
 
 -- Where no device changes, what recovery gives stays.
 pub keeps_still : (a b : Standing) → Goes a b → Stays a b → IsTrue a.told → KeepsStore a b
@@ -44,6 +44,8 @@ keeps_still a b goes stays told = record {
   committed = ap committed_in (Stays-now (Goes-on goes) stays told);
   during = λ stands.
       Moments-map (λ s same. subst (λ (x : State). LeavesStores (super_of (current (now a))).sizes (committed_in (now a)) x) (sym same) (stands_leave a.lines a.blocks (now a) stands)) (stays told);
+  facts = λ stands.
+      Moments-map (λ s same. subst (λ (x : State). HoldsFacts (super_of (current (now a))).sizes (committed_in (now a)) x) (sym same) (stands_hold a.lines a.blocks (now a) stands)) (stays told);
 }
 
 -- and before a part that keeps it
@@ -55,6 +57,9 @@ keeps_then a b d goes goes_d stays told keeps =
       during = λ stands.
           Moments-trans goes_d ((keeps_still a b goes stays told).during stands)
           (subst (λ (x : State). Moments b d (LeavesStores (super_of (current x)).sizes (committed_in x))) same (keeps.during (stands_then stands same)));
+      facts = λ stands.
+          Moments-trans goes_d ((keeps_still a b goes stays told).facts stands)
+          (subst (λ (x : State). Moments b d (HoldsFacts (super_of (current x)).sizes (committed_in x))) same (keeps.facts (stands_then stands same)));
     }
   where
     stands_then : Stands whole_lines a.lines a.blocks (now a) → now b ≡ now a → Stands whole_lines b.lines b.blocks (now b)
@@ -100,6 +105,7 @@ module _ (gates : Gates) (a b : Standing) (goes : Goes a b) (told : IsTrue a.tol
     open_keeps = record {
       committed = read_committed (recover_calls g (log_of whole_lines i) tail) a b r goes makes told seen_step.leads;
       during = λ stands. Moments-map (λ s amid. recover_moment g (super_of (current (now a))).start tail a.lines a.blocks (now a) stands super_is of_store s amid) (makes.part told);
+      facts = λ stands. Moments-map (λ s amid. recover_facts g (super_of (current (now a))).start tail a.lines a.blocks (now a) stands super_is of_store s amid) (makes.part told);
     }
 
     pub open_read : OnOk r (OpenFacts g tail tail (fresh (current (now b))))

@@ -9,6 +9,7 @@ use Rattle.devices.specs.State.Call.{fence}
 use Rattle.devices.specs.Growth.{Grows, no_store, no_write}
 use Rattle.devices.proofs.GrowthLaws.{Amid_end, Amid_append, Amid-grows, after_all_append}
 use Rattle.devices.proofs.StateLaws.{word_stored_other, flushed_other}
+use Rattle.line_pages.specs.Lines.{Lines}
 use Rattle.store_meaning.specs.Layout.{Sizes, pages, frame_line}
 use Rattle.store_meaning.specs.Log.{Words, Log, is_logged, no_log, grouped, replayed as replay_log}
 use Rattle.store_meaning.specs.Format.{Format, entries}
@@ -19,7 +20,7 @@ use Rattle.store_meaning.specs.Put.{CanPut, start_calls}
 use Rattle.store_meaning.specs.StoreFacts.{Bookkeeping, IsWord, StoreFacts}
 use Rattle.store_meaning.specs.AtEnd.{LogEnds, starting}
 use Rattle.store_meaning.proofs.EndsLaws.{none_ends}
-use Rattle.store_meaning.proofs.FactsLaws.{current_leaves}
+use Rattle.store_meaning.proofs.FactsLaws.{current_leaves, facts_recover}
 use Rattle.store_meaning.proofs.RecoveredLaws.{lines_of-same}
 use Rattle.store_meaning.proofs.StartLaws.{start_facts, start_done, start_single, start_super, start_empty}
 use Rattle.store_laws.specs.Calls.{checkpoint_calls}
@@ -27,12 +28,25 @@ use Rattle.store_laws.specs.OpenFacts.{OpenFacts, keeping, super_with}
 use Rattle.store_laws.specs.Steps.{KeepsOpen}
 use Rattle.store_laws.specs.ShownPages.{words_in, pages_in, committed_in}
 use Rattle.store_laws.proofs.CheckpointLaws.{grown_leaves, grown_facts}
-use Rattle.store_laws.proofs.OpenLaws.{pages_by, facts_can_store}
+use Rattle.store_laws.proofs.OpenLaws.{facts_can_store}
 use Rattle.recovery.specs.Calls.{flush_calls, replay_calls, settle_calls, recover_calls}
-use Rattle.recovery.specs.Recovering.{LeavesStores}
+use Rattle.recovery.specs.Recovering.{LeavesStores, HoldsFacts}
 use Rattle.recovery.proofs.FlushLaws.{flushes_within, flushes_newest, flushes_made, fenced_single}
 use Rattle.recovery.proofs.StandsLaws.{stands_facts, stands_log, same_super}
 use Rattle.recovery.proofs.ReplayLaws.{LogOfStore, Replays, replay_words, replay_logged, replays_moment}
+
+-- Where the facts hold, every image is a store that recovers to the committed lines.
+facts_leave : (g : Sizes) (lines : Lines) (s : State) → HoldsFacts g lines s → LeavesStores g lines s
+facts_leave g lines s it i left =
+    let facts : StoreFacts it.books s = it.facts in
+    record {
+      is_sized = record { store = subst (λ (f : Format). IsStore f i) it.format (facts.stores i left); sizes = facts.sizes i left ∙ it.sizes };
+      pages = ap (λ (f : Format). recovered_pages f i) (sym it.format)
+          ∙ ap (λ (x : Sizes). lines_of (pages x) (recovered (it.books).format i)) (facts.sizes i left ∙ it.sizes)
+          ∙ lines_of-same (pages g) (recovered (it.books).format i) ((it.books).committed (super_of i).tail)
+          (λ p l w hp hl hw. facts_recover it.books s facts i left p l w (record { page = subst (λ (x : Sizes). p < pages x) (sym it.sizes) hp; line = hl; word = hw }))
+          ∙ it.committed (super_of i).tail;
+    }
 
 module _ (g : Sizes) (start tail lines blocks : ℕ) (s : State) (stands : Stands whole_lines lines blocks s) (is : super_of (current s) ≡ super_with g start tail)
     (of_store : LogOfStore g (log_of whole_lines (current s))) where
@@ -175,37 +189,48 @@ module _ (g : Sizes) (start tail lines blocks : ℕ) (s : State) (stands : Stand
       ∙ lines_of-same (pages g) (words_in g emptied) given (λ p l w hp hl hw. done.newest p l w (record { page = hp; line = hl; word = hw }))
       ∙ sym given_pages
 
-  stores_by : (mid : State) (x : Bookkeeping) → StoreFacts x mid → x.format ≡ whole_lines → x.sizes ≡ g → ((n p l w : ℕ) → x.committed n p l w ≡ given p l w) → LeavesStores g (committed_in s) mid
-  stores_by mid x facts format sizes committed i left = record {
-    is_sized = record { store = subst (λ (f : Format). IsStore f i) format (facts.stores i left); sizes = facts.sizes i left ∙ sizes };
-    pages = ap (λ (f : Format). recovered_pages f i) (sym format) ∙ pages_by x mid facts given committed i left ∙ ap (λ (y : Sizes). lines_of (pages y) given) sizes ∙ sym given_pages;
+  holds_by : (mid : State) (x : Bookkeeping) → StoreFacts x mid → x.format ≡ whole_lines → x.sizes ≡ g → ((n p l w : ℕ) → x.committed n p l w ≡ given p l w) → HoldsFacts g (committed_in s) mid
+  holds_by mid x facts format sizes committed = record {
+    books = x;
+    sizes = sizes;
+    format = format;
+    committed = λ n. lines_of-same (pages g) (x.committed n) given (λ p l w hp hl hw. committed n p l w) ∙ sym given_pages;
+    facts = facts;
   }
 
-  held : (mid : State) → StoreFacts b mid → LeavesStores g (committed_in s) mid
-  held mid facts = stores_by mid b facts refl refl (λ n p l w. refl)
+  held : (mid : State) → StoreFacts b mid → HoldsFacts g (committed_in s) mid
+  held mid facts = holds_by mid b facts refl refl (λ n p l w. refl)
 
-  -- At each moment every image is a store that recovers to the same lines.
-  pub recover_moment : (mid : State) → Amid s (recover_calls g log₀ tail) mid → LeavesStores g (committed_in s) mid
-  recover_moment mid amid = elim (Amid_append (replay_calls g log₀) (settle_calls g tail) s mid amid) [
+  -- At each moment the facts hold, with what recovery gave before as the committed lines.
+  pub recover_facts : (mid : State) → Amid s (recover_calls g log₀ tail) mid → HoldsFacts g (committed_in s) mid
+  recover_facts mid amid = elim (Amid_append (replay_calls g log₀) (settle_calls g tail) s mid amid) [
     | inl first ↦ held mid (replays_moment g given (super_of (current s)) log₀ (replay_calls g log₀) (replay_logged g log₀ of_store) s begins mid first).facts
     | inr later ↦ elim (Amid_append (flush_calls (frame_line g 0 0) (64 * pages g)) (checkpoint_calls tail) replayed mid later) [
       | inl flushing ↦ held mid (flush_moment mid flushing)
       | inr last ↦ elim last [
         | inl fencing ↦ held mid (fence_moment mid (inl fencing))
-        | inr starts ↦ stores_by mid (starting b durable) (start_moment mid (subst (λ n. Amid durable (start_calls n) mid) (sym same_tail) starts)) refl refl (λ n p l w. refl)
+        | inr starts ↦ holds_by mid (starting b durable) (start_moment mid (subst (λ n. Amid durable (start_calls n) mid) (sym same_tail) starts)) refl refl (λ n p l w. refl)
       ]
     ]
   ]
+
+  -- So every image is a store that recovers to the same lines.
+  pub recover_moment : (mid : State) → Amid s (recover_calls g log₀ tail) mid → LeavesStores g (committed_in s) mid
+  recover_moment mid amid = facts_leave g (committed_in s) mid (recover_facts mid amid)
 
   -- So the calls keep the facts of an open store, and make the current lines what recovery gave before.
   pub recover_step : KeepsOpen g tail tail (λ lines. committed_in s) (recover_calls g log₀ tail) s
   recover_step = record { leads = record { facts = recover_open; moments = recover_moment }; current = recover_current }
 
--- Devices that stand for a store leave no image but such a store.
+-- Devices that stand for a store hold the facts, and leave no image but such a store.
+pub stands_hold : (lines blocks : ℕ) (s : State) → Stands whole_lines lines blocks s → HoldsFacts (super_of (current s)).sizes (committed_in s) s
+stands_hold lines blocks s stands = record {
+  books = keeping (super_of (current s)).sizes (recovered whole_lines (current s)) (recovered whole_lines (current s));
+  sizes = refl;
+  format = refl;
+  committed = λ n. refl;
+  facts = stands_facts lines blocks s stands;
+}
+
 pub stands_leave : (lines blocks : ℕ) (s : State) → Stands whole_lines lines blocks s → LeavesStores (super_of (current s)).sizes (committed_in s) s
-stands_leave lines blocks s stands i left =
-    let facts : StoreFacts (keeping (super_of (current s)).sizes (recovered whole_lines (current s)) (recovered whole_lines (current s))) s = stands_facts lines blocks s stands in
-    record {
-      is_sized = record { store = facts.stores i left; sizes = facts.sizes i left };
-      pages = pages_by (keeping (super_of (current s)).sizes (recovered whole_lines (current s)) (recovered whole_lines (current s))) s facts (recovered whole_lines (current s)) (λ n p l w. refl) i left;
-    }
+stands_leave lines blocks s stands = facts_leave (super_of (current s)).sizes (committed_in s) s (stands_hold lines blocks s stands)

@@ -1,11 +1,16 @@
 -- Why a store is not made or not recovered, and what stays then.
-use Rattle.std.specs.Prelude.{◌≡◌, Result, IfErr, OnOk}
+use Rattle.std.specs.Prelude.{◌≡◌, ◌⊎◌, ◌<◌, Result, IfErr, OnOk}
 use Rattle.devices.specs.World.{Standing, Rose, Stays}
+use Rattle.store_meaning.specs.Layout.{Sizes, nvm_lines, ssd_blocks}
 use Rattle.nvm_layout.specs.Opening.{NoFault}
 use Rattle.recovery.specs.declared.errors.FormatError.{FormatError}
 use Rattle.recovery.specs.declared.errors.FormatError.TheVariants as format
 use Rattle.recovery.specs.declared.errors.OpenError.{OpenError}
 use Rattle.recovery.specs.declared.errors.OpenError.TheVariants as opening
+
+-- a device is smaller than these sizes need
+abbrev pub IsTooSmall : Sizes → Standing → Type 0
+IsTooSmall g d = (d.lines < nvm_lines g) ⊎ (d.blocks < ssd_blocks g)
 
 -- While all pages stay in NVM no call on the disk is made.
 abbrev pub FormatStops : FormatError → Standing → Standing → Type 0

@@ -1,9 +1,9 @@
 -- An empty store, and what the devices hold while one is made.
-use Rattle.std.specs.Prelude.{◌≡◌, ◌≢◌, ◌⊎◌, ℕ, [], ◌∷◌, Result, OnOk}
+use Rattle.std.specs.Prelude.{◌≡◌, ◌≢◌, ◌⊎◌, ◌≤◌, ℕ, true, [], ◌∷◌, IsTrue, Result, OnOk}
 use Rattle.nvm_model.specs.declared.line.Line.{Line}
 use Rattle.devices.specs.State.{State, Image, Leaves, fresh, current}
 use Rattle.devices.specs.World.{Standing, Moments, now}
-use Rattle.store_meaning.specs.Layout.{Sizes}
+use Rattle.store_meaning.specs.Layout.{Sizes, is_allowed, nvm_lines, ssd_blocks}
 use Rattle.store_meaning.specs.Format.{Format, magic}
 use Rattle.store_meaning.specs.Format.Format.{whole_lines}
 use Rattle.store_meaning.specs.Recovered.{super_of, recovered_pages}
@@ -33,3 +33,7 @@ MayFormat g first lines blocks entry s = (i : Image) → Leaves s i → Leaves e
 pub record Formats {T E : Type 0} (g : Sizes) (first : ℕ) (old new : Standing) (result : Result T E) : Type 0 where
   pub moments : Moments old new (MayFormat g first old.lines old.blocks (now old))
   pub ok : OnOk result (IsEmptyStore g first old.lines old.blocks (now new))
+
+-- It is, over told devices that fit sizes which a superblock may have.
+abbrev pub MakesEmpty : {T E : Type 0} → Sizes → ℕ → Standing → Standing → Result T E → Type 0
+MakesEmpty g first old new result = IsTrue old.told → nvm_lines g ≤ old.lines → ssd_blocks g ≤ old.blocks → is_allowed g ≡ true → Formats g first old new result

@@ -20,7 +20,7 @@ use Rattle.store_meaning.specs.InOrder.{Stands}
 use Rattle.store_laws.specs.OpenFacts.{OpenFacts}
 use Rattle.store_laws.specs.ShownPages.{pages_in, committed_in}
 use Rattle.recovery.specs.Calls.{recover_calls}
-use Rattle.recovery.specs.Recovering.{LeavesStores}
+use Rattle.recovery.specs.Recovering.{LeavesStores, HoldsFacts}
 use Rattle.recovery.specs.Heads.{IsLogEvidence, IsFirstFault, FindsFault}
 use Rattle.recovery.specs.Replaying.{Writes}
 use Rattle.recovery.specs.declared.opening.Parts.{Parts}
@@ -87,10 +87,11 @@ abbrev pub ChangesNothing : {T : Type 0} → Standing → Standing → Result T 
 ChangesNothing old new result = IsTrue old.told → IfErr result (λ why. why ≢ Nvm → Stays old new)
 
 -- Recovery gives the same lines as before, as one reads it; and where the devices hold a store in order, so does every image
--- at each moment, and it is a store of the same sizes.
+-- at each moment, and it is a store of the same sizes; the facts of an open store hold then.
 pub record KeepsStore (old new : Standing) : Type 0 where
   pub committed : committed_in (now new) ≡ committed_in (now old)
   pub during : Stands whole_lines old.lines old.blocks (now old) → Moments old new (LeavesStores (super_of (current (now old))).sizes (committed_in (now old)))
+  pub facts : Stands whole_lines old.lines old.blocks (now old) → Moments old new (HoldsFacts (super_of (current (now old))).sizes (committed_in (now old)))
 
 -- The facts of an open store hold, with an empty log, and the current lines are those that recovery gave: as one reads the
 -- devices, and whatever a crash leaves where they held a store in order.

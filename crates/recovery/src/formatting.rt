@@ -1,11 +1,11 @@
 //! An empty store.
-ghost use Rattle.std.specs.Prelude.{◌≡◌, ◌<◌, ◌≤◌, ◌↔◌, ◌⊎◌, ℕ, true, IsTrue, Err};
+ghost use Rattle.std.specs.Prelude.{◌≡◌, ◌≤◌, ◌↔◌, Err};
 ghost use Rattle.devices.specs.World.{Goes, MakesAll, NvmCause};
 ghost use Rattle.nvm_layout.specs.Sizes.{sizes_of};
-ghost use Rattle.store_meaning.specs.Layout.{is_allowed, nvm_lines, ssd_blocks};
+ghost use Rattle.store_meaning.specs.Layout.{nvm_lines};
 ghost use Rattle.recovery.specs.Calls.{number_line, sizes_line, ends_puts, super_puts, pages_puts, prepare_calls, format_calls};
-ghost use Rattle.recovery.specs.Empty.{catalog_line, Formats};
-ghost use Rattle.recovery.specs.Causes.{FormatCause};
+ghost use Rattle.recovery.specs.Empty.{catalog_line, MakesEmpty};
+ghost use Rattle.recovery.specs.Causes.{FormatCause, IsTooSmall};
 
 use crate::errors::FormatError;
 use crate::storing::{flush_lines, put_gate, put_line};
@@ -20,12 +20,11 @@ const MAGIC: u64 = 0x3152_4946_5449_5053;
 pub fn format<D: Devices>(dev: &mut D, geometry: &Geometry) -> Result<(), FormatError>
     // What stays, whatever is answered, and why it fails.
     ensures goes { Goes (D.standing dev.old) (D.standing dev.new) }
-    ensures small { (result ≡ Err FormatError.TooSmall) ↔ (((D.standing dev.old).lines < nvm_lines (sizes_of geometry.now)) ⊎ ((D.standing dev.old).blocks < ssd_blocks (sizes_of geometry.now))) }
+    ensures small { (result ≡ Err FormatError.TooSmall) ↔ IsTooSmall (sizes_of geometry.now) (D.standing dev.old) }
     ensures cause { FormatCause (D.standing dev.old) (D.standing dev.new) result }
 
     // The store at each moment, and at the end.
-    ensures formats { IsTrue (D.standing dev.old).told → nvm_lines (sizes_of geometry.now) ≤ (D.standing dev.old).lines → ssd_blocks (sizes_of geometry.now) ≤ (D.standing dev.old).blocks
-        → is_allowed (sizes_of geometry.now) ≡ true → Formats (sizes_of geometry.now) 0 (D.standing dev.old) (D.standing dev.new) result }
+    ensures formats { MakesEmpty (sizes_of geometry.now) 0 (D.standing dev.old) (D.standing dev.new) result }
 {
     format_at(dev, geometry, 0)
 }
@@ -40,12 +39,11 @@ pub fn format_at<D: Devices>(
 ) -> Result<(), FormatError>
     // What stays, whatever is answered, and why it fails.
     ensures goes { Goes (D.standing dev.old) (D.standing dev.new) }
-    ensures small { (result ≡ Err FormatError.TooSmall) ↔ (((D.standing dev.old).lines < nvm_lines (sizes_of geometry.now)) ⊎ ((D.standing dev.old).blocks < ssd_blocks (sizes_of geometry.now))) }
+    ensures small { (result ≡ Err FormatError.TooSmall) ↔ IsTooSmall (sizes_of geometry.now) (D.standing dev.old) }
     ensures cause { FormatCause (D.standing dev.old) (D.standing dev.new) result }
 
     // The store at each moment, and at the end.
-    ensures formats { IsTrue (D.standing dev.old).told → nvm_lines (sizes_of geometry.now) ≤ (D.standing dev.old).lines → ssd_blocks (sizes_of geometry.now) ≤ (D.standing dev.old).blocks
-        → is_allowed (sizes_of geometry.now) ≡ true → Formats (sizes_of geometry.now) first (D.standing dev.old) (D.standing dev.new) result }
+    ensures formats { MakesEmpty (sizes_of geometry.now) first (D.standing dev.old) (D.standing dev.new) result }
 {
     if dev.nvm_lines() < geometry.nvm_lines() || dev.ssd_blocks() < geometry.ssd_blocks() {
         return Err(FormatError::TooSmall);
