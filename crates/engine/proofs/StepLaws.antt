@@ -224,7 +224,7 @@ pub closed_still : (old : Engine) (a : Standing) → StandsFor old a → old.boo
 closed_still old a stands shut = does_still closed old a tt stands (λ told s shows. same s (none_open old.book s.transaction shows.transaction shut))
   where
     same : (s : State) → s.transaction ≡ None → s ≡ closed s
-    same s none = cc
+    same s none = ap (λ (t : Option Open). record s { transaction = t }) none
 
 pub closed_aborted : (old : Engine) (a : Standing) (new : Engine) (b : Standing) {T : Type 0} (r : Result T Stop) → old.book.is_open ≡ true → Does (after_command old (Some command.Abort)) old a new b r → Does closed old a new b r
 closed_aborted old a new b r open_now it =
