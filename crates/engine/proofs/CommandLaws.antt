@@ -182,7 +182,7 @@ module _ {book_name device_name since book_name_after device_name_after since_af
         let tail : next.log.tail ≡ book.log.tail = ap (λ (x : Rattle.nvm_log.specs.declared.log.Log.Log). x.tail) nexts.log in
         let counted : old.commits ≤ old.book.log.tail = stands.counted in
         let writes : old.writes ≡ book.log.geometry.writes = stands.writes ∙ ap (λ (x : Geometry). x.writes) (sym geometry) in
-                record {
+        record {
           ready = next_ready;
           disk = subst (λ (x : Sizes). ssd_blocks x ≤ b.blocks) (sym next_sizes) (subst (λ n. ssd_blocks (engine_sizes old) ≤ n) (sym goes.blocks) stands.disk);
           limits = subst (λ (x : Sizes). AreLimits x old.limits) (sym next_sizes) stands.limits;

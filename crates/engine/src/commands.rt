@@ -57,7 +57,12 @@ impl Engine {
     }
 
     /// Refuses a write of a transaction that has had all its writes: for its name, if that is not as it must be.
-    fn refuse_write<W: World>(&mut self, world: &mut W, name: &Name, creates: bool) -> Result<Reply, Stop>
+    fn refuse_write<W: World>(
+        &mut self,
+        world: &mut W,
+        name: &Name,
+        creates: bool,
+    ) -> Result<Reply, Stop>
         requires { StandsFor self.old (W.Devices.standing world.old) }
         ensures does { Does (λ s. s) self.old (W.Devices.standing world.old) self.new (W.Devices.standing world.new) result }
         ensures refused { IsTrue (W.Devices.standing world.old).told → (s : State) → Shows self.old (W.Devices.standing world.old) s → IfOk result (λ reply. reply ≡ Reply.Refused (reason_of (is_known name.now (seen_tables s)) creates)) }
@@ -68,7 +73,12 @@ impl Engine {
     }
 
     /// `get`: the value at a key.
-    pub(crate) fn get<W: World>(&mut self, world: &mut W, name: &Name, key: u64) -> Result<Reply, Stop>
+    pub(crate) fn get<W: World>(
+        &mut self,
+        world: &mut W,
+        name: &Name,
+        key: u64,
+    ) -> Result<Reply, Stop>
         requires { StandsFor self.old (W.Devices.standing world.old) }
         ensures does { Does (after_command self.old (Some (Get name.now key))) self.old (W.Devices.standing world.old) self.new (W.Devices.standing world.new) result }
         ensures replies { Replies self.old (W.Devices.standing world.old) (Some (Get name.now key)) result }
@@ -80,7 +90,13 @@ impl Engine {
     }
 
     /// `scan`: the rows from one key to another, which `next_row` gives.
-    pub(crate) fn scan<W: World>(&mut self, world: &mut W, name: Name, from: u64, to: u64) -> Result<Step, Stop>
+    pub(crate) fn scan<W: World>(
+        &mut self,
+        world: &mut W,
+        name: Name,
+        from: u64,
+        to: u64,
+    ) -> Result<Step, Stop>
         requires { StandsFor self.old (W.Devices.standing world.old) }
         ensures does { Does (after_command self.old (Some (ScanRows name from to))) self.old (W.Devices.standing world.old) self.new (W.Devices.standing world.new) result }
         ensures replies { IsTrue (W.Devices.standing world.old).told → (s : State) → Shows self.old (W.Devices.standing world.old) s → IfOk result (λ step. ((machine (bounds_in (engine_sizes self.old))).step s (Some (ScanRows name from to))).1 ≡ step_replies step (seen_tables s)) }
@@ -134,7 +150,13 @@ impl Engine {
     }
 
     /// `put`: a value at a key, in an open transaction.
-    pub(crate) fn put<W: World>(&mut self, world: &mut W, name: &Name, key: u64, value: &Value) -> Result<Reply, Stop>
+    pub(crate) fn put<W: World>(
+        &mut self,
+        world: &mut W,
+        name: &Name,
+        key: u64,
+        value: &Value,
+    ) -> Result<Reply, Stop>
         requires stands { StandsFor self.old (W.Devices.standing world.old) }
         requires is_open { self.old.book.is_open ≡ true }
         ensures does { Does (after_command self.old (Some (Put name.now key value.now))) self.old (W.Devices.standing world.old) self.new (W.Devices.standing world.new) result }
@@ -148,7 +170,13 @@ impl Engine {
     }
 
     /// The same where the transaction may have one more write.
-    fn put_row<W: World>(&mut self, world: &mut W, name: &Name, key: u64, value: &Value) -> Result<Reply, Stop>
+    fn put_row<W: World>(
+        &mut self,
+        world: &mut W,
+        name: &Name,
+        key: u64,
+        value: &Value,
+    ) -> Result<Reply, Stop>
         requires stands { StandsFor self.old (W.Devices.standing world.old) }
         requires is_open { self.old.book.is_open ≡ true }
         requires more { self.old.book.accepted < self.old.writes }
@@ -168,7 +196,12 @@ impl Engine {
     }
 
     /// `del`: no row with the key, in an open transaction.
-    pub(crate) fn del<W: World>(&mut self, world: &mut W, name: &Name, key: u64) -> Result<Reply, Stop>
+    pub(crate) fn del<W: World>(
+        &mut self,
+        world: &mut W,
+        name: &Name,
+        key: u64,
+    ) -> Result<Reply, Stop>
         requires stands { StandsFor self.old (W.Devices.standing world.old) }
         requires is_open { self.old.book.is_open ≡ true }
         ensures does { Does (after_command self.old (Some (Del name.now key))) self.old (W.Devices.standing world.old) self.new (W.Devices.standing world.new) result }

@@ -108,7 +108,14 @@ impl Engine {
             return Ok(Next::End);
         }
         let mut store = Store::over(&mut self.book, world);
-        let next = scan_next(&mut store, &self.limits, &scan.name, scan.from, scan.to, &mut self.work)?;
+        let next = scan_next(
+            &mut store,
+            &self.limits,
+            &scan.name,
+            scan.from,
+            scan.to,
+            &mut self.work,
+        )?;
         Ok(next)
     }
 }

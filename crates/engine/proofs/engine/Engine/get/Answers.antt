@@ -21,7 +21,6 @@ returns-in_err-got-clause-does g c =
     _ c.from_residual.result c.in_err-got.field-0.0 c.from_residual.ensures
     (λ told s shows. fault_is c.in_err-got.field-0.0 ((rw (c.over-store.ensures.same.0, c.over-store.ensures.same.1) at c.in_err-got.ensures.sound) told (store_shown c.args.self.now a s c.requires shows))))
 
-
 pub returns-clause-does : goal.returns-clause-does
 returns-clause-does g c =
     let a = g.W.Devices.standing c.args.world.now in

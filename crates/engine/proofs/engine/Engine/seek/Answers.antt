@@ -11,16 +11,16 @@ use Rattle.engine.proofs.CommandLaws.{on_device, does_fails, does_stays, cause_f
 use Rattle.engine.proofs.ScanningLaws.{ends_empty}
 use Rattle.engine.proofs.engine.Engine.seek.Goals as goal
 
-pub returns-then-scan-scan-clause-reply : goal.returns-then-scan-scan-clause-reply
-returns-then-scan-scan-clause-reply g c = λ told s shows.
-    ends_empty (reply_by c.args.scan.now) c.args.scan.now refl c.if-scan-scan.true (rows_of c.args.scan.now.name (current s))
+pub returns-then-scan-clause-reply : goal.returns-then-scan-clause-reply
+returns-then-scan-clause-reply g c = λ told s shows.
+    ends_empty (reply_by c.args.scan.now) c.args.scan.now refl c.if-scan.true (rows_of c.args.scan.now.name (current s))
 
-pub returns-then-scan-scan-clause-left : goal.returns-then-scan-scan-clause-left
-returns-then-scan-scan-clause-left g c = λ told s shows.
-    ends_empty (scan_by c.args.scan.now) c.args.scan.now refl c.if-scan-scan.true (rows_of c.args.scan.now.name (current s))
+pub returns-then-scan-clause-left : goal.returns-then-scan-clause-left
+returns-then-scan-clause-left g c = λ told s shows.
+    ends_empty (scan_by c.args.scan.now) c.args.scan.now refl c.if-scan.true (rows_of c.args.scan.now.name (current s))
 
-pub returns-then-scan-scan-clause-does : goal.returns-then-scan-scan-clause-does
-returns-then-scan-scan-clause-does g c = does_still (λ (s : State). s) c.args.self.now (g.W.Devices.standing c.args.world.now) next.End c.requires (λ told s shows. refl)
+pub returns-then-scan-clause-does : goal.returns-then-scan-clause-does
+returns-then-scan-clause-does g c = does_still (λ (s : State). s) c.args.self.now (g.W.Devices.standing c.args.world.now) next.End c.requires (λ told s shows. refl)
 
 pub returns-in_err-next-clause-does : goal.returns-in_err-next-clause-does
 returns-in_err-next-clause-does g c =

@@ -1,0 +1,46 @@
+use Rattle.std.proofs.Common.{◌≡◌, ◌∙◌, ap, List}
+use Rattle.table_store.specs.Catalog.{Table}
+use Rattle.table_store.specs.Stored.{rows_of}
+use Rattle.store_meaning.specs.Layout.{pages}
+use Rattle.store_laws.specs.ShownPages.{pages_in}
+use Rattle.devices.specs.World.{now}
+use Rattle.script.specs.Machine.{State, current}
+use Rattle.engine.specs.Engine.{engine_sizes}
+use Rattle.engine.proofs.CommandLaws.{does_ok, does_err, store_shown}
+use Rattle.engine.proofs.ScanningLaws.{rows_ascend, goes_on, gives_by, fewer_by, does_before, stands_between, shows_between, cause_before}
+use Rattle.engine.proofs.engine.Engine.next_row.Goals as goal
+
+pub seek-requires : goal.seek-requires
+seek-requires g c = stands_between c.args.self.now c.rest_after.new.self (g.W.Devices.standing c.args.world.now) c.rest_after.ensures c.requires.stands
+
+pub returns-in_err-next-clause-does : goal.returns-in_err-next-clause-does
+returns-in_err-next-clause-does g c =
+    let a = g.W.Devices.standing c.args.world.now in
+    does_before (λ (s : State). s) c.args.self.now c.rest_after.new.self a c.seek.new.self (g.W.Devices.standing c.seek.new.world) c.from_residual.result c.rest_after.ensures
+    (does_err (λ (s : State). s) c.rest_after.new.self a c.seek.new.self (g.W.Devices.standing c.seek.new.world) c.from_residual.result c.in_err-next.field-0.0 c.from_residual.ensures c.in_err-next.ensures.does)
+
+pub returns-in_err-next-clause-cause : goal.returns-in_err-next-clause-cause
+returns-in_err-next-clause-cause g c =
+    cause_before c.args.self.now c.rest_after.new.self (g.W.Devices.standing c.args.world.now) _ c.seek.new.self (g.W.Devices.standing c.seek.new.world) c.from_residual.result c.in_err-next.field-0.0 c.from_residual.ensures c.rest_after.ensures
+    c.in_err-next.ensures.cause
+
+pub returns-clause-does : goal.returns-clause-does
+returns-clause-does g c =
+    let a = g.W.Devices.standing c.args.world.now in
+    does_before (λ (s : State). s) c.args.self.now c.rest_after.new.self a c.seek.new.self (g.W.Devices.standing c.seek.new.world) _ c.rest_after.ensures
+    (does_ok (λ (s : State). s) c.rest_after.new.self a c.seek.new.self (g.W.Devices.standing c.seek.new.world) c.in_ok-next.next c.take.result c.in_ok-next.ensures.does)
+
+pub returns-clause-gives : goal.returns-clause-gives
+returns-clause-gives g c = rw (c.take.ensures.reply, c.take.ensures.left) (gives_by c.args.scan.now c.in_ok-next.next)
+
+pub returns-clause-fewer : goal.returns-clause-fewer
+returns-clause-fewer g c = rw c.take.ensures.left (fewer_by c.args.scan.now c.in_ok-next.next c.requires.left)
+
+pub returns-clause-replies : goal.returns-clause-replies
+returns-clause-replies g c = λ told s shows few.
+    let a = g.W.Devices.standing c.args.world.now in
+    let between = shows_between c.args.self.now c.rest_after.new.self a s c.rest_after.ensures shows in
+    rw (c.take.ensures.reply ∙ c.in_ok-next.ensures.reply told s between, c.take.ensures.left ∙ c.in_ok-next.ensures.left told s between)
+    (goes_on c.args.scan.now c.requires.left few (rows_of c.args.scan.now.name (current s))
+    (λ rows is. rows_ascend c.args.self.now.limits (pages (engine_sizes c.args.self.now)) (pages_in (engine_sizes c.args.self.now) (now a)) (store_shown c.args.self.now a s c.requires.stands shows) c.args.scan.now.name rows
+    (ap (λ (T : List Table). rows_of c.args.scan.now.name T) shows.seen.tables_are ∙ is)))
