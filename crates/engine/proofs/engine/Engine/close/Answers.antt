@@ -15,4 +15,4 @@ returns-in_ok-abort-clause-does g c =
     (closed_aborted c.args.self.now (g.W.Devices.standing c.args.world.now) c.abort.new.self (g.W.Devices.standing c.abort.new.world) _ (sym c.is_open.ensures ∙ c.if-is_open.true) c.in_ok-abort.ensures.does)
 
 pub returns-else-is_open-clause-does : goal.returns-else-is_open-clause-does
-returns-else-is_open-clause-does g c = closed_still c.args.self.now (g.W.Devices.standing c.args.world.now) c.requires (sym c.is_open.ensures ∙ c.if-is_open.false)
+returns-else-is_open-clause-does g c = closed_still c.args.self.now (g.W.Devices.standing c.args.world.now) c.requires.ready (sym c.is_open.ensures ∙ c.if-is_open.false)
