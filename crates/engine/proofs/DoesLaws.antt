@@ -45,22 +45,26 @@ module _ (old : Book) (a b : Standing) (T U : List Table) (ready : IsReady old a
   -- where the committed lines stay
   pub kept_moments : ((m : ℕ) → a.clock < m → m ≤ b.clock → (lines : Lines) → MayLeave (book_sizes old) b m lines → lines ≡ committed_in (now a))
       → Moments a b (HasEither (book_sizes old) T U a.lines a.blocks)
-  kept_moments during = record { each = λ m low high i left. elim (cases_lt a.clock m) [
-    | inl late ↦ inl (is_old i (stores_left (book_sizes old) b m (committed_in (now a)) (during m late high) i left))
-    | inr early ↦ inl (is_old i (first m low early i left))
-  ] }
+  kept_moments during = record {
+    each = λ m low high i left. elim (cases_lt a.clock m) [
+      | inl late ↦ inl (is_old i (stores_left (book_sizes old) b m (committed_in (now a)) (during m late high) i left))
+      | inr early ↦ inl (is_old i (first m low early i left))
+    ];
+  }
 
   -- where they or the current ones may be left
   pub chosen_moments : HoldsTables (book_sizes old) (pages_in (book_sizes old) (now a)) U
       → ((m : ℕ) → a.clock < m → m ≤ b.clock → (lines : Lines) → MayLeave (book_sizes old) b m lines → (lines ≡ committed_in (now a)) ⊎ (lines ≡ pages_in (book_sizes old) (now a)))
       → Moments a b (HasEither (book_sizes old) T U a.lines a.blocks)
-  chosen_moments seen during = record { each = λ m low high i left. elim (cases_lt a.clock m) [
-    | inl late ↦ elim (stores_chosen (book_sizes old) b m (committed_in (now a)) (pages_in (book_sizes old) (now a)) (during m late high) i left) [
-      | inl it ↦ inl (is_old i it)
-      | inr it ↦ inr (image_in_order (book_sizes old) U a.lines a.blocks (pages_in (book_sizes old) (now a)) i ready.fits disk seen it)
-    ]
-    | inr early ↦ inl (is_old i (first m low early i left))
-  ] }
+  chosen_moments seen during = record {
+    each = λ m low high i left. elim (cases_lt a.clock m) [
+      | inl late ↦ elim (stores_chosen (book_sizes old) b m (committed_in (now a)) (pages_in (book_sizes old) (now a)) (during m late high) i left) [
+        | inl it ↦ inl (is_old i it)
+        | inr it ↦ inr (image_in_order (book_sizes old) U a.lines a.blocks (pages_in (book_sizes old) (now a)) i ready.fits disk seen it)
+      ]
+      | inr early ↦ inl (is_old i (first m low early i left))
+    ];
+  }
 
 -- What an engine shows is in order, and is what one reads.
 module _ (engine : Engine) (d : Standing) (stands : StandsFor engine d) (told : IsTrue d.told) (s : State) (shows : Shows engine d s) where

@@ -34,10 +34,10 @@ limits_at b t same_tables r same_rows =
     subst (λ (x : ℕ). (h1 : 1 ≤ x) (h2 : x ≤ 62) (h3 : 1 ≤ r) (h4 : r ≤ 1000000) → b ≡ record { tables = x; rows = r; tables_some = h1; tables_few = h2; rows_some = h3; rows_few = h4 }) same_tables
     (subst (λ (x : ℕ). (h1 : 1 ≤ b.tables) (h2 : b.tables ≤ 62) (h3 : 1 ≤ x) (h4 : x ≤ 1000000) → b ≡ record { tables = b.tables; rows = x; tables_some = h1; tables_few = h2; rows_some = h3; rows_few = h4 }) same_rows
     (λ h1 h2 h3 h4.
-        ap (λ (h : 1 ≤ b.tables). with_facts b.tables b.rows h b.tables_few b.rows_some b.rows_few) (le_prop b.tables_some h1)
-        ∙ ap (λ (h : b.tables ≤ 62). with_facts b.tables b.rows h1 h b.rows_some b.rows_few) (le_prop b.tables_few h2)
-        ∙ ap (λ (h : 1 ≤ b.rows). with_facts b.tables b.rows h1 h2 h b.rows_few) (le_prop b.rows_some h3)
-        ∙ ap (λ (h : b.rows ≤ 1000000). with_facts b.tables b.rows h1 h2 h3 h) (le_prop b.rows_few h4)))
+    ap (λ (h : 1 ≤ b.tables). with_facts b.tables b.rows h b.tables_few b.rows_some b.rows_few) (le_prop b.tables_some h1)
+    ∙ ap (λ (h : b.tables ≤ 62). with_facts b.tables b.rows h1 h b.rows_some b.rows_few) (le_prop b.tables_few h2)
+    ∙ ap (λ (h : 1 ≤ b.rows). with_facts b.tables b.rows h1 h2 h b.rows_few) (le_prop b.rows_some h3)
+    ∙ ap (λ (h : b.rows ≤ 1000000). with_facts b.tables b.rows h1 h2 h3 h) (le_prop b.rows_few h4)))
 
 pub same_limits : (g : Sizes) (a b : Limits) → AreLimits g a → AreLimits g b → a ≡ b
 same_limits g a b ha hb = limits_at a b.tables (ha.tables ∙ sym hb.tables) b.rows (ha.rows ∙ sym hb.rows) b.tables_some b.tables_few b.rows_some b.rows_few

@@ -7,3 +7,4 @@ pub mod OpenLaws
 pub mod AnswerLaws
 pub mod ScanningLaws
 pub mod CauseLaws
+pub mod StepLaws

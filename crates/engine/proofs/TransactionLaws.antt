@@ -132,9 +132,9 @@ module _ (old : Engine) (a : Standing) (stands : StandsFor old a) (book : Book) 
         (stands_by old with_book a b stands call.geometry refl refl call.goes ready (λ is. subst (λ n. n ≤ old.writes) (sym begins.accepted) (omega arith)) (λ is more. subst (λ n. 640 ≤ n) (sym begins.room) (omega arith))
         (subst (λ n. old.commits ≤ n) (sym begins.tail) stands.counted)) (λ told s is. tt)
         (λ told s is.
-            subst (λ (t : State). Shows with_book b t) (sym (ap (λ x. x.0) (step_begin (bounds_in (engine_sizes old)) s (was_closed s is))))
-            (shows_by old with_book b (accepted s command.Begin).0 (committed_in (now a)) (pages_in (engine_sizes old) (now a)) call.geometry (lines told).committed (lines told).current is.committed
-            (subst (λ (T : List Table). HoldsTables (engine_sizes old) (pages_in (engine_sizes old) (now a)) T) (current_closed s (was_closed s is)) is.seen) (begins.is_open, sym begins.accepted) is.commits))
+        subst (λ (t : State). Shows with_book b t) (sym (ap (λ x. x.0) (step_begin (bounds_in (engine_sizes old)) s (was_closed s is))))
+        (shows_by old with_book b (accepted s command.Begin).0 (committed_in (now a)) (pages_in (engine_sizes old) (now a)) call.geometry (lines told).committed (lines told).current is.committed
+        (subst (λ (T : List Table). HoldsTables (engine_sizes old) (pages_in (engine_sizes old) (now a)) T) (current_closed s (was_closed s is)) is.seen) (begins.is_open, sym begins.accepted) is.commits))
 
     pub begin_replies : Replies old a (Some command.Begin) (Ok reply.Fine)
     begin_replies = λ told s is. ap (λ x. x.1) (step_begin (bounds_in (engine_sizes old)) s (was_closed s is))
@@ -160,8 +160,8 @@ module _ (old : Engine) (a : Standing) (stands : StandsFor old a) (book : Book) 
         (stands_by old with_book a b stands call.geometry refl refl call.goes ready (λ is. closed_facts ends.is_open is) (λ is more. closed_facts ends.is_open is)
         (let low : old.commits ≤ old.book.log.tail = stands.counted in let moved : book.log.tail ≡ old.book.log.tail + 1 = ends.tail in omega (arith, low, moved))) (λ told s is. tt)
         (λ told s is.
-            subst (λ (t : State). Shows with_book b t) (sym (ap (λ x. x.0) (abort_step_is s is)))
-            (shows_by old with_book b (accepted s command.Abort).0 (committed_in (now a)) (committed_in (now a)) call.geometry (lines told).committed (lines told).current is.committed is.committed ends.is_open is.commits))
+        subst (λ (t : State). Shows with_book b t) (sym (ap (λ x. x.0) (abort_step_is s is)))
+        (shows_by old with_book b (accepted s command.Abort).0 (committed_in (now a)) (committed_in (now a)) call.geometry (lines told).committed (lines told).current is.committed is.committed ends.is_open is.commits))
 
     pub abort_replies : Replies old a (Some command.Abort) (Ok reply.Aborted)
     abort_replies = λ told s is. ap (λ x. x.1) (abort_step_is s is)
@@ -177,9 +177,9 @@ module _ (old : Engine) (a : Standing) (stands : StandsFor old a) (book : Book) 
         (stands_by old counted a b stands call.geometry refl refl call.goes ready (λ is. closed_facts ends.is_open is) (λ is more. closed_facts ends.is_open is)
         (let low : old.commits ≤ old.book.log.tail = stands.counted in let moved : book.log.tail ≡ old.book.log.tail + 1 = ends.tail in omega (arith, low, moved))) (λ told s is. tt)
         (λ told s is.
-            subst (λ (t : State). Shows counted b t) (sym (ap (λ x. x.0) (commit_step_is s is)))
-            (shows_by old counted b (accepted s command.Commit).0 (pages_in (engine_sizes old) (now a)) (pages_in (engine_sizes old) (now a)) call.geometry (lines told).committed (lines told).current is.seen is.seen ends.is_open
-            (ap (λ n. n + 1) is.commits)))
+        subst (λ (t : State). Shows counted b t) (sym (ap (λ x. x.0) (commit_step_is s is)))
+        (shows_by old counted b (accepted s command.Commit).0 (pages_in (engine_sizes old) (now a)) (pages_in (engine_sizes old) (now a)) call.geometry (lines told).committed (lines told).current is.seen is.seen ends.is_open
+        (ap (λ n. n + 1) is.commits)))
         (λ s is. ap (λ x. x.0.tables) (commit_step_is s is))
 
     pub commit_stopped : {T : Type 0} (r : Result T Stop) (why : Stop) → IsErr r × IsErrAnd r (λ found. found ≡ why) → StoreCall (IsOldOrNew old.book a) old.book a book b → IsFault why
@@ -204,9 +204,9 @@ module _ (old : Engine) (a : Standing) (stands : StandsFor old a) (book : Book) 
         (stands_by old with_book a b stands call.geometry refl refl call.goes ready (λ is. let bad : false ≡ true = sym made.is_open ∙ is in absurd (cc)) (λ is more. let bad : false ≡ true = sym made.is_open ∙ is in absurd (cc))
         (subst (λ n. old.commits ≤ n) (sym made.tail) stands.counted)) (λ told s is. tt)
         (λ told s is.
-            subst (λ (t : State). Shows with_book b t) (sym (ap (λ x. x.0) (step_checkpoint (bounds_in (engine_sizes old)) s (stays_closed s is))))
-            (shows_by old with_book b s (committed_in (now a)) (pages_in (engine_sizes old) (now a)) call.geometry (lines told).committed (lines told).current is.committed is.seen
-            (closed_transaction book s.transaction (stays_closed s is) made.is_open) is.commits))
+        subst (λ (t : State). Shows with_book b t) (sym (ap (λ x. x.0) (step_checkpoint (bounds_in (engine_sizes old)) s (stays_closed s is))))
+        (shows_by old with_book b s (committed_in (now a)) (pages_in (engine_sizes old) (now a)) call.geometry (lines told).committed (lines told).current is.committed is.seen
+        (closed_transaction book s.transaction (stays_closed s is) made.is_open) is.commits))
 
     pub checkpoint_replies : Replies old a (Some command.Checkpoint) (Ok reply.Fine)
     checkpoint_replies = λ told s is. ap (λ x. x.1) (step_checkpoint (bounds_in (engine_sizes old)) s (stays_closed s is))

@@ -5,3 +5,4 @@ pub mod Commands
 pub mod Scanning
 pub mod Opening
 pub mod Causes
+pub mod Answers

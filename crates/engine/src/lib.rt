@@ -6,6 +6,7 @@ mod engine;
 mod opening;
 mod scan;
 mod scanning;
+mod stepping;
 mod storing;
 mod transaction;
 

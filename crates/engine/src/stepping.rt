@@ -1,0 +1,134 @@
+//! What a line of a script does, and the end of a run.
+ghost use Rattle.std.specs.Prelude.{◌≡◌, ◌+◌, ◌^◌, ◌≤◌, [], ◌∷◌, Option, Some, None, Err, Ok, true, false, IfOk, IsTrue};
+ghost use Rattle.transactions.specs.StoreStanding.{reach};
+ghost use Rattle.script.specs.Machine.{transaction_wrong};
+ghost use Rattle.script.specs.Grammar.{command_in};
+
+use crate::engine::Engine;
+use crate::scan::Step;
+use devices::{Devices, World};
+use line_pages::Stop;
+use script::{Command, Reason, Reply, is_silent, read_line};
+use ssd_model::PageBuf;
+
+/// Whether a transaction is open where none may be, or none where one must be.
+fn is_misplaced(command: &Command, is_open: bool) -> bool
+    ensures { result ≡ transaction_wrong command.now is_open }
+{
+    match command {
+        Command::Begin | Command::Checkpoint => is_open,
+        Command::Create(_)
+        | Command::Put(..)
+        | Command::Del(..)
+        | Command::Commit
+        | Command::Abort => !is_open,
+        Command::Get(..) | Command::Scan(..) | Command::Drain | Command::Clean(_) => false,
+    }
+}
+
+ghost use Rattle.engine.specs.Answers.{said_of};
+
+/// One reply, as what a line leads to.
+fn said(reply: Result<Reply, Stop>) -> Result<Step, Stop>
+    ensures { result ≡ said_of reply }
+{
+    match reply {
+        Ok(reply) => Ok(Step::Said(reply)),
+        Err(stop) => Err(stop),
+    }
+}
+
+impl Engine {
+    ghost use Rattle.engine.specs.Engine.{StandsFor};
+    ghost use Rattle.engine.specs.Causes.{Stops};
+    ghost use Rattle.engine.specs.Steps.{Does, IsBegun, after_line};
+    ghost use Rattle.engine.specs.Answers.{AnswersLine, Obeys, closed};
+
+    /// Does what a line of a script asks, which is given without its line feed; of a line of more than 1,024 bytes the first
+    /// 1,025 serve. A silent line does nothing. It begins with the end of the open access, and takes no memory.
+    ///
+    /// `Nvm` and `Ssd` where that count of faults rose; `Damaged` with evidence, whose page is `evidence_page`, and never over
+    /// pages in order.
+    pub fn step<W: World>(&mut self, world: &mut W, line: &[u8]) -> Result<Step, Stop>
+        requires ready { StandsFor self.old (W.Devices.standing world.old) }
+        requires low { reach self.old.book ≤ 2 ^ 61 + 2 ^ 46 }
+        // what it does, and what is replied
+        ensures does { Does (after_line self.old (command_in line.now)) self.old (W.Devices.standing world.old) self.new (W.Devices.standing world.new) result }
+        ensures replies { AnswersLine self.old (W.Devices.standing world.old) (command_in line.now) result }
+        ensures begun { IfOk result IsBegun }
+        // why it stops
+        ensures cause { Stops self.old (W.Devices.standing world.old) self.new (W.Devices.standing world.new) result }
+    {
+        self.book.rest();
+        if is_silent(line) {
+            return Ok(Step::Silent);
+        }
+        match read_line(line) {
+            None => Ok(Step::Said(Reply::Refused(Reason::Form))),
+            Some(command) => self.answer(world, command),
+        }
+    }
+
+    /// Does what a command asks, if a transaction is open where one must be and none where none may be.
+    fn answer<W: World>(&mut self, world: &mut W, command: Command) -> Result<Step, Stop>
+        requires ready { StandsFor self.old (W.Devices.standing world.old) }
+        requires low { reach self.old.book ≤ 2 ^ 61 + 2 ^ 46 }
+        ensures { Obeys (Some command) self.old (W.Devices.standing world.old) self.new (W.Devices.standing world.new) result }
+    {
+        if is_misplaced(&command, self.book.is_open()) {
+            return Ok(Step::Said(Reply::Refused(Reason::Transaction)));
+        }
+        self.obey(world, command)
+    }
+
+    /// The same where it is so.
+    fn obey<W: World>(&mut self, world: &mut W, command: Command) -> Result<Step, Stop>
+        requires ready { StandsFor self.old (W.Devices.standing world.old) }
+        requires low { reach self.old.book ≤ 2 ^ 61 + 2 ^ 46 }
+        requires placed { transaction_wrong command self.old.book.is_open ≡ false }
+        ensures { Obeys (Some command) self.old (W.Devices.standing world.old) self.new (W.Devices.standing world.new) result }
+    {
+        match command {
+            Command::Create(name) => said(self.create(world, &name)),
+            Command::Begin => said(self.begin(world)),
+            Command::Put(name, key, value) => said(self.put(world, &name, key, &value)),
+            Command::Del(name, key) => said(self.del(world, &name, key)),
+            Command::Get(name, key) => said(self.get(world, &name, key)),
+            Command::Scan(name, from, to) => self.scan(world, name, from, to),
+            Command::Commit => said(self.commit(world)),
+            Command::Abort => said(self.abort(world)),
+            Command::Checkpoint => said(self.checkpoint(world)),
+            Command::Drain => said(self.drain(world)),
+            Command::Clean(frames) => said(self.clean(world, frames)),
+        }
+    }
+
+    /// Ends a run: an open transaction is aborted.
+    pub fn finish<W: World>(&mut self, world: &mut W) -> Result<(), Stop>
+        requires ready { StandsFor self.old (W.Devices.standing world.old) }
+        ensures does { Does closed self.old (W.Devices.standing world.old) self.new (W.Devices.standing world.new) result }
+        ensures cause { Stops self.old (W.Devices.standing world.old) self.new (W.Devices.standing world.new) result }
+    {
+        self.book.rest();
+        self.close(world)
+    }
+
+    /// Aborts an open transaction.
+    fn close<W: World>(&mut self, world: &mut W) -> Result<(), Stop>
+        requires ready { StandsFor self.old (W.Devices.standing world.old) }
+        ensures does { Does closed self.old (W.Devices.standing world.old) self.new (W.Devices.standing world.new) result }
+        ensures cause { Stops self.old (W.Devices.standing world.old) self.new (W.Devices.standing world.new) result }
+    {
+        if self.book.is_open() {
+            self.abort(world)?;
+        }
+        Ok(())
+    }
+
+    /// The page of the evidence with which a call stopped.
+    pub fn evidence_page(&self) -> &PageBuf
+        ensures { result.now ≡ self.now.work.page }
+    {
+        &self.work.page
+    }
+}
