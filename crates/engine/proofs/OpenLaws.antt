@@ -98,5 +98,5 @@ order_stays g T a b keeps order = record {
   each = λ m low high i left.
       let is : _ = (keeps.during order.stands).each m low high i left in
       image_in_order g T a.lines a.blocks (committed_in (now a)) i (subst (λ (x : Sizes). nvm_lines x ≤ a.lines) order.sizes order.stands.gates.nvm_fits) (subst (λ (x : Sizes). ssd_blocks x ≤ a.blocks) order.sizes order.stands.gates.ssd_fits)
-      (order.recovers (current (now a)) (current_leaves (now a))) (record { is_sized = record { store = is.store; sizes = is.sizes ∙ order.sizes }; pages = is.pages });
+      (order.recovers (current (now a)) (current_leaves (now a))) (record { is_sized = record { store = is.is_sized.store; sizes = is.is_sized.sizes ∙ order.sizes }; pages = is.pages });
 }
