@@ -197,7 +197,7 @@ module _ {book_name device_name since book_name_after device_name_after since_af
     shows_next : IsTrue a.told → (s : State) → Shows old a s → (T : List Table) → HoldsTables (engine_sizes old) (pages_in (book_sizes book) (now b)) T → Shows (with_book old next work) b (written T s)
     shows_next told s shows T holds = record {
       committed = subst (λ (g : Sizes). HoldsTables g (committed_in (now b)) s.tables) (sizes ∙ sym next_sizes) (committed_stays told s shows);
-      seen = subst (λ (T2 : List Table). HoldsTables (book_sizes next) (pages_in (book_sizes next) (now b)) T2) (sym (current_next old.book s T was_open shows.transaction))
+      seen = subst (λ (tables : List Table). HoldsTables (book_sizes next) (pages_in (book_sizes next) (now b)) tables) (sym (current_next old.book s T was_open shows.transaction))
           (subst (λ (g : Sizes). HoldsTables g (pages_in g (now b)) T) (sym next_sizes) (subst (λ (g : Sizes). HoldsTables (engine_sizes old) (pages_in g (now b)) T) sizes holds));
       transaction = transaction_next old.book next s T was_open nexts.is_open
           (let one : next.accepted ≡ book.accepted + 1 = nexts.accepted in let same_writes : book.accepted ≡ old.book.accepted = accepted in omega (arith, one, same_writes)) shows.transaction;
