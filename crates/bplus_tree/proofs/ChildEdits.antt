@@ -5,7 +5,7 @@ use Rattle.std.proofs.lemmas.List.{length-take-le}
 use Rattle.std.proofs.lemmas.Bool.{lt-ltb, le-ltb, le-leb, ltb-true, eqb-true, eq-eqb, ne_eqb, cases_lt, cases_eq, and_parts, and_from, leb-true}
 use Rattle.slotted_page.specs.declared.root.Expect.{Expect}
 use Rattle.slotted_page.specs.Rows.{Ascends, Each}
-use Rattle.slotted_page.specs.Cut.{children_left}
+use Rattle.page_edit.specs.Cut.{children_left}
 use Rattle.slotted_page.specs.Node.{Child, children, first_keys, begins_at, is_page_below, page_level, IsWellFormed}
 use Rattle.slotted_page.specs.Inner.{IsBranch}
 use Rattle.slotted_page.proofs.PageFacts.{inner_facts}

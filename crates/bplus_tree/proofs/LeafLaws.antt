@@ -7,7 +7,8 @@ use Rattle.slotted_page.specs.Rows.{Row, keys, row_put, Ascends, last_key}
 use Rattle.slotted_page.proofs.RowLemmas.{row_bytes-cons, row_bytes-nil}
 use Rattle.bplus_tree.proofs.RowLaws.{Ascends-put}
 use Rattle.slotted_page.specs.Node.{leaf_rows, leaf_checks, entry_count, heap_start, first_failing, any_leaf, IsLeaf, IsWellFormed}
-use Rattle.slotted_page.specs.Sound.{IsPacked, AddsBelow, row_bytes}
+use Rattle.page_edit.specs.Packed.{IsPacked, AddsBelow}
+use Rattle.slotted_page.specs.Sound.{row_bytes}
 use Rattle.slotted_page.proofs.FactLemmas.{AllHold, all_hold, none_fails, ascends-is, sound_of, leaf_used_is, leaf_from}
 use Rattle.slotted_page.proofs.PageFacts.{leaf_facts}
 use Rattle.slotted_page.proofs.SlotLemmas.{length_rows}

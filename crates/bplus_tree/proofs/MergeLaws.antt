@@ -4,10 +4,10 @@ use Rattle.std.specs.List.{list_all}
 use Rattle.std.proofs.lemmas.Bool.{le-leb, and_parts, and_from}
 use Rattle.std.proofs.lemmas.List.{map-append}
 use Rattle.slotted_page.specs.Rows.{Row, keys, key_of, Ascends}
-use Rattle.slotted_page.specs.Cut.{rows_left, children_left}
+use Rattle.page_edit.specs.Cut.{rows_left, children_left}
 use Rattle.slotted_page.specs.Node.{Child, leaf_rows, children, first_keys, begins_at, is_page_below, page_level, IsLeaf}
-use Rattle.slotted_page.specs.Inner.{IsJoinedBranch, IsDividedBranch}
-use Rattle.slotted_page.specs.Sound.{row_bytes, IsJoined, IsDivided}
+use Rattle.page_edit.specs.Join.{IsJoinedBranch, IsDividedBranch, IsJoined, IsDivided}
+use Rattle.slotted_page.specs.Sound.{row_bytes}
 use Rattle.slotted_page.proofs.RowLemmas.{row_bytes-append}
 use Rattle.bplus_tree.specs.declared.outcome.Pair.{Pair}
 use Rattle.bplus_tree.specs.Edit.{part, Holds, Divides, AreChildren, left_of, right_of, whole_of, IsEnoughLeaf, IsEnoughInner, IsPair, IsCutIn}

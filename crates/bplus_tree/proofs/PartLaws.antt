@@ -7,7 +7,7 @@ use Rattle.ssd_model.specs.Page.{Same}
 use Rattle.slotted_page.specs.Rows.{Row}
 use Rattle.slotted_page.specs.Node.{Slot}
 use Rattle.slotted_page.specs.Value.{value_of}
-use Rattle.slotted_page.proofs.InsertLemmas.{row_in-same}
+use Rattle.page_edit.proofs.InsertLemmas.{row_in-same}
 use Rattle.bplus_tree.specs.Record.{is_record, with_key, row_found}
 use Rattle.line_pages.specs.Touch.{begins}
 use Rattle.line_pages.specs.Standing.{Standing, ReadsPage}

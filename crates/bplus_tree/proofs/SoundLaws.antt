@@ -13,7 +13,7 @@ use Rattle.slotted_page.specs.Checks.{first_failure}
 use Rattle.std.specs.List.{list_all}
 use Rattle.line_pages.specs.Bytes.{bytes_of}
 use Rattle.slotted_page.specs.Rows.{keys, ascends}
-use Rattle.slotted_page.specs.Cut.{leaf_room, leaf_floor, inner_room, inner_floor}
+use Rattle.slotted_page.specs.Room.{leaf_room, leaf_floor, inner_room, inner_floor}
 use Rattle.slotted_page.specs.Node.{page_kind, page_level, entry_count, heap_start, slots, bytes_used, is_in_heap, all_apart, has_printable_value, begins_at, first_keys, is_page_below, leaf_rows, children, first_failing, IsWellFormed}
 use Rattle.bplus_tree.specs.Edit.{loose}
 use Rattle.bplus_tree.specs.Tree.{IsTree}

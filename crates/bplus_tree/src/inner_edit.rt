@@ -12,7 +12,8 @@ ghost use Rattle.bplus_tree.specs.Edit.{Fits, child_put, child_place, has_child,
 
 use crate::leaf_edit::top_of;
 use crate::outcome::{Fit, Pair};
-use slotted_page::{Expect, child_key, children, inner_cut, inner_insert, inner_remove};
+use page_edit::{inner_cut, inner_insert, inner_remove};
+use slotted_page::{Expect, child_key, children};
 use ssd_model::PageBuf;
 
 /// What an inner page of a tree is in itself.

@@ -4,17 +4,16 @@ ghost use Rattle.std.specs.List.{insert, remove, list_all};
 ghost use Rattle.ssd_model.specs.Page.{Same};
 ghost use Rattle.slotted_page.specs.Rows.{Row, row_put, row_delete, keys, Ascends, last_key};
 ghost use Rattle.slotted_page.specs.Node.{IsLeaf, IsWellFormed, entry_count, heap_start, is_printable, leaf_rows as rows_of};
-ghost use Rattle.slotted_page.specs.Sound.{IsSound, IsRows, IsPacked, AddsBelow, row_bytes};
+ghost use Rattle.slotted_page.specs.Sound.{IsSound, IsRows, row_bytes};
+ghost use Rattle.page_edit.specs.Packed.{IsPacked, AddsBelow};
 ghost use Rattle.bplus_tree.specs.declared.outcome.Fit.TheVariants as fits;
 ghost use Rattle.bplus_tree.specs.Edit.{Fits, place_of, has_row};
 ghost use Rattle.bplus_tree.specs.Written.{Differs, Meets, lines_changed};
 ghost use Rattle.bplus_tree.specs.Record.{record_at, HoldsLength};
 
 use crate::outcome::Fit;
-use slotted_page::{
-    Expect, leaf_cut, leaf_insert, leaf_key, leaf_remove, leaf_rows, leaf_set, leaf_used,
-    leaf_value,
-};
+use page_edit::{leaf_cut, leaf_insert, leaf_remove, leaf_set};
+use slotted_page::{Expect, leaf_key, leaf_rows, leaf_used, leaf_value};
 use ssd_model::PageBuf;
 
 /// What a leaf is in itself.

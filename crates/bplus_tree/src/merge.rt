@@ -7,7 +7,8 @@ ghost use Rattle.bplus_tree.specs.Edit.{left_of, right_of, whole_of, Merges, IsE
 use crate::inner_edit::enter as enter_inner;
 use crate::leaf_edit::{enter, open_leaf, top_of};
 use crate::outcome::Pair;
-use slotted_page::{Expect, child_key, children, inner_join, leaf_join, leaf_key, leaf_used};
+use page_edit::{inner_join, leaf_join};
+use slotted_page::{Expect, child_key, children, leaf_key, leaf_used};
 use ssd_model::PageBuf;
 
 /// What is expected of the left one of two neighbours.

@@ -1,15 +1,9 @@
 pub mod SlotLemmas
-pub mod InsertLemmas
 pub mod RowLemmas
-pub mod BuildLemmas
 pub mod FactLemmas
-pub mod RemoveLemmas
-pub mod CutLemmas
 pub mod InnerLemmas
 pub mod CheckLemmas
 pub mod BranchLemmas
-pub mod SetLemmas
 pub mod PageFacts
 pub mod KeyLaws
 pub mod ChildLaws
-pub mod OrderLaws

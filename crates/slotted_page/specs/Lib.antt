@@ -1,6 +1,6 @@
 pub mod Checks
 pub mod Rows
-pub mod Cut
+pub mod Room
 pub mod Node
 pub mod Sound
 pub mod Inner

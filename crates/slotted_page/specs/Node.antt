@@ -5,7 +5,7 @@ use Rattle.slotted_page.specs.declared.root.Expect.{Expect}
 use Rattle.line_pages.specs.Bytes.{u16_at, u64_at}
 use Rattle.slotted_page.specs.Checks.{first_failure, but_for}
 use Rattle.slotted_page.specs.Rows.{Row, keys, ascends, last_key}
-use Rattle.slotted_page.specs.Cut.{leaf_room, leaf_floor, inner_room, inner_floor}
+use Rattle.slotted_page.specs.Room.{leaf_room, leaf_floor, inner_room, inner_floor}
 
 -- Words 0 to 3 of a page: its kind, how many rows or children it has, its level, and where its records begin.
 abbrev pub page_kind : List ℕ → ℕ

@@ -1,8 +1,8 @@
 //! The rows of a leaf, read by its slots.
 ghost use Rattle.std.specs.Prelude.{◌≡◌, ◌+◌, ◌*◌, ◌<◌, ◌≤◌, ℕ, List, length, get_or};
 ghost use Rattle.slotted_page.specs.Rows.{Row};
-ghost use Rattle.slotted_page.specs.Node.{entry_count, heap_start, leaf_rows as rows_of};
-ghost use Rattle.slotted_page.specs.Sound.{IsSound, InHeap, slot_of};
+ghost use Rattle.slotted_page.specs.Node.{IsLeaf, entry_count, heap_start, leaf_rows as rows_of};
+ghost use Rattle.slotted_page.specs.Sound.{IsSound, IsRows, InHeap, slot_of};
 
 use line_pages::{page_half, page_word};
 use ssd_model::PageBuf;
@@ -17,7 +17,18 @@ pub fn leaf_rows(page: &PageBuf) -> usize
     page_word(page, 8) as usize
 }
 
-/// Where the record of a row stands.
+/// The number of rows of a leaf that is well formed in itself.
+pub fn open_leaf(page: &PageBuf) -> usize
+    requires { IsLeaf page.now }
+    ensures count { result ≡ length (rows_of page.now) }
+    ensures sound { IsSound page.now }
+    ensures entries { length (rows_of page.now) ≡ entry_count page.now }
+    ensures rows { IsRows (rows_of page.now) }
+{
+    page_word(page, 8) as usize
+}
+
+/// Where the record of a row stands: the byte in the page, from which its key and then its value come.
 pub fn place_of(page: &PageBuf, at: usize) -> usize
     requires sound { IsSound page.now }
     requires at { at < entry_count page.now }

@@ -1,7 +1,7 @@
 use Rattle.std.proofs.Common.{◌≡◌, length, length-drop, arith, sym, ap, ◌∙◌}
 use Rattle.std.specs.List.{insert}
 use Rattle.std.proofs.lemmas.List.Edits.{length-insert}
-use Rattle.slotted_page.specs.Cut.{children_left}
+use Rattle.page_edit.specs.Cut.{children_left}
 use Rattle.slotted_page.specs.Node.{children, first_keys}
 use Rattle.bplus_tree.proofs.LeafLaws.{wide_order}
 use Rattle.bplus_tree.proofs.ChildEdits.{inner_within, cut_children_divide, half_of_full}

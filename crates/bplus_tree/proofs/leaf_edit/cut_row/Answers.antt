@@ -1,7 +1,7 @@
 use Rattle.std.proofs.Common.{◌<◌, [], arith}
 use Rattle.std.specs.List.{insert}
 use Rattle.slotted_page.specs.Rows.{keys}
-use Rattle.slotted_page.specs.Cut.{rows_left}
+use Rattle.page_edit.specs.Cut.{rows_left}
 use Rattle.slotted_page.specs.Node.{leaf_rows}
 use Rattle.slotted_page.specs.Sound.{row_bytes}
 use Rattle.slotted_page.proofs.RowLemmas.{row_bytes-insert}

@@ -1,6 +1,6 @@
 use Rattle.std.proofs.Common.{◌≡◌, ◌++◌, length, length-drop, arith, ap, subst, ◌∙◌}
 use Rattle.slotted_page.specs.declared.root.Expect.{Expect}
-use Rattle.slotted_page.specs.Cut.{children_left}
+use Rattle.page_edit.specs.Cut.{children_left}
 use Rattle.slotted_page.specs.Node.{children, first_keys, page_level}
 use Rattle.bplus_tree.specs.Edit.{AreChildren, left_of, right_of}
 use Rattle.bplus_tree.proofs.LeafLaws.{wide_order}

@@ -1,0 +1,65 @@
+-- Packed leaves.
+use Rattle.std.proofs.Common.{◌≡◌, ℕ, ◌+◌, ◌-◌, ◌<◌, ◌≤◌, List, [], ◌∷◌, ◌++◌, length, get_or, slice_range, refl, ap, sym, ◌∙◌, arith, append_assoc, append-nil}
+use Rattle.std.specs.List.{insert}
+use Rattle.std.proofs.lemmas.List.Edits.{insert_end, between_none}
+use Rattle.slotted_page.specs.Rows.{Row}
+use Rattle.slotted_page.specs.Node.{slots, leaf_rows, page_kind, page_level, entry_count, heap_start}
+use Rattle.page_edit.specs.Packed.{IsPacked}
+use Rattle.slotted_page.specs.Sound.{row_bytes}
+use Rattle.slotted_page.specs.Room.{row_size}
+use Rattle.slotted_page.proofs.RowLemmas.{row_bytes-nil, row_bytes-push, row_bytes-append}
+use Rattle.page_edit.proofs.PartLemmas.{part_more, part_bytes}
+
+-- a leaf with no slot
+no_slots : (bytes : List ℕ) → entry_count bytes ≡ 0 → slots bytes ≡ []
+unfolding slots
+no_slots bytes none = rw none refl
+
+pub no_rows : (bytes : List ℕ) → entry_count bytes ≡ 0 → leaf_rows bytes ≡ []
+unfolding leaf_rows
+no_rows bytes none = rw (no_slots bytes none) refl
+
+pub empty_packed : (bytes : List ℕ) → length bytes ≡ 4096 → page_kind bytes ≡ 1 → entry_count bytes ≡ 0 → page_level bytes ≡ 0 → heap_start bytes ≡ 4096 → IsPacked bytes
+empty_packed bytes size kind none level heap = record {
+  sound = record {
+    size = size;
+    kind = kind;
+    level = level;
+    below_heap = omega arith;
+    heap = omega arith;
+    in_heap = rw (no_slots bytes none) refl;
+    apart = rw (no_slots bytes none) refl;
+  };
+  tight = rw (no_rows bytes none) (omega (arith, row_bytes-nil));
+}
+
+pub pushed_rows : (rows now : List Row) (n : ℕ) (row : Row) → n ≡ length rows → now ≡ insert rows n row → now ≡ rows ++ row ∷ []
+pushed_rows rows now n row is wrote = wrote ∙ ap (λ (k : ℕ). insert rows k row) is ∙ insert_end rows row
+
+pub pair_is : (k : ℕ) (v : List ℕ) (row : Row) → k ≡ row.0 → v ≡ row.1 → (k, v) ≡ row
+pair_is k v row p q = rw (p, q) refl
+
+-- the next row of a part fits where the whole part does
+pub room_next : (old from now : List Row) (start i end : ℕ) (row : Row) → now ≡ old ++ slice_range from start i → start ≤ i → i < end → end ≤ length from → row ≡ get_or from i row
+    → row_bytes (old ++ slice_range from start end) ≤ 4032 → row_bytes now + row_size row ≤ 4032
+room_next old from now start i end row so_far low high within is room =
+    let here = ap row_bytes so_far ∙ row_bytes-append old (slice_range from start i) in
+    let more = ap row_bytes (part_more from start i row low (omega arith)) ∙ row_bytes-push (slice_range from start i) (get_or from i row) in
+    let size : row_size row ≡ row_size (get_or from i row) = ap row_size is in
+    let part = part_bytes from start (i + 1) (end - (i + 1)) (omega arith) (omega arith) in
+    let last : i + 1 + (end - (i + 1)) ≡ end = omega arith in
+    let whole = ap (λ (k : ℕ). row_bytes (slice_range from start k)) last in
+    omega (arith, here, more, size, part, whole, row_bytes-append old (slice_range from start end))
+
+pub rows_next : (old from now next : List Row) (start i : ℕ) (row : Row) → now ≡ old ++ slice_range from start i → next ≡ now ++ row ∷ [] → start ≤ i → i < length from → row ≡ get_or from i row
+    → next ≡ old ++ slice_range from start (i + 1)
+rows_next old from now next start i row so_far pushed low high is =
+    pushed ∙ ap (λ xs. xs ++ row ∷ []) so_far ∙ append_assoc old (slice_range from start i) (row ∷ [])
+    ∙ ap (λ (r : Row). old ++ (slice_range from start i ++ r ∷ [])) is ∙ ap (λ xs. old ++ xs) (sym (part_more from start i row low high))
+
+-- what leaf_key and leaf_value gave is the row
+pub read_row : (rows : List Row) (i key : ℕ) (value : List ℕ) → ((d : Row) → key ≡ (get_or rows i d).0) → ((d : Row) → value ≡ (get_or rows i d).1) → (d : Row) → (key, value) ≡ get_or rows i d
+read_row rows i key value keys values d = pair_is key value (get_or rows i d) (keys d) (values d)
+
+pub none_yet : (old from : List Row) (start : ℕ) → old ≡ old ++ slice_range from start start
+none_yet old from start = sym (ap (λ xs. old ++ xs) (between_none from start) ∙ append-nil old)

@@ -1,0 +1,9 @@
+pub mod InsertLemmas
+pub mod PartLemmas
+pub mod BuildLemmas
+pub mod RemoveLemmas
+pub mod CutLemmas
+pub mod LeafLemmas
+pub mod ChildLemmas
+pub mod SetLemmas
+pub mod OrderLaws

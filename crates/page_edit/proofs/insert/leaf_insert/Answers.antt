@@ -1,0 +1,40 @@
+use Rattle.slotted_page.proofs.RowLemmas.{row_bytes-insert}
+use Rattle.line_pages.proofs.NumberLaws.{same_then, same_part}
+use Rattle.std.proofs.Common.{ap, ◌∙◌, sym, subst, ◌+◌, ◌*◌, ℕ, List, length, inl, inr, arith}
+use Rattle.std.specs.List.{insert}
+use Rattle.slotted_page.specs.Rows.{Row}
+use Rattle.slotted_page.specs.Node.{leaf_rows, entry_count, heap_start}
+use Rattle.slotted_page.specs.Sound.{IsRows, row_bytes}
+use Rattle.page_edit.specs.Packed.{AddsBelow}
+use Rattle.slotted_page.proofs.FactLemmas.{leaf_is}
+use Rattle.page_edit.proofs.LeafLemmas.{rows_insert}
+use Rattle.page_edit.proofs.insert.leaf_insert.Goals as goal
+
+pub returns-clause-leaf : goal.returns-clause-leaf
+returns-clause-leaf c =
+    let row : Row = (c.args.key, c.args.value.now) in
+    let rows = c.insert_here.ensures.rows ∙ ap (λ xs. insert xs c.args.at row) c.make_room.ensures.rows in
+    leaf_is c.insert_here.new.page c.insert_here.ensures.sound
+    (subst IsRows (sym rows) (rows_insert (leaf_rows c.args.page.now) c.args.at row c.open_leaf.ensures.rows c.requires.room c.requires.order c.requires.printable))
+
+pub returns-clause-rest : goal.returns-clause-rest
+returns-clause-rest c =
+    let old = c.args.page.now in
+    let mid = c.make_room.new.page in
+    let new = c.insert_here.new.page in
+    let from = 64 + 4 * entry_count new in
+    let end = heap_start new in
+    same_then from end old mid new (same_part from end (64 + 4 * entry_count mid) (heap_start mid) old mid c.make_room.ensures.rest (omega (arith, c.insert_here.ensures.count)) (omega (arith, c.insert_here.ensures.heap))) c.insert_here.ensures.rest
+
+pub returns-clause-placed : goal.returns-clause-placed
+returns-clause-placed c =
+    let mid = c.make_room.new.page in
+    let new = c.insert_here.new.page in
+    elim c.make_room.ensures.packed [
+      | inl same ↦ inl (subst (λ (bytes : List ℕ). AddsBelow (8 + length c.args.value.now) bytes new) same (record { heap = c.insert_here.ensures.heap; kept = c.insert_here.ensures.above }))
+      | inr packed ↦ inr (record {
+        sound = c.insert_here.ensures.sound;
+        tight = let more = ap row_bytes c.insert_here.ensures.rows ∙ row_bytes-insert (leaf_rows mid) c.args.at (c.args.key, c.args.value.now) in
+            omega (arith, packed.tight, more, c.insert_here.ensures.heap, c.insert_here.ensures.count);
+      })
+    ]

@@ -1,0 +1,10 @@
+use Rattle.std.proofs.Common.{sym, subst}
+use Rattle.slotted_page.specs.Node.{leaf_rows}
+use Rattle.slotted_page.specs.Sound.{IsRows}
+use Rattle.slotted_page.proofs.FactLemmas.{leaf_is}
+use Rattle.page_edit.proofs.RemoveLemmas.{rows_remove}
+use Rattle.page_edit.proofs.insert.leaf_remove.Goals as goal
+
+pub returns-clause-leaf : goal.returns-clause-leaf
+returns-clause-leaf c = leaf_is c.remove_here.new.page c.remove_here.ensures.sound
+    (subst IsRows (sym c.remove_here.ensures.rows) (rows_remove (leaf_rows c.args.page.now) c.args.at c.open_leaf.ensures.rows))

@@ -1,0 +1,29 @@
+use Rattle.std.proofs.Common.{arith}
+use Rattle.slotted_page.specs.Node.{leaf_rows}
+use Rattle.page_edit.proofs.PartLemmas.{fits_empty, lands_empty}
+use Rattle.page_edit.proofs.CutLemmas.{share_low, share_high}
+use Rattle.page_edit.proofs.join.share.Goals as goal
+
+pub push_both-requires-clause-room : goal.push_both-requires-clause-room
+push_both-requires-clause-room c =
+    fits_empty _ _ _ c.clear_leaf-2.ensures.rows (share_low (leaf_rows c.args.first.now) (leaf_rows c.args.second.now) c.args.n c.args.m c.args.part c.requires.n c.requires.m (omega arith)).right_is c.requires.right_room
+
+pub push_both-requires-else-part-n-clause-room : goal.push_both-requires-else-part-n-clause-room
+push_both-requires-else-part-n-clause-room c =
+    fits_empty _ _ _ c.clear_leaf.ensures.rows (share_high (leaf_rows c.args.first.now) (leaf_rows c.args.second.now) c.args.n c.args.m c.args.part c.requires.n c.requires.m (omega arith) c.requires.part).left_is c.requires.left_room
+
+pub push_rows-requires-else-part-n-clause-room : goal.push_rows-requires-else-part-n-clause-room
+push_rows-requires-else-part-n-clause-room c =
+    fits_empty _ _ _ c.clear_leaf-2.ensures.rows (share_high (leaf_rows c.args.first.now) (leaf_rows c.args.second.now) c.args.n c.args.m c.args.part c.requires.n c.requires.m (omega arith) c.requires.part).right_is c.requires.right_room
+
+pub returns-then-part-n-clause-right : goal.returns-then-part-n-clause-right
+returns-then-part-n-clause-right c =
+    lands_empty _ _ _ _ c.push_both.ensures.rows c.clear_leaf-2.ensures.rows (share_low (leaf_rows c.args.first.now) (leaf_rows c.args.second.now) c.args.n c.args.m c.args.part c.requires.n c.requires.m (omega arith)).right_is
+
+pub returns-else-part-n-clause-left : goal.returns-else-part-n-clause-left
+returns-else-part-n-clause-left c =
+    lands_empty _ _ _ _ c.push_both-else-part-n.ensures.rows c.clear_leaf.ensures.rows (share_high (leaf_rows c.args.first.now) (leaf_rows c.args.second.now) c.args.n c.args.m c.args.part c.requires.n c.requires.m (omega arith) c.requires.part).left_is
+
+pub returns-else-part-n-clause-right : goal.returns-else-part-n-clause-right
+returns-else-part-n-clause-right c =
+    lands_empty _ _ _ _ c.push_rows-else-part-n.ensures.rows c.clear_leaf-2.ensures.rows (share_high (leaf_rows c.args.first.now) (leaf_rows c.args.second.now) c.args.n c.args.m c.args.part c.requires.n c.requires.m (omega arith) c.requires.part).right_is

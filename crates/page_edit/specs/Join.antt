@@ -1,0 +1,38 @@
+-- What two pages are after a join.
+use Rattle.std.specs.Prelude.{◌≡◌, ℕ, ◌<◌, ◌≤◌, ◌++◌, List, length, take, drop}
+use Rattle.slotted_page.specs.Room.{leaf_room, leaf_floor, inner_room}
+use Rattle.slotted_page.specs.Node.{page_level, leaf_rows, children, IsLeaf}
+use Rattle.slotted_page.specs.Sound.{row_bytes}
+use Rattle.slotted_page.specs.Inner.{IsBranch}
+use Rattle.page_edit.specs.Cut.{rows_left, children_left}
+
+-- two leaves after a join: all rows are in the left one, or they are divided
+pub record IsJoined (one two left : List ℕ) : Type 0 where
+  pub fits : row_bytes (leaf_rows one ++ leaf_rows two) ≤ leaf_room
+  pub rows : leaf_rows left ≡ leaf_rows one ++ leaf_rows two
+  pub leaf : IsLeaf left
+
+pub record IsDivided (one two left right : List ℕ) : Type 0 where
+  pub over : leaf_room < row_bytes (leaf_rows one ++ leaf_rows two)
+  pub left_rows : leaf_rows left ≡ take (rows_left (leaf_rows one ++ leaf_rows two)) (leaf_rows one ++ leaf_rows two)
+  pub right_rows : leaf_rows right ≡ drop (rows_left (leaf_rows one ++ leaf_rows two)) (leaf_rows one ++ leaf_rows two)
+  pub left_leaf : IsLeaf left
+  pub right_leaf : IsLeaf right
+  pub left_full : leaf_floor ≤ row_bytes (leaf_rows left)
+  pub right_full : leaf_floor ≤ row_bytes (leaf_rows right)
+
+-- two pages after a join: all children are in the left one, or they are divided
+pub record IsJoinedBranch (one two left : List ℕ) : Type 0 where
+  pub fits : length (children one ++ children two) ≤ inner_room
+  pub children_are : children left ≡ children one ++ children two
+  pub branch : IsBranch left
+  pub level : page_level left ≡ page_level one
+
+pub record IsDividedBranch (one two left right : List ℕ) : Type 0 where
+  pub over : inner_room < length (children one ++ children two)
+  pub left_children : children left ≡ take (children_left (length (children one ++ children two))) (children one ++ children two)
+  pub right_children : children right ≡ drop (children_left (length (children one ++ children two))) (children one ++ children two)
+  pub left_branch : IsBranch left
+  pub right_branch : IsBranch right
+  pub left_level : page_level left ≡ page_level one
+  pub right_level : page_level right ≡ page_level two

@@ -1,0 +1,3 @@
+pub mod Cut
+pub mod Packed
+pub mod Join

@@ -1,0 +1,20 @@
+//! Changes of leaf and inner pages in memory: a row or a child put in or taken out, a page cut in two, two pages joined.
+//!
+//! A page is its rows, or its children, as `slotted_page` reads them. Every call here says which list the page has
+//! afterwards, and what is left as it was. It is asked for a page that is well formed in itself, and leaves one.
+#![tactic(auto)]
+
+mod build;
+mod cut;
+mod edit;
+mod entries;
+mod inner;
+mod insert;
+mod join;
+#[cfg(test)]
+mod tests;
+
+pub use cut::leaf_cut;
+pub use inner::{inner_cut, inner_insert, inner_join, inner_remove};
+pub use insert::{leaf_insert, leaf_remove, leaf_set};
+pub use join::leaf_join;
