@@ -8,7 +8,7 @@ use Rattle.line_pages.specs.Standing.{Standing as Shown, Continues, KeepsLines, 
 use Rattle.line_pages.specs.declared.stop.Evidence.{Evidence}
 use Rattle.line_pages.specs.declared.stop.Stop.{Stop}
 use Rattle.line_pages.specs.declared.stop.Stop.TheVariants.{Nvm, Ssd, Damaged}
-use Rattle.bplus_tree.specs.Damage.{IsFault as IsTreeFault}
+use Rattle.page_space.specs.Stops.{IsFault as IsTreeFault}
 use Rattle.table_store.specs.Stored.{IsStore}
 use Rattle.slotted_page.specs.declared.work.Work.{Work}
 use Rattle.store_meaning.specs.Layout.{Sizes, pages, ssd_blocks}

@@ -9,7 +9,7 @@ use Rattle.line_pages.specs.declared.stop.Stop.{Stop}
 use Rattle.line_pages.specs.declared.stop.Stop.TheVariants.{Nvm, Ssd, Damaged}
 use Rattle.line_pages.specs.declared.touches.Accesses.{Accesses}
 use Rattle.slotted_page.specs.Rows.{Row, keys, row_next, Ascends, Each, last_key}
-use Rattle.bplus_tree.proofs.OrderLaws.{tree_rows-ascend}
+use Rattle.tree_search.proofs.OrderLaws.{tree_rows-ascend}
 use Rattle.table_store.specs.declared.limits.Limits.{Limits}
 use Rattle.table_store.specs.declared.answer.Next.{Next}
 use Rattle.table_store.specs.declared.answer.Next.TheVariants as next

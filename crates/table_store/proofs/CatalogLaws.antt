@@ -6,7 +6,7 @@ use Rattle.std.proofs.lemmas.Bool.{cases_Bool, and_parts, leb-true, ltb-true}
 use Rattle.nvm_model.specs.declared.line.Line.{Line}
 use Rattle.line_pages.specs.Lines.{Lines}
 use Rattle.slotted_page.specs.Checks.{first_failure}
-use Rattle.bplus_tree.specs.Space.{word, high_of}
+use Rattle.page_space.specs.Space.{word, high_of}
 use Rattle.table_store.specs.declared.limits.Limits.{Limits}
 use Rattle.table_store.specs.declared.entry.Entry.{Entry}
 use Rattle.table_store.specs.Names.{is_name_byte}

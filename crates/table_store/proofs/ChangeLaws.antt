@@ -7,12 +7,15 @@ use Rattle.line_pages.specs.Lines.{Lines, with_line}
 use Rattle.line_pages.proofs.LineLaws.{with_line-here, with_line-other_page, with_line-other_line}
 use Rattle.slotted_page.specs.Rows.{Row}
 use Rattle.slotted_page.specs.Rows.{last_key}
-use Rattle.bplus_tree.specs.declared.root.Root.{Root}
-use Rattle.bplus_tree.specs.Space.{word, high_of, free_head, IsFreeFrom, IsFreeList}
-use Rattle.bplus_tree.specs.Tree.{times, tree_pages, SameOn}
-use Rattle.bplus_tree.specs.Moves.{below, Moves, Changes}
-use Rattle.bplus_tree.proofs.TreeLaws.{times-append, tree_rows-same, tree_pages-same, IsTree-same}
-use Rattle.bplus_tree.proofs.SpaceLaws.{free_from-same}
+use Rattle.tree_search.specs.declared.root.Root.{Root}
+use Rattle.page_space.specs.Space.{word, high_of, free_head, IsFreeFrom, IsFreeList}
+use Rattle.page_space.specs.Counted.{times, SameOn}
+use Rattle.tree_search.specs.Tree.{tree_pages}
+use Rattle.page_space.specs.Moves.{below, Moves}
+use Rattle.bplus_tree.specs.Changes.{Changes}
+use Rattle.page_space.proofs.CountedLaws.{times-append}
+use Rattle.tree_search.proofs.TreeLaws.{tree_rows-same, tree_pages-same, IsTree-same}
+use Rattle.page_space.proofs.SpaceLaws.{free_from-same}
 use Rattle.table_store.specs.declared.limits.Limits.{Limits}
 use Rattle.table_store.specs.declared.entry.Entry.{Entry}
 use Rattle.table_store.specs.declared.entry.Place.{Place}

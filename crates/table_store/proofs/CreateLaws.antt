@@ -9,11 +9,11 @@ use Rattle.line_pages.specs.declared.stop.Stop.{Stop}
 use Rattle.line_pages.specs.Lines.{Lines, with_line}
 use Rattle.line_pages.proofs.LineLaws.{with_line-here, with_line-other_page, with_line-other_line}
 use Rattle.slotted_page.specs.Rows.{Each}
-use Rattle.bplus_tree.specs.Space.{word, with_word, kind_of, high_of, free_head, IsFreeFrom, IsFreeList}
-use Rattle.bplus_tree.specs.Tree.{times, SameOn}
-use Rattle.bplus_tree.specs.Moves.{below, Moves, AreExactly, SameEntries, Takes}
-use Rattle.bplus_tree.proofs.TreeLaws.{times-append}
-use Rattle.bplus_tree.proofs.SpaceLaws.{free_from-same}
+use Rattle.page_space.specs.Space.{word, with_word, kind_of, high_of, free_head, IsFreeFrom, IsFreeList}
+use Rattle.page_space.specs.Counted.{times, SameOn}
+use Rattle.page_space.specs.Moves.{below, Moves, AreExactly, SameEntries, Takes}
+use Rattle.page_space.proofs.CountedLaws.{times-append}
+use Rattle.page_space.proofs.SpaceLaws.{free_from-same}
 use Rattle.table_store.specs.declared.limits.Limits.{Limits}
 use Rattle.table_store.specs.declared.entry.Entry.{Entry}
 use Rattle.table_store.specs.Names.{is_name}

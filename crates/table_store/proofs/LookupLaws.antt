@@ -8,10 +8,10 @@ use Rattle.line_pages.specs.Standing.{Standing, ReadsPage, AddsReads}
 use Rattle.line_pages.proofs.TouchLaws.{accesses_from-begun}
 use Rattle.line_pages.proofs.StandingLaws.{page_adds, AddsReads-trans}
 use Rattle.slotted_page.specs.Rows.{Row}
-use Rattle.bplus_tree.specs.Tree.{IsRooted}
-use Rattle.bplus_tree.specs.Way.{IsPath}
-use Rattle.bplus_tree.specs.Damage.{IsFault}
-use Rattle.bplus_tree.proofs.SearchLaws.{on_ok, from_ok}
+use Rattle.tree_search.specs.Tree.{IsRooted}
+use Rattle.tree_search.specs.Way.{IsPath}
+use Rattle.page_space.specs.Stops.{IsFault}
+use Rattle.tree_search.proofs.SearchLaws.{on_ok, from_ok}
 use Rattle.table_store.specs.declared.limits.Limits.{Limits}
 use Rattle.table_store.specs.declared.entry.Place.{Place}
 use Rattle.table_store.specs.Catalog.{entries, tables, place_of, entry_rows, entry_pages, FitsEntry}

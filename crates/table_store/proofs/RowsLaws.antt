@@ -9,14 +9,16 @@ use Rattle.line_pages.specs.declared.stop.Evidence.TheVariants.{Super, Frames, L
 use Rattle.line_pages.specs.Lines.{Lines}
 use Rattle.line_pages.proofs.LineLaws.{with_line-here}
 use Rattle.slotted_page.specs.Rows.{Row, keys, last_key, row_get, row_put, row_delete, Ascends}
-use Rattle.bplus_tree.specs.declared.root.Root.{Root}
-use Rattle.bplus_tree.specs.Space.{kind_of, high_of, free_head, FitsHeader}
-use Rattle.bplus_tree.specs.Tree.{IsRooted}
-use Rattle.bplus_tree.specs.Moves.{below, ArePart, Changes, ChangesRows}
-use Rattle.bplus_tree.specs.Damage.{IsFault, IsLack, StandsIn, pages_at_hand}
-use Rattle.bplus_tree.proofs.TreeLaws.{times-append}
-use Rattle.bplus_tree.proofs.RowLaws.{above_bound, row_get-none_above}
-use Rattle.bplus_tree.proofs.OrderLaws.{tree_rows-ascend}
+use Rattle.tree_search.specs.declared.root.Root.{Root}
+use Rattle.page_space.specs.Space.{kind_of, high_of, free_head, FitsHeader}
+use Rattle.tree_search.specs.Tree.{IsRooted}
+use Rattle.page_space.specs.Moves.{below, ArePart}
+use Rattle.bplus_tree.specs.Changes.{Changes, ChangesRows}
+use Rattle.page_space.specs.Stops.{IsFault, pages_at_hand}
+use Rattle.bplus_tree.specs.Damage.{IsLack, StandsIn}
+use Rattle.page_space.proofs.CountedLaws.{times-append}
+use Rattle.node_edit.proofs.RowLaws.{above_bound, row_get-none_above}
+use Rattle.tree_search.proofs.OrderLaws.{tree_rows-ascend}
 use Rattle.table_store.specs.declared.limits.Limits.{Limits}
 use Rattle.table_store.specs.declared.entry.Entry.{Entry}
 use Rattle.table_store.specs.declared.entry.Place.{Place}

@@ -7,12 +7,13 @@ use Rattle.line_pages.specs.declared.stop.Stop.TheVariants.{Nvm, Ssd, Damaged}
 use Rattle.line_pages.specs.Lines.{Lines}
 use Rattle.line_pages.specs.Standing.{Standing, HasCause}
 use Rattle.slotted_page.specs.Rows.{Each}
-use Rattle.bplus_tree.specs.declared.root.Root.{Root}
-use Rattle.bplus_tree.specs.Space.{high_of}
-use Rattle.bplus_tree.specs.Tree.{times, IsRooted}
-use Rattle.bplus_tree.specs.Moves.{below}
-use Rattle.bplus_tree.specs.Damage.{IsFault}
-use Rattle.bplus_tree.proofs.TreeLaws.{times-append}
+use Rattle.tree_search.specs.declared.root.Root.{Root}
+use Rattle.page_space.specs.Space.{high_of}
+use Rattle.page_space.specs.Counted.{times}
+use Rattle.tree_search.specs.Tree.{IsRooted}
+use Rattle.page_space.specs.Moves.{below}
+use Rattle.page_space.specs.Stops.{IsFault}
+use Rattle.page_space.proofs.CountedLaws.{times-append}
 use Rattle.table_store.specs.declared.limits.Limits.{Limits}
 use Rattle.table_store.specs.declared.entry.Entry.{Entry}
 use Rattle.table_store.specs.declared.entry.Place.{Place}

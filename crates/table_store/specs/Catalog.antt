@@ -8,8 +8,8 @@ use Rattle.line_pages.specs.Touch.{Touch, Access, touch_of}
 use Rattle.line_pages.specs.declared.stop.Evidence.{Evidence}
 use Rattle.slotted_page.specs.Checks.{first_failure}
 use Rattle.slotted_page.specs.Rows.{Row}
-use Rattle.bplus_tree.specs.Space.{word, high_of, IsPageEvidence}
-use Rattle.bplus_tree.specs.Tree.{tree_rows, tree_pages}
+use Rattle.page_space.specs.Space.{word, high_of, IsPageEvidence}
+use Rattle.tree_search.specs.Tree.{tree_rows, tree_pages}
 use Rattle.table_store.specs.declared.limits.Limits.{Limits}
 use Rattle.table_store.specs.declared.entry.Entry.{Entry}
 use Rattle.table_store.specs.declared.entry.Place.{Place}

@@ -4,7 +4,7 @@ use Rattle.nvm_model.specs.declared.line.Line.{Line}
 use Rattle.line_pages.specs.declared.stop.Evidence.{Evidence}
 use Rattle.line_pages.specs.Lines.{Lines, with_line, IsLine}
 use Rattle.line_pages.specs.Standing.{Standing, KeepsLines}
-use Rattle.bplus_tree.specs.Space.{high_of, with_word, take_checks, IsSpaceDamage}
+use Rattle.page_space.specs.Space.{high_of, with_word, take_checks, IsSpaceDamage}
 use Rattle.table_store.specs.declared.limits.Limits.{Limits}
 use Rattle.table_store.specs.declared.entry.Entry.{Entry}
 use Rattle.table_store.specs.declared.answer.Created.{Created}

@@ -6,9 +6,9 @@ use Rattle.line_pages.specs.Touch.{Access}
 use Rattle.slotted_page.specs.Checks.{first_failure}
 use Rattle.slotted_page.specs.Rows.{Row, Each, last_key, row_get}
 use Rattle.slotted_page.specs.Search.{IsNodeDamage}
-use Rattle.bplus_tree.specs.Space.{high_of, IsFreeList}
-use Rattle.bplus_tree.specs.Moves.{AreExactly}
-use Rattle.bplus_tree.specs.Tree.{IsTree, path}
+use Rattle.page_space.specs.Space.{high_of, IsFreeList}
+use Rattle.page_space.specs.Moves.{AreExactly}
+use Rattle.tree_search.specs.Tree.{IsTree, path}
 use Rattle.table_store.specs.declared.limits.Limits.{Limits}
 use Rattle.table_store.specs.declared.entry.Entry.{Entry}
 use Rattle.table_store.specs.declared.entry.Place.{Place}

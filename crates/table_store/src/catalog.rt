@@ -3,8 +3,8 @@ ghost use Rattle.std.specs.Prelude.{◌≡◌, ◌+◌, [], ◌∷◌, ◌++◌,
 ghost use Rattle.line_pages.specs.Touch.{begins, touch_of};
 ghost use Rattle.line_pages.specs.Standing.{Continues, HasCause, IsCause, ReadsPage};
 ghost use Rattle.slotted_page.specs.Checks.{first_failure};
-ghost use Rattle.bplus_tree.specs.Space.{word};
-ghost use Rattle.bplus_tree.specs.Damage.{IsFault};
+ghost use Rattle.page_space.specs.Space.{word};
+ghost use Rattle.page_space.specs.Stops.{IsFault};
 ghost use Rattle.table_store.specs.Catalog.{entry_in as entry_of_line, header_checks, catalog_checks, entries, tables, place_of, entry_touches, entries_read, lookup_touches, FitsCatalog, FitsEntry, FitsPlace, FitsRoot, IsCatalogDamage};
 ghost use Rattle.table_store.specs.Stored.{is_known, IsStore};
 

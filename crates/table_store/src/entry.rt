@@ -5,7 +5,7 @@ ghost use Rattle.table_store.specs.Catalog.{entry_in as entry_of_line, field_in 
 
 use crate::limits::Limits;
 use crate::name::{Name, all_name_bytes};
-use bplus_tree::Root;
+use tree_search::Root;
 use line_pages::{get_word, put_word};
 use nvm_model::Line;
 

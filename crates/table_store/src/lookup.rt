@@ -4,9 +4,9 @@ ghost use Rattle.line_pages.specs.Touch.{Touch, begins, touch_of};
 ghost use Rattle.line_pages.specs.Standing.{Continues, HasCause, KeepsLines, AddsReads};
 ghost use Rattle.slotted_page.specs.Rows.{Row, row_get};
 ghost use Rattle.slotted_page.specs.Search.{IsNodeDamage};
-ghost use Rattle.bplus_tree.specs.Tree.{IsRooted};
-ghost use Rattle.bplus_tree.specs.Damage.{IsFault};
-ghost use Rattle.bplus_tree.specs.Way.{IsPath};
+ghost use Rattle.tree_search.specs.Tree.{IsRooted};
+ghost use Rattle.page_space.specs.Stops.{IsFault};
+ghost use Rattle.tree_search.specs.Way.{IsPath};
 ghost use Rattle.table_store.specs.Catalog.{entries, tables, place_of};
 ghost use Rattle.table_store.specs.Stored.{rows_of, is_known, is_no_table, found_value, got_of, place_levels, IsStore, IsLookup, IsLookupDamage};
 
@@ -15,7 +15,7 @@ use crate::catalog::find_entry;
 use crate::entry::root_of;
 use crate::limits::Limits;
 use crate::name::Name;
-use bplus_tree::Root;
+use tree_search::Root;
 use line_pages::{Pages, Stop};
 use slotted_page::Work;
 
@@ -38,7 +38,7 @@ fn get_in<P: Pages>(pages: &mut P, root: &Root, key: u64, work: &mut Work) -> Re
     ensures ready { OnOk result (P.is_ready pages.new) }
     ensures steady { P.is_steady pages.old → OnOk result (P.is_steady pages.new) }
 {
-    match bplus_tree::get(pages, root, key, work)? {
+    match tree_search::get(pages, root, key, work)? {
         Some(value) => Ok(Got::Found(value)),
         None => Ok(Got::Absent),
     }

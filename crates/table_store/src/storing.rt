@@ -2,7 +2,8 @@
 ghost use Rattle.std.specs.Prelude.{◌≡◌, ◌+◌, ◌*◌, ◌/◌, ◌≤◌, ℕ, List, Some, false, not, is_some, IsTrue, OnOk, IfOk, IfErr, if◌then◌else◌};
 ghost use Rattle.line_pages.specs.Standing.{Continues, HasCause};
 ghost use Rattle.slotted_page.specs.Rows.{row_get, row_put};
-ghost use Rattle.bplus_tree.specs.Damage.{IsFault, IsTreeDamage};
+ghost use Rattle.page_space.specs.Stops.{IsFault};
+ghost use Rattle.bplus_tree.specs.Damage.{IsTreeDamage};
 ghost use Rattle.table_store.specs.Catalog.{entries, tables, place_of, entry_rows, FitsRoot};
 ghost use Rattle.table_store.specs.Stored.{is_known, rows_of, IsStore};
 ghost use Rattle.table_store.specs.Changed.{ChangesTable, IsChangeDamage};

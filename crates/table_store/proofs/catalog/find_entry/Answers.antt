@@ -4,7 +4,7 @@ use Rattle.std.proofs.Common.{◌≡◌, ap, IsTrue, IfOk, subst, sym}
 use Rattle.line_pages.specs.Lines.{Lines}
 use Rattle.table_store.specs.Catalog.{entries, place_of}
 use Rattle.nvm_model.specs.declared.line.Line.{Line}
-use Rattle.bplus_tree.specs.Space.{word}
+use Rattle.page_space.specs.Space.{word}
 use Rattle.table_store.proofs.TouchesLaws.{lines_then}
 use Rattle.table_store.proofs.catalog.find_entry.Goals as goal
 

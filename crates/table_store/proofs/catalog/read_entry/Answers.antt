@@ -2,7 +2,7 @@ use Rattle.std.proofs.Common.{◌≡◌, ℕ, Some, IsTrue, ap, sym, subst, ◌�
 use Rattle.line_pages.specs.Lines.{Lines}
 use Rattle.slotted_page.specs.Checks.{first_failure}
 use Rattle.line_pages.proofs.StandingLaws.{Continues-trans}
-use Rattle.bplus_tree.specs.Space.{word}
+use Rattle.page_space.specs.Space.{word}
 use Rattle.table_store.specs.Catalog.{entry_in as entry_of_line, catalog_checks}
 use Rattle.table_store.proofs.CatalogLaws.{fits_entry, odd_entry}
 use Rattle.table_store.proofs.catalog.read_entry.Goals as goal

@@ -2,7 +2,7 @@ use Rattle.std.proofs.Common.{◌≡◌, ◌+◌, ℕ, append-nil, IsTrue, arith
 use Rattle.nvm_model.specs.declared.line.Line.{Line}
 use Rattle.line_pages.specs.Lines.{Lines}
 use Rattle.line_pages.proofs.StandingLaws.{Continues-refl, Continues-trans, ReadsPage-refl, ReadsPage-trans}
-use Rattle.bplus_tree.specs.Space.{word}
+use Rattle.page_space.specs.Space.{word}
 use Rattle.table_store.specs.declared.entry.Entry.{Entry}
 use Rattle.table_store.specs.Catalog.{entry_in as entry_of_line, FitsCatalog}
 use Rattle.table_store.proofs.CatalogLaws.{place_start, place_step, place_found}

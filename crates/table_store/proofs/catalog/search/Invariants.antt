@@ -1,7 +1,7 @@
 -- So far no entry has the name, by reads of page 0 alone.
 use Rattle.std.proofs.Common.{◌≡◌, ◌+◌, ◌-◌, ◌≤◌, ◌++◌, IsTrue}
 use Rattle.line_pages.specs.Standing.{Continues, ReadsPage}
-use Rattle.bplus_tree.specs.Space.{word}
+use Rattle.page_space.specs.Space.{word}
 use Rattle.table_store.specs.Catalog.{entries, entries_from, place_of, entry_touches}
 use Rattle.table_store.proofs.catalog.search.Given as goal
 
