@@ -24,7 +24,7 @@ use Rattle.node_edit.specs.Edit.{part, loose, Holds, Fits, both, joined, IsPairA
 use Rattle.bplus_tree.specs.Edit.{Became, Edits, Joins, IsMendable, Mends, own, after_fit, Rewritten}
 use Rattle.page_space.proofs.CountedLaws.{times-append, SameOn-first}
 use Rattle.tree_search.proofs.TreeLaws.{tree_pages-same, tree_rows-same, IsTree-same}
-use Rattle.tree_search.proofs.OrderLaws.{IsChildTree, length-children, Each-get}
+use Rattle.tree_search.proofs.OrderLaws.{IsChildTree, length-children, Each-get, located}
 use Rattle.node_edit.proofs.RowLaws.{row_put-amid, row_delete-amid}
 use Rattle.tree_search.proofs.FanLaws.{StayUnder, spans-parts, spans-join, stay_under, beside}
 use Rattle.page_space.proofs.MovesLaws.{Moves-trans}

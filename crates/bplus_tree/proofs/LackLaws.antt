@@ -15,6 +15,7 @@ use Rattle.bplus_tree.specs.Edit.{IsMendable, Joins}
 use Rattle.bplus_tree.proofs.Editing.{mend_segment, joins_over}
 use Rattle.bplus_tree.proofs.SoundLaws.{loose_top}
 use Rattle.page_space.proofs.SoundLaws.{moved_header}
+use Rattle.page_space.proofs.LackLaws.{fault_stops}
 
 -- the two pages that are joined under a page to be mended
 pub record PairWell (lines : Lines) (count level : ℕ) (pair : Pair) : Type 0 where

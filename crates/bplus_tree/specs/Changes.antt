@@ -5,6 +5,7 @@ use Rattle.line_pages.specs.Lines.{Lines}
 use Rattle.page_space.specs.Space.{high_of, IsFreeList}
 use Rattle.slotted_page.specs.Rows.{Row}
 use Rattle.tree_search.specs.Tree.{IsRooted}
+use Rattle.page_space.specs.Moves.{ArePart, Moves, SameEntries}
 
 -- The tree of a root before a call and after it.
 pub record Changes (count : ℕ) (old new : Lines) (root root' : Root) (used free : List ℕ) (rows' : List Row) : Type 0 where

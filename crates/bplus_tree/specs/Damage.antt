@@ -12,6 +12,7 @@ use Rattle.tree_search.specs.declared.root.Root.{Root}
 use Rattle.page_space.specs.Space.{take_checks, IsSpaceDamage, IsFreeList, FitsHeader}
 use Rattle.tree_search.specs.Tree.{IsRooted}
 use Rattle.page_space.specs.Moves.{ArePart}
+use Rattle.page_space.specs.Stops.{StopsFor}
 
 -- a root at level 3 that has all the children that a page has room for, and would have to be cut
 abbrev pub IsFullRoot : ℕ → Lines → List ℕ → Evidence → Type 0

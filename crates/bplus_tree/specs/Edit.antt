@@ -14,9 +14,10 @@ use Rattle.bplus_tree.specs.declared.outcome.Outcome.{Outcome}
 use Rattle.bplus_tree.specs.declared.outcome.Outcome.TheVariants.{Whole, Short, Cut, Alone}
 use Rattle.node_edit.specs.declared.pair.Pair.{Pair}
 use Rattle.page_space.specs.Space.{high_of, IsFreeList}
-use Rattle.tree_search.specs.Tree.{IsTree, tree_rows, tree_pages}
+use Rattle.tree_search.specs.Tree.{IsTree, tree_rows, tree_pages, pages_of, rows_of}
 use Rattle.page_space.specs.Moves.{ArePart, Moves, SameEntries, Gives}
 use Rattle.page_space.specs.Written.{Rewrites}
+use Rattle.node_edit.specs.Edit.{Fits, Mended, both, child_put, joined}
 
 -- what stands for a page afterwards: its pages, its rows, and that it is a tree, or two that part at a key
 abbrev pub pages_left : Lines → ℕ → ℕ → Outcome → List ℕ

@@ -9,6 +9,7 @@ use Rattle.bplus_tree.specs.declared.outcome.Outcome.{Outcome}
 use Rattle.bplus_tree.specs.declared.outcome.Outcome.TheVariants.{Whole}
 use Rattle.tree_search.specs.Tree.{IsTree, IsRooted, tree_rows, leaf_for}
 use Rattle.page_space.specs.Written.{Meets, WritesOnly}
+use Rattle.node_edit.specs.Record.{HoldsLength, record_at}
 
 -- lines are written of the key's record in its leaf alone, as it stands before
 abbrev pub WritesRecord : {A : Type 0} → ℕ → ℕ → Standing A → Standing A → Type 0

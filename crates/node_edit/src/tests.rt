@@ -16,22 +16,6 @@ fn empty_leaf() -> PageBuf {
     page
 }
 
-/// What is expected of an inner root above leaves.
-fn any_root() -> Expect
-    ensures level { result.level ≡ 1 }
-    ensures low { result.low ≡ 0 }
-    ensures high { result.high ≡ 18446744073709551615 }
-    ensures pages { result.pages ≡ 10 }
-{
-    Expect {
-        level: 1,
-        low: 0,
-        high: u64::MAX,
-        root: true,
-        pages: 10,
-    }
-}
-
 /// Puts a value of 480 bytes at a key of a leaf.
 fn put(page: &mut PageBuf, right: &mut PageBuf, key: u64) -> Option<Fit> {
     let expect = Expect {
@@ -133,7 +117,13 @@ fn divides_anew_where_it_has_not(rt: HostRuntime) {
 /// A child is put into a new root, found with its left sibling, and taken out as after a join of the two.
 #[test]
 fn goes_from_two_children_to_three_and_back(rt: HostRuntime) {
-    let expect = any_root();
+    let expect = Expect {
+        level: 1,
+        low: 0,
+        high: u64::MAX,
+        root: true,
+        pages: 10,
+    };
     let mut page = PageBuf::zero();
     let mut right = PageBuf::zero();
     root_of(&mut page, 1, 1, 50, 2, 10);

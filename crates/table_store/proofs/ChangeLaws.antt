@@ -16,14 +16,14 @@ use Rattle.bplus_tree.specs.Changes.{Changes}
 use Rattle.page_space.proofs.CountedLaws.{times-append}
 use Rattle.tree_search.proofs.TreeLaws.{tree_rows-same, tree_pages-same, IsTree-same}
 use Rattle.page_space.proofs.SpaceLaws.{free_from-same}
-use Rattle.table_store.specs.declared.limits.Limits.{Limits}
-use Rattle.table_store.specs.declared.entry.Entry.{Entry}
-use Rattle.table_store.specs.declared.entry.Place.{Place}
-use Rattle.table_store.specs.Catalog.{entry_in, entries_from, entries, table_count, name_of, table_of, place_of, tables, catalog_checks, entry_rows, entry_pages}
-use Rattle.table_store.specs.Stored.{HasTree, all_pages, IsStore, with_rows}
-use Rattle.table_store.proofs.CatalogLaws.{AllHold, all_hold}
+use Rattle.table_catalog.specs.declared.limits.Limits.{Limits}
+use Rattle.table_catalog.specs.declared.entry.Entry.{Entry}
+use Rattle.table_catalog.specs.declared.entry.Place.{Place}
+use Rattle.table_catalog.specs.Catalog.{entry_in, entries_from, entries, table_count, name_of, table_of, place_of, tables, catalog_checks, entry_rows, entry_pages}
+use Rattle.table_catalog.specs.Stored.{HasTree, all_pages, IsStore, with_rows}
+use Rattle.table_catalog.proofs.CatalogLaws.{AllHold, all_hold}
 use Rattle.table_store.specs.Changed.{root_at}
-use Rattle.table_store.proofs.TableLaws.{pages_of_place}
+use Rattle.table_catalog.proofs.TableLaws.{pages_of_place}
 use Rattle.table_store.proofs.RoomLaws.{length-entries}
 use Rattle.table_store.proofs.FrameLaws.{table_changed}
 

@@ -19,18 +19,18 @@ use Rattle.bplus_tree.specs.Damage.{IsLack, StandsIn}
 use Rattle.page_space.proofs.CountedLaws.{times-append}
 use Rattle.node_edit.proofs.RowLaws.{above_bound, row_get-none_above}
 use Rattle.tree_search.proofs.OrderLaws.{tree_rows-ascend}
-use Rattle.table_store.specs.declared.limits.Limits.{Limits}
-use Rattle.table_store.specs.declared.entry.Entry.{Entry}
-use Rattle.table_store.specs.declared.entry.Place.{Place}
-use Rattle.table_store.specs.Catalog.{entry_in, entries, table_count, tables, place_of, catalog_checks, entry_rows, entry_pages, FitsRoot}
-use Rattle.table_store.specs.Stored.{all_pages, rows_of, with_rows, IsStore}
+use Rattle.table_catalog.specs.declared.limits.Limits.{Limits}
+use Rattle.table_catalog.specs.declared.entry.Entry.{Entry}
+use Rattle.table_catalog.specs.declared.entry.Place.{Place}
+use Rattle.table_catalog.specs.Catalog.{entry_in, entries, table_count, tables, place_of, catalog_checks, entry_rows, entry_pages, FitsRoot}
+use Rattle.table_catalog.specs.Stored.{all_pages, rows_of, with_rows, IsStore}
 use Rattle.table_store.specs.Changed.{root_at, Enters, ChangesTable}
 use Rattle.table_store.specs.Putting.{stored_of}
 use Rattle.table_store.specs.Deleting.{deleted_of}
 use Rattle.table_store.specs.declared.answer.Stored.TheVariants.{Done as Put, TableFull}
 use Rattle.table_store.specs.declared.answer.Deleted.TheVariants.{Done as Gone, Absent}
-use Rattle.table_store.proofs.CatalogLaws.{AllHold, all_hold}
-use Rattle.table_store.proofs.TableLaws.{tree_of_place, pages_of_place, rooted, rows_by}
+use Rattle.table_catalog.proofs.CatalogLaws.{AllHold, all_hold}
+use Rattle.table_catalog.proofs.TableLaws.{tree_of_place, pages_of_place, rooted, rows_by}
 use Rattle.table_store.proofs.RoomLaws.{room_for_table}
 use Rattle.table_store.proofs.ChangeLaws.{around, rows_changed, high_new, other_pages}
 

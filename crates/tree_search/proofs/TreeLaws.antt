@@ -8,6 +8,7 @@ use Rattle.page_space.specs.Counted.{SameOn}
 use Rattle.tree_search.specs.Tree.{IsTree, tree_rows, tree_pages}
 use Rattle.slotted_page.specs.Rows.{Each}
 use Rattle.slotted_page.specs.Spans.{Span, spans}
+use Rattle.page_space.proofs.CountedLaws.{SameOn-left, SameOn-right, SameOn-first, SameOn-rest}
 
 pub flat_map-same : {X Y : Type 0} (f g : X → List Y) (xs : List X) → Each (λ x. f x ≡ g x) xs → flat_map f xs ≡ flat_map g xs
 flat_map-same f g [] same = refl

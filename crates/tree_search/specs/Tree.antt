@@ -7,6 +7,7 @@ use Rattle.slotted_page.specs.Rows.{Each, last_key, Row}
 use Rattle.slotted_page.specs.Spans.{Span, spans}
 use Rattle.slotted_page.specs.Node.{Child, leaf_rows, children, IsWellFormed}
 use Rattle.std.specs.List.{list_all}
+use Rattle.page_space.specs.Counted.{times}
 
 -- The page heads a well-formed tree of this level, which stands among `count` pages. A leaf has level 0.
 abbrev pub IsTree : ℕ → Lines → ℕ → ℕ → ℕ → ℕ → Bool → Type 0

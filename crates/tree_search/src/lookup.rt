@@ -48,7 +48,7 @@ fn value_at<P: Pages>(
 }
 
 /// The value of a key in the tree under a page. The levels below are gone through by recursion.
-#[tactic(auto, using(crate::proofs::TouchedLaws::nothing_read, crate::proofs::TouchedLaws::nothing_then))]
+#[tactic(auto, using(page_space::proofs::TouchedLaws::nothing_read, page_space::proofs::TouchedLaws::nothing_then))]
 fn get_in<P: Pages>(
     pages: &mut P,
     page: u64,

@@ -1,7 +1,7 @@
 use Rattle.std.proofs.Common.{◌≡◌, Bool, Result, IfErr, rules, ℕ, List, Some, true, is_some, IsTrue, sym, subst, ◌∙◌}
 use Rattle.slotted_page.specs.Rows.{row_get, row_delete}
-use Rattle.table_store.specs.Catalog.{entries, place_of, entry_rows, entry_pages}
-use Rattle.table_store.specs.Stored.{IsStore}
+use Rattle.table_catalog.specs.Catalog.{entries, place_of, entry_rows, entry_pages}
+use Rattle.table_catalog.specs.Stored.{IsStore}
 use Rattle.table_store.specs.Changed.{ChangesTable}
 use Rattle.line_pages.specs.declared.stop.Stop.{Stop}
 use Rattle.page_space.specs.Stops.{IsFault}

@@ -3,7 +3,7 @@ use Rattle.line_pages.specs.declared.stop.Stop.{Stop}
 use Rattle.line_pages.proofs.StandingLaws.{Continues-trans}
 use Rattle.slotted_page.specs.Rows.{row_delete}
 use Rattle.page_space.specs.Stops.{IsFault}
-use Rattle.table_store.specs.Catalog.{entry_in, entry_rows, entry_pages}
+use Rattle.table_catalog.specs.Catalog.{entry_in, entry_rows, entry_pages}
 use Rattle.table_store.proofs.RowsLaws.{stands_in, stepped_by, rows_deleted, counted_by}
 use Rattle.table_store.proofs.deletion.remove_row.Goals as goal
 

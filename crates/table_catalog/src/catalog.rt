@@ -5,8 +5,8 @@ ghost use Rattle.line_pages.specs.Standing.{Continues, HasCause, IsCause, ReadsP
 ghost use Rattle.slotted_page.specs.Checks.{first_failure};
 ghost use Rattle.page_space.specs.Space.{word};
 ghost use Rattle.page_space.specs.Stops.{IsFault};
-ghost use Rattle.table_store.specs.Catalog.{entry_in as entry_of_line, header_checks, catalog_checks, entries, tables, place_of, entry_touches, entries_read, lookup_touches, FitsCatalog, FitsEntry, FitsPlace, FitsRoot, IsCatalogDamage};
-ghost use Rattle.table_store.specs.Stored.{is_known, IsStore};
+ghost use Rattle.table_catalog.specs.Catalog.{entry_in as entry_of_line, header_checks, catalog_checks, entries, tables, place_of, entry_touches, entries_read, lookup_touches, FitsCatalog, FitsEntry, FitsPlace, FitsRoot, IsCatalogDamage};
+ghost use Rattle.table_catalog.specs.Stored.{is_known, IsStore};
 
 use crate::entry::{Entry, Place, entry_in, has_name, is_listed};
 use crate::limits::Limits;
@@ -58,7 +58,7 @@ fn failing(header: &Line, limits: &Limits, count: u64) -> Option<u8>
 
 /// Reads the header of the catalog and makes its checks.
 #[tactic(auto, using(crate::proofs::CatalogLaws::fits_catalog, crate::proofs::CatalogLaws::odd_header))]
-pub(crate) fn read_catalog<P: Pages>(
+pub fn read_catalog<P: Pages>(
     pages: &mut P,
     limits: &Limits,
     work: &mut Work,
@@ -115,7 +115,7 @@ fn read_entry<P: Pages>(
 }
 
 /// Looks a name up among the entries of the catalog, whose access is open: the first entry with the name.
-pub(crate) fn search<P: Pages>(
+pub fn search<P: Pages>(
     pages: &mut P,
     limits: &Limits,
     header: &Line,
@@ -146,7 +146,7 @@ pub(crate) fn search<P: Pages>(
 }
 
 /// Looks a name up in the catalog: the first entry with the name.
-pub(crate) fn find_entry<P: Pages>(
+pub fn find_entry<P: Pages>(
     pages: &mut P,
     limits: &Limits,
     name: &Name,

@@ -1,7 +1,7 @@
 //! The name of a table.
 ghost use Rattle.std.specs.Prelude.{◌≡◌, ◌≤◌, ℕ, length, IsTrue};
 ghost use Rattle.std.specs.List.{list_all};
-ghost use Rattle.table_store.specs.Names.{name_of, is_name, is_name_byte as byte_of_name};
+ghost use Rattle.table_catalog.specs.Names.{name_of, is_name, is_name_byte as byte_of_name};
 
 use arrayvec::ArrayVec;
 use std::marker::Model;
@@ -14,7 +14,7 @@ pub struct Name {
 
 impl Model for Name {
     ghost use Rattle.std.specs.Prelude.{List, ℕ, IsTrue};
-    ghost use Rattle.table_store.specs.Names.{is_name};
+    ghost use Rattle.table_catalog.specs.Names.{is_name};
 
     ghost Value = { List ℕ };
 

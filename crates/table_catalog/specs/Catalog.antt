@@ -10,10 +10,10 @@ use Rattle.slotted_page.specs.Checks.{first_failure}
 use Rattle.slotted_page.specs.Rows.{Row}
 use Rattle.page_space.specs.Space.{word, high_of, IsPageEvidence}
 use Rattle.tree_search.specs.Tree.{tree_rows, tree_pages}
-use Rattle.table_store.specs.declared.limits.Limits.{Limits}
-use Rattle.table_store.specs.declared.entry.Entry.{Entry}
-use Rattle.table_store.specs.declared.entry.Place.{Place}
-use Rattle.table_store.specs.Names.{is_name_byte}
+use Rattle.table_catalog.specs.declared.limits.Limits.{Limits}
+use Rattle.table_catalog.specs.declared.entry.Entry.{Entry}
+use Rattle.table_catalog.specs.declared.entry.Place.{Place}
+use Rattle.table_catalog.specs.Names.{is_name_byte}
 
 -- the 32 bytes of words 0 to 3, which keep the name
 unfoldable pub field_in : Line → List ℕ

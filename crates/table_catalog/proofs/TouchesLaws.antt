@@ -3,8 +3,8 @@ use Rattle.std.proofs.Common.{◌≡◌, ℕ, zero, suc, ◌+◌, false, List, [
 use Rattle.line_pages.specs.declared.stop.Stop.{Stop}
 use Rattle.line_pages.specs.Lines.{Lines}
 use Rattle.line_pages.specs.Touch.{Touch, Access, touch_of}
-use Rattle.table_store.specs.declared.entry.Place.{Place}
-use Rattle.table_store.specs.Catalog.{entries, place_of, table_count, entry_touches, entries_read, lookup_touches}
+use Rattle.table_catalog.specs.declared.entry.Place.{Place}
+use Rattle.table_catalog.specs.Catalog.{entries, place_of, table_count, entry_touches, entries_read, lookup_touches}
 
 entry_touches-more : (l n : ℕ) → entry_touches l (suc n) ≡ entry_touches l n ++ touch_of (Some (0, false)) 0 (l + n) false ∷ []
 entry_touches-more l zero = let here : l ≡ l + 0 = omega arith in ap (λ (k : ℕ). touch_of (Some (0, false)) 0 k false ∷ []) here

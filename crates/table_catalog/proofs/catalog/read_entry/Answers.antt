@@ -3,9 +3,9 @@ use Rattle.line_pages.specs.Lines.{Lines}
 use Rattle.slotted_page.specs.Checks.{first_failure}
 use Rattle.line_pages.proofs.StandingLaws.{Continues-trans}
 use Rattle.page_space.specs.Space.{word}
-use Rattle.table_store.specs.Catalog.{entry_in as entry_of_line, catalog_checks}
-use Rattle.table_store.proofs.CatalogLaws.{fits_entry, odd_entry}
-use Rattle.table_store.proofs.catalog.read_entry.Goals as goal
+use Rattle.table_catalog.specs.Catalog.{entry_in as entry_of_line, catalog_checks}
+use Rattle.table_catalog.proofs.CatalogLaws.{fits_entry, odd_entry}
+use Rattle.table_catalog.proofs.catalog.read_entry.Goals as goal
 
 pub damage-requires-clause-fails : goal.damage-requires-clause-fails
 damage-requires-clause-fails g c = λ told.

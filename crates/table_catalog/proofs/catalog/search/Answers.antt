@@ -3,11 +3,11 @@ use Rattle.nvm_model.specs.declared.line.Line.{Line}
 use Rattle.line_pages.specs.Lines.{Lines}
 use Rattle.line_pages.proofs.StandingLaws.{Continues-refl, Continues-trans, ReadsPage-refl, ReadsPage-trans}
 use Rattle.page_space.specs.Space.{word}
-use Rattle.table_store.specs.declared.entry.Entry.{Entry}
-use Rattle.table_store.specs.Catalog.{entry_in as entry_of_line, FitsCatalog}
-use Rattle.table_store.proofs.CatalogLaws.{place_start, place_step, place_found}
-use Rattle.table_store.proofs.TouchesLaws.{touches_step}
-use Rattle.table_store.proofs.catalog.search.Goals as goal
+use Rattle.table_catalog.specs.declared.entry.Entry.{Entry}
+use Rattle.table_catalog.specs.Catalog.{entry_in as entry_of_line, FitsCatalog}
+use Rattle.table_catalog.proofs.CatalogLaws.{place_start, place_step, place_found}
+use Rattle.table_catalog.proofs.TouchesLaws.{touches_step}
+use Rattle.table_catalog.proofs.catalog.search.Goals as goal
 
 entry_there : (old now : Lines) (i : ℕ) (entry : Entry) → now ≡ old → entry ≡ entry_of_line (now 0 (2 + i)) → entry ≡ entry_of_line (old 0 (2 + i))
 entry_there old now i entry same is = is ∙ ap (λ (all : Lines). entry_of_line (all 0 (2 + i))) same

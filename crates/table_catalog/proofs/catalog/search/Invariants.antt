@@ -2,8 +2,8 @@
 use Rattle.std.proofs.Common.{◌≡◌, ◌+◌, ◌-◌, ◌≤◌, ◌++◌, IsTrue}
 use Rattle.line_pages.specs.Standing.{Continues, ReadsPage}
 use Rattle.page_space.specs.Space.{word}
-use Rattle.table_store.specs.Catalog.{entries, entries_from, place_of, entry_touches}
-use Rattle.table_store.proofs.catalog.search.Given as goal
+use Rattle.table_catalog.specs.Catalog.{entries, entries_from, place_of, entry_touches}
+use Rattle.table_catalog.proofs.catalog.search.Given as goal
 
 abbrev pub invariant-loop-at : goal.invariant-loop-at
 invariant-loop-at g l = record {

@@ -2,11 +2,11 @@ use Rattle.line_pages.proofs.StandingLaws.{Continues-trans}
 use Rattle.page_search.proofs.OpenLaws.{then_reads}
 use Rattle.std.proofs.Common.{◌≡◌, ap, IsTrue, IfOk, subst, sym}
 use Rattle.line_pages.specs.Lines.{Lines}
-use Rattle.table_store.specs.Catalog.{entries, place_of}
+use Rattle.table_catalog.specs.Catalog.{entries, place_of}
 use Rattle.nvm_model.specs.declared.line.Line.{Line}
 use Rattle.page_space.specs.Space.{word}
-use Rattle.table_store.proofs.TouchesLaws.{lines_then}
-use Rattle.table_store.proofs.catalog.find_entry.Goals as goal
+use Rattle.table_catalog.proofs.TouchesLaws.{lines_then}
+use Rattle.table_catalog.proofs.catalog.find_entry.Goals as goal
 
 pub returns-clause-reads : goal.returns-clause-reads
 returns-clause-reads g c =

@@ -1,7 +1,7 @@
 //! One table as the catalog has it.
 ghost use Rattle.std.specs.Prelude.{◌≡◌, ◌+◌, ◌≤◌, bytes_eq, slice_index};
 ghost use Rattle.std.specs.List.{list_all};
-ghost use Rattle.table_store.specs.Catalog.{entry_in as entry_of_line, field_in as field_of_line, name_of, is_name_field as field_has_name, is_listed as listed, is_zero};
+ghost use Rattle.table_catalog.specs.Catalog.{entry_in as entry_of_line, field_in as field_of_line, name_of, is_name_field as field_has_name, is_listed as listed, is_zero};
 
 use crate::limits::Limits;
 use crate::name::{Name, all_name_bytes};
@@ -11,7 +11,7 @@ use nvm_model::Line;
 
 /// The entry of a table: the bytes that keep its name, its root page, the levels of its tree, and the number of its rows.
 #[derive(Clone, Copy, Debug, PartialEq, Eq)]
-pub(crate) struct Entry {
+pub struct Entry {
     /// The name's length, its bytes, then zeros.
     pub field: [u8; 32],
     /// The page of the root.
@@ -24,7 +24,7 @@ pub(crate) struct Entry {
 
 /// An entry and which table it is of, counted from 0 in the order of creation.
 #[derive(Clone, Copy, Debug, PartialEq, Eq)]
-pub(crate) struct Place {
+pub struct Place {
     /// The number of the table.
     pub at: u64,
     /// Its entry.
@@ -96,7 +96,7 @@ pub(crate) fn has_name(entry: &Entry, name: &Name) -> bool
 }
 
 /// The root of the entry's tree.
-pub(crate) fn root_of(entry: &Entry) -> Root
+pub fn root_of(entry: &Entry) -> Root
     requires { entry.now.levels ≤ 4 }
     ensures { result ≡ record { page = entry.now.root; levels = entry.now.levels } }
 {
@@ -108,7 +108,7 @@ pub(crate) fn root_of(entry: &Entry) -> Root
 
 /// The line that keeps an entry.
 #[tactic(auto, using(crate::proofs::EntryLaws::four_parts))]
-pub(crate) fn line_of(entry: Entry) -> Line
+pub fn line_of(entry: Entry) -> Line
     ensures { entry_of_line result ≡ entry }
 {
     let first = get_word(&entry.field, 0);

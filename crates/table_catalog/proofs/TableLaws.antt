@@ -14,11 +14,11 @@ use Rattle.tree_search.specs.Tree.{IsRooted}
 use Rattle.page_space.specs.Moves.{below}
 use Rattle.page_space.specs.Stops.{IsFault}
 use Rattle.page_space.proofs.CountedLaws.{times-append}
-use Rattle.table_store.specs.declared.limits.Limits.{Limits}
-use Rattle.table_store.specs.declared.entry.Entry.{Entry}
-use Rattle.table_store.specs.declared.entry.Place.{Place}
-use Rattle.table_store.specs.Catalog.{entries, name_of, table_of, place_of, entry_rows, entry_pages, FitsEntry, IsCatalogDamage}
-use Rattle.table_store.specs.Stored.{HasTree, all_pages, IsStore, rows_of, place_rows}
+use Rattle.table_catalog.specs.declared.limits.Limits.{Limits}
+use Rattle.table_catalog.specs.declared.entry.Entry.{Entry}
+use Rattle.table_catalog.specs.declared.entry.Place.{Place}
+use Rattle.table_catalog.specs.Catalog.{entries, name_of, table_of, place_of, entry_rows, entry_pages, FitsEntry, IsCatalogDamage}
+use Rattle.table_catalog.specs.Stored.{HasTree, all_pages, IsStore, rows_of, place_rows}
 
 -- a catalog in order is never damaged
 pub sound_catalog : {A T : Type 0} (limits : Limits) (count : ℕ) (lines : Lines) (told : Type 0) (buffer : List ℕ) (old new : Standing A) (result : Result T Stop) → told → IsStore limits count lines
