@@ -5,27 +5,30 @@ use Rattle.std.proofs.lemmas.List.Concat.{flat_map-append}
 use Rattle.line_pages.specs.Lines.{Lines}
 use Rattle.line_pages.specs.Bytes.{bytes_of, page_bytes}
 use Rattle.slotted_page.specs.declared.root.Expect.{Expect}
-use Rattle.slotted_page.specs.Rows.{Row, row_put, row_delete, Each, Ascends, AllBelow, AllAbove}
+use Rattle.slotted_page.specs.Rows.{Row, row_put, row_delete, Each, AllBelow, AllAbove}
 use Rattle.slotted_page.specs.Spans.{Span, reach, spans}
-use Rattle.slotted_page.specs.Node.{Child, children, first_keys, IsWellFormed, entry_count, begins_at, leaf_checks, inner_checks, first_failing}
+use Rattle.slotted_page.specs.Node.{Child, children, IsWellFormed, entry_count, begins_at, leaf_checks, inner_checks, first_failing}
 use Rattle.slotted_page.proofs.FactLemmas.{all_hold}
 use Rattle.slotted_page.proofs.PageFacts.{inner_facts}
-use Rattle.bplus_tree.specs.declared.outcome.Fit.{Fit}
-use Rattle.bplus_tree.specs.declared.outcome.Fit.TheVariants as fits
+use Rattle.node_edit.specs.declared.fit.Fit.{Fit}
+use Rattle.node_edit.specs.declared.fit.Fit.TheVariants as fits
 use Rattle.bplus_tree.specs.declared.outcome.Outcome.{Outcome}
 use Rattle.bplus_tree.specs.declared.outcome.Outcome.TheVariants.{Whole, Short, Alone}
-use Rattle.bplus_tree.specs.declared.outcome.Pair.{Pair}
-use Rattle.bplus_tree.specs.Space.{high_of, IsFreeList}
-use Rattle.bplus_tree.specs.Tree.{times, IsTree, tree_rows, tree_pages, SameOn}
-use Rattle.bplus_tree.specs.Moves.{below, ArePart, Moves, SameEntries, Gives}
-use Rattle.bplus_tree.specs.Written.{Rewrites}
-use Rattle.bplus_tree.specs.Edit.{part, loose, Holds, Fits, child_put, rows_of, pages_of, Became, Edits, both, joined, Joins, IsPairAt, PairsUp, Mended, IsMendable, Mends, own, after_fit, Rewritten}
-use Rattle.bplus_tree.proofs.TreeLaws.{times-append, SameOn-first, tree_pages-same, tree_rows-same, IsTree-same}
-use Rattle.bplus_tree.proofs.OrderLaws.{IsChildTree, length-children, Each-get}
-use Rattle.bplus_tree.proofs.RowLaws.{row_put-amid, row_delete-amid}
-use Rattle.bplus_tree.proofs.FanLaws.{StayUnder, spans-parts, spans-join, stay_under, beside}
-use Rattle.bplus_tree.proofs.MovesLaws.{Moves-trans}
-use Rattle.bplus_tree.proofs.Places.{Moves-widen, Moves-write, part_after, same_beside}
+use Rattle.node_edit.specs.declared.pair.Pair.{Pair}
+use Rattle.page_space.specs.Space.{high_of, IsFreeList}
+use Rattle.page_space.specs.Counted.{times, SameOn}
+use Rattle.tree_search.specs.Tree.{IsTree, tree_rows, tree_pages, rows_of, pages_of}
+use Rattle.page_space.specs.Moves.{below, ArePart, Moves, SameEntries, Gives}
+use Rattle.page_space.specs.Written.{Rewrites}
+use Rattle.node_edit.specs.Edit.{part, loose, Holds, Fits, both, joined, IsPairAt, PairsUp, Mended}
+use Rattle.bplus_tree.specs.Edit.{Became, Edits, Joins, IsMendable, Mends, own, after_fit, Rewritten}
+use Rattle.page_space.proofs.CountedLaws.{times-append, SameOn-first}
+use Rattle.tree_search.proofs.TreeLaws.{tree_pages-same, tree_rows-same, IsTree-same}
+use Rattle.tree_search.proofs.OrderLaws.{IsChildTree, length-children, Each-get, located}
+use Rattle.node_edit.proofs.RowLaws.{row_put-amid, row_delete-amid}
+use Rattle.tree_search.proofs.FanLaws.{StayUnder, spans-parts, spans-join, stay_under, beside}
+use Rattle.page_space.proofs.MovesLaws.{Moves-trans}
+use Rattle.page_space.proofs.Places.{Moves-widen, Moves-write, part_after, same_beside}
 
 -- a change of rows that acts in the part alone that the key belongs to
 pub record IsLocal (key : ℕ) (step : List Row → List Row) : Type 0 where
@@ -53,40 +56,6 @@ tree_of count lines level page low high root bytes is well trees = (
 pub reach_begins : (key high : ℕ) (cs : List Child) → begins_at key cs ≡ true → 1 ≤ length cs → reach cs high ≡ key - 1
 reach_begins key high [] begins some = absurd (omega (arith, some))
 reach_begins key high (c ∷ cs) begins some = ap (λ k. k - 1) (eqb-true c.0 key begins)
-
--- the child that a search names, among the others
-pub record Located (cs : List Child) (high : ℕ) (s : Span) : Type 0 where
-  pub xs : List Child
-  pub ys : List Child
-  pub is : cs ≡ xs ++ (((s.low, s.page) ∷ []) ++ ys)
-  pub reach_is : reach ys high ≡ s.high
-
-pub located : (cs : List Child) (high at : ℕ) (s : Span) → slice_get (spans cs high) at ≡ Some s → Located cs high s
-located [] high at s got = absurd (cc)
-located (c ∷ cs) high zero s got =
-    let e : record { page = c.1; low = c.0; high = reach cs high } ≡ s = cc in
-    record { xs = []; ys = cs; is = ap (λ (t : Span). (t.low, t.page) ∷ cs) e; reach_is = ap (λ (t : Span). t.high) e }
-located (c ∷ cs) high (suc at) s got =
-    let r = located cs high at s got in
-    record { xs = c ∷ r.xs; ys = r.ys; is = ap (λ t. c ∷ t) r.is; reach_is = r.reach_is }
-
--- a child put behind another one, up to where that one reached
-pub child_put-behind : (key page : ℕ) (xs zs : List Child) → Each (λ (c : Child). c.0 < key) xs → child_put key page (xs ++ zs) ≡ xs ++ child_put key page zs
-child_put-behind key page [] zs low = refl
-child_put-behind key page (x ∷ xs) zs low = rw (lt-ltb x.0 key low.0) (ap (λ r. x ∷ r) (child_put-behind key page xs zs low.1))
-
-pub child_put-next : (key page high : ℕ) (s : Child) (ys : List Child) → s.0 < key → key ≤ reach ys high → child_put key page (s ∷ ys) ≡ s ∷ (key, page) ∷ ys
-child_put-next key page high s [] lt within = rw (lt-ltb s.0 key lt) refl
-child_put-next key page high s (y ∷ ys) lt within =
-    rw (lt-ltb s.0 key lt, le-ltb y.0 key (omega (arith, within)), ne_eqb y.0 key (λ e. omega (arith, within, lt, e))) refl
-
-later : (low high : ℕ) (s : Child) (xs ys : List Child) → Ascends low high (first_keys (xs ++ (s ∷ ys))) → low ≤ s.0
-later low high s [] ys up = up.0
-later low high s (x ∷ xs) ys up = let ih = later (x.0 + 1) high s xs ys up.2 in omega (arith, ih, up.0)
-
-pub keys_below : (low high key : ℕ) (s : Child) (xs ys : List Child) → Ascends low high (first_keys (xs ++ (s ∷ ys))) → s.0 ≤ key → Each (λ (c : Child). c.0 < key) xs
-keys_below low high key s [] ys up above = tt
-keys_below low high key s (x ∷ xs) ys up above = let next = later (x.0 + 1) high s xs ys up.2 in (omega (arith, next, above), keys_below (x.0 + 1) high key s xs ys up.2 above)
 
 pub one_above : (level : ℕ) → 1 ≤ level → level ≡ suc (level - 1)
 one_above level some = omega arith

@@ -11,16 +11,18 @@ use Rattle.slotted_page.specs.Node.{Child, leaf_rows, children, IsWellFormed}
 use Rattle.slotted_page.proofs.FactLemmas.{leaf_used_is}
 use Rattle.slotted_page.proofs.PageFacts.{leaf_facts, inner_facts}
 use Rattle.slotted_page.proofs.InnerLemmas.{length_children}
-use Rattle.bplus_tree.specs.declared.outcome.Pair.{Pair}
-use Rattle.bplus_tree.specs.Space.{high_of, IsFreeList}
-use Rattle.bplus_tree.specs.Tree.{times, IsTree, tree_rows, tree_pages, SameOn}
-use Rattle.bplus_tree.specs.Moves.{ArePart, Moves, SameEntries}
-use Rattle.bplus_tree.specs.Edit.{part, rows_of, pages_of, Turns, both, joined, Joins, whole_of, Merges, IsEnoughLeaf, IsEnoughInner, WritesJoined, WritesDivided}
-use Rattle.bplus_tree.proofs.TreeLaws.{times-append, SameOn-first}
-use Rattle.bplus_tree.proofs.OrderLaws.{IsChildTree, length-children}
-use Rattle.bplus_tree.proofs.FanLaws.{spans-parts, spans-join, stay_under}
-use Rattle.bplus_tree.proofs.MovesLaws.{Moves-trans}
-use Rattle.bplus_tree.proofs.Places.{Moves-widen, Moves-write, in_part, part_after, same_beside}
+use Rattle.node_edit.specs.declared.pair.Pair.{Pair}
+use Rattle.page_space.specs.Space.{high_of, IsFreeList}
+use Rattle.page_space.specs.Counted.{times, SameOn}
+use Rattle.tree_search.specs.Tree.{IsTree, tree_rows, tree_pages, rows_of, pages_of}
+use Rattle.page_space.specs.Moves.{ArePart, Moves, SameEntries}
+use Rattle.node_edit.specs.Edit.{part, both, joined, whole_of, Merges, IsEnoughLeaf, IsEnoughInner}
+use Rattle.bplus_tree.specs.Edit.{Turns, Joins, WritesJoined, WritesDivided}
+use Rattle.page_space.proofs.CountedLaws.{times-append, SameOn-first}
+use Rattle.tree_search.proofs.OrderLaws.{IsChildTree, length-children}
+use Rattle.tree_search.proofs.FanLaws.{spans-parts, spans-join, stay_under}
+use Rattle.page_space.proofs.MovesLaws.{Moves-trans}
+use Rattle.page_space.proofs.Places.{Moves-widen, Moves-write, in_part, part_after, same_beside}
 use Rattle.bplus_tree.proofs.Editing.{tree_of, reach_begins}
 
 -- the pages that are left, and their bytes

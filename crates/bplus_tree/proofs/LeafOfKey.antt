@@ -8,16 +8,17 @@ use Rattle.slotted_page.specs.Spans.{Span}
 use Rattle.slotted_page.specs.Node.{leaf_rows, children}
 use Rattle.bplus_tree.specs.declared.outcome.Outcome.{Outcome}
 use Rattle.bplus_tree.specs.declared.outcome.Outcome.TheVariants.{Whole}
-use Rattle.bplus_tree.specs.declared.root.Root.{Root}
+use Rattle.tree_search.specs.declared.root.Root.{Root}
 use Rattle.bplus_tree.specs.declared.path.Place.{Place}
 use Rattle.bplus_tree.specs.declared.path.Passed.{Passed}
-use Rattle.bplus_tree.specs.Tree.{IsTree, IsRooted, tree_rows, path, child_for, leaf_for}
+use Rattle.tree_search.specs.Tree.{IsTree, IsRooted, tree_rows, path, child_for, leaf_for}
 use Rattle.bplus_tree.specs.Path.{Leads, root_place}
-use Rattle.bplus_tree.specs.Record.{HoldsLength, WritesRecord, PutsAgain, PutsRecord, record_at}
-use Rattle.bplus_tree.specs.Written.{Meets, WritesOnly, WritesNothing}
-use Rattle.bplus_tree.proofs.SearchLaws.{well_formed_top}
-use Rattle.bplus_tree.proofs.OrderLaws.{Descends, descends}
-use Rattle.bplus_tree.proofs.TouchedLaws.{only_then, only_nothing}
+use Rattle.node_edit.specs.Record.{HoldsLength, record_at}
+use Rattle.bplus_tree.specs.Record.{WritesRecord, PutsAgain, PutsRecord}
+use Rattle.page_space.specs.Written.{Meets, WritesOnly, WritesNothing}
+use Rattle.tree_search.proofs.SearchLaws.{well_formed_top}
+use Rattle.tree_search.proofs.OrderLaws.{Descends, descends}
+use Rattle.page_space.proofs.TouchedLaws.{only_then, only_nothing}
 
 -- paths that are the same begin at the same page
 same_first : (lines : Lines) (level key x y : ℕ) → path lines level x key ≡ path lines level y key → x ≡ y

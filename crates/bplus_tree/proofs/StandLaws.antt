@@ -10,19 +10,20 @@ use Rattle.bplus_tree.specs.declared.outcome.Outcome.{Outcome}
 use Rattle.bplus_tree.specs.declared.outcome.Outcome.TheVariants.{Whole, Short, Cut, Alone}
 use Rattle.bplus_tree.specs.declared.path.Place.{Place}
 use Rattle.bplus_tree.specs.declared.path.Passed.{Passed}
-use Rattle.bplus_tree.specs.Space.{free_head, IsFreeList, FitsHeader}
-use Rattle.bplus_tree.specs.Tree.{times, IsTree, tree_pages, tree_rows}
-use Rattle.bplus_tree.specs.Moves.{ArePart, Moves}
-use Rattle.bplus_tree.specs.Damage.{StopsFor, IsShort, spare_pages}
-use Rattle.bplus_tree.specs.Edit.{pages_of, Became, Edits, own}
+use Rattle.page_space.specs.Space.{free_head, IsFreeList, FitsHeader}
+use Rattle.page_space.specs.Counted.{times}
+use Rattle.tree_search.specs.Tree.{IsTree, tree_pages, tree_rows, pages_of}
+use Rattle.page_space.specs.Moves.{ArePart, Moves}
+use Rattle.page_space.specs.Stops.{StopsFor, IsShort, spare_pages}
+use Rattle.bplus_tree.specs.Edit.{Became, Edits, own}
 use Rattle.bplus_tree.specs.Path.{LeadsTo, Leads, Settles, MayFollow, StandsAt, TakesFor}
-use Rattle.bplus_tree.proofs.TreeLaws.{times-append, SameOn-first}
-use Rattle.bplus_tree.proofs.OrderLaws.{IsChildTree, Each-get}
-use Rattle.bplus_tree.proofs.SpaceLaws.{free_from-unique}
-use Rattle.bplus_tree.proofs.Places.{Moves-widen, part_after, same_beside}
-use Rattle.bplus_tree.proofs.Editing.{at_level, Located, located, child_part, three_pages}
-use Rattle.bplus_tree.proofs.LackLaws.{stops_wider, at_hand-kept}
-use Rattle.bplus_tree.proofs.SearchLaws.{well_formed_top}
+use Rattle.page_space.proofs.CountedLaws.{times-append, SameOn-first}
+use Rattle.tree_search.proofs.OrderLaws.{IsChildTree, Each-get, Located, located}
+use Rattle.page_space.proofs.SpaceLaws.{free_from-unique}
+use Rattle.page_space.proofs.Places.{Moves-widen, part_after, same_beside}
+use Rattle.bplus_tree.proofs.Editing.{at_level, child_part, three_pages}
+use Rattle.page_space.proofs.LackLaws.{stops_wider, at_hand-kept}
+use Rattle.tree_search.proofs.SearchLaws.{well_formed_top}
 
 -- the child that the way goes on to, in the page that it leaves
 pub record WayDown (lines : Lines) (from : Place) (to : Place) (free : List ℕ) : Type 0 where

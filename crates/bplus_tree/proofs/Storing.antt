@@ -9,22 +9,26 @@ use Rattle.slotted_page.specs.Rows.{Row, Each, Ascends, last_key}
 use Rattle.slotted_page.specs.Spans.{Span, reach, spans}
 use Rattle.slotted_page.specs.Node.{Child, leaf_rows, children, first_keys, IsWellFormed}
 use Rattle.slotted_page.proofs.PageFacts.{inner_facts}
-use Rattle.bplus_tree.specs.declared.root.Root.{Root}
-use Rattle.bplus_tree.specs.declared.outcome.Fit.{Fit}
-use Rattle.bplus_tree.specs.declared.outcome.Fit.TheVariants as fits
+use Rattle.tree_search.specs.declared.root.Root.{Root}
+use Rattle.node_edit.specs.declared.fit.Fit.{Fit}
+use Rattle.node_edit.specs.declared.fit.Fit.TheVariants as fits
 use Rattle.bplus_tree.specs.declared.outcome.Outcome.{Outcome}
 use Rattle.bplus_tree.specs.declared.outcome.Outcome.TheVariants.{Whole, Short, Cut, Alone}
-use Rattle.bplus_tree.specs.Space.{high_of}
-use Rattle.bplus_tree.specs.Tree.{times, IsTree, Tree, tree_rows, tree_pages, SameOn}
-use Rattle.bplus_tree.specs.Moves.{ArePart, Moves, Takes, ChangesRows}
-use Rattle.bplus_tree.specs.Written.{Rewrites}
-use Rattle.bplus_tree.specs.Edit.{part, loose, Divides, Fits, child_put, rows_of, pages_of, Became, Edits, IsOutcome, Stored, Stores, AddsChild, IsNewRoot, root_left, spent, IsSpent}
-use Rattle.bplus_tree.proofs.TreeLaws.{times-append, SameOn-first}
-use Rattle.bplus_tree.proofs.OrderLaws.{IsChildTree, length-children, Each-get}
-use Rattle.bplus_tree.proofs.FanLaws.{spans-parts, spans-join, stay_under, beside}
-use Rattle.bplus_tree.proofs.MovesLaws.{Moves-trans}
-use Rattle.bplus_tree.proofs.Places.{Moves-widen, Moves-write, in_part, part_after, same_beside}
-use Rattle.bplus_tree.proofs.Editing.{IsLocal, at_level, tree_of, reach_begins, located, child_put-behind, child_put-next, keys_below, one_above, once_after, Beside, turn, child_part}
+use Rattle.page_space.specs.Space.{high_of}
+use Rattle.page_space.specs.Counted.{times, SameOn}
+use Rattle.tree_search.specs.Tree.{IsTree, Tree, tree_rows, tree_pages, rows_of, pages_of}
+use Rattle.page_space.specs.Moves.{ArePart, Moves, Takes}
+use Rattle.bplus_tree.specs.Changes.{ChangesRows}
+use Rattle.page_space.specs.Written.{Rewrites}
+use Rattle.node_edit.specs.Edit.{part, loose, Divides, Fits, child_put, IsNewRoot}
+use Rattle.bplus_tree.specs.Edit.{Became, Edits, IsOutcome, Stored, Stores, AddsChild, root_left, spent, IsSpent}
+use Rattle.page_space.proofs.CountedLaws.{times-append, SameOn-first}
+use Rattle.tree_search.proofs.OrderLaws.{IsChildTree, length-children, Each-get, located}
+use Rattle.tree_search.proofs.FanLaws.{spans-parts, spans-join, stay_under, beside}
+use Rattle.page_space.proofs.MovesLaws.{Moves-trans}
+use Rattle.page_space.proofs.Places.{Moves-widen, Moves-write, in_part, part_after, same_beside}
+use Rattle.bplus_tree.proofs.Editing.{IsLocal, at_level, tree_of, reach_begins, one_above, once_after, Beside, turn, child_part}
+use Rattle.node_edit.proofs.ChildEdits.{child_put-behind, child_put-next, keys_below}
 
 pub stored_whole : (count : ℕ) (old new : Lines) (page : ℕ) (left right : List ℕ) → Rewrites page left old new → Stores count old new page Whole left right
 stored_whole count old new page left right wrote free is part within =

@@ -5,7 +5,7 @@ use Rattle.line_pages.specs.declared.stop.Evidence.{Evidence}
 use Rattle.line_pages.specs.Lines.{Lines}
 use Rattle.slotted_page.specs.Checks.{first_failure}
 use Rattle.slotted_page.specs.Search.{IsNodeDamage}
-use Rattle.bplus_tree.specs.Space.{free_head, high_of, is_free_page, header_checks, take_checks, IsSpaceDamage}
+use Rattle.page_space.specs.Space.{free_head, high_of, is_free_page, header_checks, take_checks, IsSpaceDamage}
 use Rattle.bplus_tree.specs.Damage.{IsTreeDamage, IsFullRoot}
 
 pub node_damage : (told : Bool) (count : ℕ) (lines : Lines) (buffer : List ℕ) (e : Evidence) → (IsTrue told → IsNodeDamage count lines buffer e) → IsTreeDamage told count buffer e

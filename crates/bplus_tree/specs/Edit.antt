@@ -4,59 +4,20 @@ use Rattle.std.specs.List.{list_all}
 use Rattle.line_pages.specs.Lines.{Lines}
 use Rattle.line_pages.specs.Bytes.{bytes_of}
 use Rattle.slotted_page.specs.declared.root.Expect.{Expect}
-use Rattle.slotted_page.specs.Rows.{Row, Each, Ascends, last_key}
+use Rattle.slotted_page.specs.Rows.{Row, Each}
 use Rattle.slotted_page.specs.Spans.{Span, reach, spans}
-use Rattle.slotted_page.specs.Sound.{row_bytes}
-use Rattle.slotted_page.specs.Node.{Child, children, begins_at, first_keys, is_page_below, leaf_rows, entry_count, IsWellFormed}
-use Rattle.bplus_tree.specs.declared.root.Root.{Root}
-use Rattle.bplus_tree.specs.declared.outcome.Fit.{Fit}
-use Rattle.bplus_tree.specs.declared.outcome.Fit.TheVariants as fits
+use Rattle.slotted_page.specs.Node.{Child, children, entry_count, IsWellFormed}
+use Rattle.tree_search.specs.declared.root.Root.{Root}
+use Rattle.node_edit.specs.declared.fit.Fit.{Fit}
+use Rattle.node_edit.specs.declared.fit.Fit.TheVariants as fits
 use Rattle.bplus_tree.specs.declared.outcome.Outcome.{Outcome}
 use Rattle.bplus_tree.specs.declared.outcome.Outcome.TheVariants.{Whole, Short, Cut, Alone}
-use Rattle.bplus_tree.specs.declared.outcome.Pair.{Pair}
-use Rattle.bplus_tree.specs.Space.{high_of, IsFreeList}
-use Rattle.bplus_tree.specs.Tree.{IsTree, tree_rows, tree_pages}
-use Rattle.bplus_tree.specs.Moves.{ArePart, Moves, SameEntries, Gives}
-use Rattle.bplus_tree.specs.Written.{Rewrites}
-
--- a part of a page, which is no root
-abbrev pub part : Expect → ℕ → ℕ → Expect
-part expect low high = record { level = expect.level; low = low; high = high; root = false; pages = expect.pages }
-
--- what is expected of a page that may have fallen below the floor, as a root may
-abbrev pub loose : Expect → Expect
-loose expect = record { level = expect.level; low = expect.low; high = expect.high; root = true; pages = expect.pages }
-
--- The bytes of one page, or of two that part at a key, have these entries.
-pub record Holds {X : Type 0} (entries : List ℕ → List X) (expect : Expect) (bytes : List ℕ) (all : List X) : Type 0 where
-  pub well : IsWellFormed bytes expect
-  pub are : entries bytes ≡ all
-
-pub record Divides {X : Type 0} (entries : List ℕ → List X) (expect : Expect) (left right : List ℕ) (all : List X) (key : ℕ) : Type 0 where
-  pub above : expect.low < key
-  pub within : key ≤ expect.high
-  pub left_well : IsWellFormed left (part expect expect.low (key - 1))
-  pub right_well : IsWellFormed right (part expect key expect.high)
-  pub are : entries left ++ entries right ≡ all
-
-abbrev pub Fits : {X : Type 0} → (List ℕ → List X) → Expect → List ℕ → List ℕ → List X → Fit → Type 0
-Fits entries expect left right all fits.Whole = Holds entries expect left all
-Fits entries expect left right all fits.Short = Holds entries (loose expect) left all
-Fits entries expect left right all (fits.Cut key) = Divides entries expect left right all key
-
--- the children with this child at the key, in the order of the keys
-abbrev pub child_put : ℕ → ℕ → List Child → List Child
-child_put key page [] = (key, page) ∷ []
-child_put key page (c ∷ cs) =
-    if nat_lt c.0 key then c ∷ child_put key page cs
-    else if c.0 == key then (key, page) ∷ cs
-    else (key, page) ∷ c ∷ cs
-
-abbrev pub rows_of : Lines → ℕ → List Child → List Row
-rows_of lines level cs = flat_map (λ (child : Child). tree_rows lines level child.1) cs
-
-abbrev pub pages_of : Lines → ℕ → List Child → List ℕ
-pages_of lines level cs = flat_map (λ (child : Child). tree_pages lines level child.1) cs
+use Rattle.node_edit.specs.declared.pair.Pair.{Pair}
+use Rattle.page_space.specs.Space.{high_of, IsFreeList}
+use Rattle.tree_search.specs.Tree.{IsTree, tree_rows, tree_pages, pages_of, rows_of}
+use Rattle.page_space.specs.Moves.{ArePart, Moves, SameEntries, Gives}
+use Rattle.page_space.specs.Written.{Rewrites}
+use Rattle.node_edit.specs.Edit.{Fits, Mended, both, child_put, joined}
 
 -- what stands for a page afterwards: its pages, its rows, and that it is a tree, or two that part at a key
 abbrev pub pages_left : Lines → ℕ → ℕ → Outcome → List ℕ
@@ -114,46 +75,11 @@ pub record Turns (count : ℕ) (old new : Lines) (level : ℕ) (ss ms : List Chi
   pub trees : Each (λ (s : Span). IsTree count new level s.page s.low s.high false) (spans ms high)
   pub rows : rows_of new level ms ≡ rows'
 
-abbrev pub both : Pair → List Child
-both pair = (pair.low, pair.left) ∷ (pair.middle, pair.right) ∷ []
-
--- what is left of two children after a join: the left one, and the right one from a key on where not all went into the left one
-abbrev pub joined : Pair → Option ℕ → List Child
-joined pair None = (pair.low, pair.left) ∷ []
-joined pair (Some key) = (pair.low, pair.left) ∷ (key, pair.right) ∷ []
-
--- a cut between the two
-abbrev pub IsCutIn : Pair → Option ℕ → Type 0
-IsCutIn pair None = Unit {0}
-IsCutIn pair (Some key) = (pair.low < key) × (key ≤ pair.high)
-
--- two pages of the store, and keys in order
-pub record IsPair (count : ℕ) (pair : Pair) : Type 0 where
-  pub left_some : 1 ≤ pair.left
-  pub left : pair.left < count
-  pub right_some : 1 ≤ pair.right
-  pub right : pair.right < count
-  pub order : pair.low < pair.middle
-  pub within : pair.middle ≤ pair.high
-
 abbrev pub Joins : ℕ → Lines → Lines → ℕ → Pair → Option ℕ → Type 0
 Joins count old new level pair cut =
     (free : List ℕ) (left_loose right_loose : Bool) → IsTree count old level pair.left pair.low (pair.middle - 1) left_loose → IsTree count old level pair.right pair.middle pair.high right_loose
     → (left_loose ≡ false) ⊎ (right_loose ≡ false) → IsFreeList old free → ArePart old (pages_of old level (both pair) ++ free) → high_of old ≤ count
     → Turns count old new level (both pair) (joined pair cut) pair.high (rows_of old level (both pair)) free
-
--- the child at a key with its right sibling, or else with its left one
-abbrev pub IsPairAt : List Child → Child → List Child → ℕ → Pair → Type 0
-IsPairAt xs s (y ∷ ys) high pair = pair ≡ record { left = s.1; low = s.0; middle = y.0; right = y.1; high = reach ys high }
-IsPairAt xs s [] high pair = (front : List Child) × (x : Child) × (xs ≡ front ++ x ∷ []) × (pair ≡ record { left = x.1; low = x.0; middle = s.0; right = s.1; high = high })
-
-abbrev pub PairsUp : List Child → ℕ → ℕ → Pair → Type 0
-PairsUp all high key pair = (xs ys : List Child) (s : Child) → s.0 ≡ key → all ≡ xs ++ ((s ∷ []) ++ ys) → IsPairAt xs s ys high pair
-
--- the page above after the join
-abbrev pub Mended : Expect → List ℕ → List ℕ → Pair → Option ℕ → Fit → Type 0
-Mended expect old new pair cut fit =
-    (xs ys : List Child) → children old ≡ xs ++ (both pair ++ ys) → reach ys expect.high ≡ pair.high → Fits children expect new new (xs ++ (joined pair cut ++ ys)) fit
 
 -- A page of this tree, whose child at a key may be below the floor, beside a free list.
 pub record IsMendable (lines : Lines) (page : ℕ) (expect : Expect) (key level : ℕ) (free : List ℕ) : Type 0 where
@@ -229,73 +155,12 @@ AddsChild old new page expect key child outcome =
     (free : List ℕ) → IsFreeList old free → ArePart old (page ∷ free) → high_of old ≤ expect.pages
     → Added old new page expect (child_put key child (children (bytes_of old page))) outcome free
 
--- a new root over two pages
-abbrev pub IsNewRoot : List ℕ → ℕ → ℕ → ℕ → ℕ → ℕ → Type 0
-IsNewRoot bytes level first key second count = Holds children (record { level = level; low = 0; high = last_key; root = true; pages = count }) bytes ((0, first) ∷ (key, second) ∷ [])
-
 -- the root after a call that did not cut it
 abbrev pub root_left : Root → Outcome → Root
 root_left root Whole = root
 root_left root Short = root
 root_left root (Cut key right) = root
 root_left root (Alone child) = record { page = child; levels = root.levels - 1 }
-
--- the first of the rows whose key is not below the key
-abbrev pub place_of : ℕ → List Row → ℕ
-place_of key [] = 0
-place_of key (row ∷ rows) = if nat_lt row.0 key then suc (place_of key rows) else 0
-
--- whether the rows begin with one of the key
-abbrev pub is_first : ℕ → List Row → Bool
-is_first key [] = false
-is_first key (row ∷ rows) = row.0 == key
-
--- whether the row at that place has the key
-abbrev pub has_row : ℕ → List Row → Bool
-has_row key rows = is_first key (drop (place_of key rows) rows)
-
--- the same of children
-abbrev pub child_place : ℕ → List Child → ℕ
-child_place key [] = 0
-child_place key (child ∷ rest) = if nat_lt child.0 key then suc (child_place key rest) else 0
-
-abbrev pub is_child_first : ℕ → List Child → Bool
-is_child_first key [] = false
-is_child_first key (child ∷ rest) = child.0 == key
-
-abbrev pub has_child : ℕ → List Child → Bool
-has_child key cs = is_child_first key (drop (child_place key cs) cs)
-
--- what the children of a page of a tree are
-pub record AreChildren (expect : Expect) (cs : List Child) : Type 0 where
-  pub begins : begins_at expect.low cs ≡ true
-  pub order : Ascends expect.low expect.high (first_keys cs)
-  pub below : list_all (is_page_below expect.pages) cs ≡ true
-  pub full : (expect.root || nat_le 80 (length cs)) ≡ true
-  pub some : 2 ≤ length cs
-
--- what is expected of the left and the right one of two neighbours, either of which may be below the floor, and of a page
--- with the entries of both
-abbrev pub left_of : ℕ → ℕ → Pair → Expect
-left_of count level pair = record { level = level; low = pair.low; high = pair.middle - 1; root = true; pages = count }
-
-abbrev pub right_of : ℕ → ℕ → Pair → Expect
-right_of count level pair = record { level = level; low = pair.middle; high = pair.high; root = true; pages = count }
-
-abbrev pub whole_of : ℕ → ℕ → Pair → Expect
-whole_of count level pair = record { level = level; low = pair.low; high = pair.high; root = false; pages = count }
-
--- the bytes of two neighbours after a join: all entries in the left one, or in both
-abbrev pub Merges : {X : Type 0} → (List ℕ → List X) → Expect → List ℕ → List ℕ → List X → Option ℕ → Type 0
-Merges entries expect left right all None = Holds entries expect left all
-Merges entries expect left right all (Some key) = Divides entries expect left right all key
-
--- a page that has as much as it has to
-abbrev pub IsEnoughLeaf : List ℕ → Type 0
-IsEnoughLeaf bytes = 1344 ≤ row_bytes (leaf_rows bytes)
-
-abbrev pub IsEnoughInner : List ℕ → Type 0
-IsEnoughInner bytes = 80 ≤ length (children bytes)
 
 -- the lines that are written for a page of which so many changed
 abbrev pub spent : ℕ → Fit → ℕ

@@ -1,10 +1,5 @@
-pub mod Tree
-pub mod Space
-pub mod Moves
-pub mod Way
+pub mod Changes
 pub mod Damage
-pub mod Written
-pub mod Record
 pub mod Edit
 pub mod Path
-pub mod Next
+pub mod Record

@@ -7,16 +7,16 @@ use Rattle.slotted_page.specs.Search.{is_root_span}
 use Rattle.slotted_page.specs.Rows.{last_key}
 use Rattle.slotted_page.specs.Spans.{spans}
 use Rattle.slotted_page.specs.Node.{children, entry_count, IsWellFormed}
-use Rattle.bplus_tree.specs.declared.root.Root.{Root}
+use Rattle.tree_search.specs.declared.root.Root.{Root}
 use Rattle.bplus_tree.specs.declared.outcome.Outcome.{Outcome}
 use Rattle.bplus_tree.specs.declared.outcome.Outcome.TheVariants.{Whole, Short, Cut, Alone}
 use Rattle.bplus_tree.specs.declared.path.Place.{Place}
 use Rattle.bplus_tree.specs.declared.path.Passed.{Passed}
 use Rattle.line_pages.specs.declared.stop.Stop.{Stop}
-use Rattle.bplus_tree.specs.Space.{high_of, IsFreeList}
-use Rattle.bplus_tree.specs.Tree.{IsTree, tree_pages}
-use Rattle.bplus_tree.specs.Moves.{ArePart}
-use Rattle.bplus_tree.specs.Damage.{IsFault, StopsFor, spare_pages}
+use Rattle.page_space.specs.Space.{high_of, IsFreeList}
+use Rattle.tree_search.specs.Tree.{IsTree, tree_pages}
+use Rattle.page_space.specs.Moves.{ArePart}
+use Rattle.page_space.specs.Stops.{IsFault, StopsFor, spare_pages}
 use Rattle.bplus_tree.specs.Edit.{IsMendable, Mends, AddsChild}
 
 -- the place of a root

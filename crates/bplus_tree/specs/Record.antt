@@ -1,40 +1,15 @@
 -- A row by its record alone.
 use Rattle.std.specs.Prelude.{◌≡◌, ℕ, ◌+◌, ◌-◌, IsTrue, Bool, List, length, Option, Some, None, nat_le, ◌&&◌, if◌then◌else◌}
-use Rattle.slotted_page.specs.Rows.{Row, row_get}
-use Rattle.slotted_page.specs.Node.{Slot, row_in, leaf_rows}
-use Rattle.slotted_page.specs.Sound.{slot_of}
-use Rattle.slotted_page.specs.Value.{value_of}
+use Rattle.slotted_page.specs.Rows.{Row}
 use Rattle.line_pages.specs.Bytes.{bytes_of}
 use Rattle.line_pages.specs.Standing.{Standing}
-use Rattle.bplus_tree.specs.declared.root.Root.{Root}
+use Rattle.tree_search.specs.declared.root.Root.{Root}
 use Rattle.bplus_tree.specs.declared.path.Place.{Place}
 use Rattle.bplus_tree.specs.declared.outcome.Outcome.{Outcome}
 use Rattle.bplus_tree.specs.declared.outcome.Outcome.TheVariants.{Whole}
-use Rattle.bplus_tree.specs.Tree.{IsTree, IsRooted, tree_rows, leaf_for}
-use Rattle.bplus_tree.specs.Edit.{place_of}
-use Rattle.bplus_tree.specs.Written.{Meets, WritesOnly}
-
--- the record has a key and lies in the page
-abbrev pub is_record : Slot → Bool
-is_record slot = nat_le 8 slot.size && nat_le (slot.place + slot.size) 4096
-
-abbrev pub with_key : ℕ → Option (List ℕ) → Option Row
-with_key key None = None
-with_key key (Some value) = Some (key, value)
-
--- the row of a record, where it is one that a leaf can have
-abbrev pub row_found : List ℕ → Slot → Option Row
-row_found bytes slot = if is_record slot then with_key (row_in bytes slot).0 (value_of (row_in bytes slot).1) else None
-
--- where the record of a key stands in a leaf that has the key
-abbrev pub record_at : ℕ → List ℕ → Slot
-record_at key bytes = slot_of bytes (place_of key (leaf_rows bytes))
-
--- the key has a value of this length
-pub record HoldsLength (key size : ℕ) (rows : List Row) : Type 0 where
-  pub held : List ℕ
-  pub is : row_get key rows ≡ Some held
-  pub long : length held ≡ size
+use Rattle.tree_search.specs.Tree.{IsTree, IsRooted, tree_rows, leaf_for}
+use Rattle.page_space.specs.Written.{Meets, WritesOnly}
+use Rattle.node_edit.specs.Record.{HoldsLength, record_at}
 
 -- lines are written of the key's record in its leaf alone, as it stands before
 abbrev pub WritesRecord : {A : Type 0} → ℕ → ℕ → Standing A → Standing A → Type 0

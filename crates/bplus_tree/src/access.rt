@@ -5,18 +5,19 @@ ghost use Rattle.line_pages.specs.Standing.{Continues, HasCause, Never, KeepsLin
 ghost use Rattle.slotted_page.specs.Node.{IsWellFormed};
 ghost use Rattle.slotted_page.specs.Search.{is_root_span, IsSpot, IsSafeSpot};
 ghost use Rattle.slotted_page.specs.Work.{KeepsOthers};
-ghost use Rattle.bplus_tree.specs.Damage.{IsTreeDamage, IsFault, IsShort, spare_pages};
-ghost use Rattle.bplus_tree.specs.Moves.{ArePart, Takes, Gives};
-ghost use Rattle.bplus_tree.specs.Space.{FitsHeader, IsFreeList};
-ghost use Rattle.bplus_tree.specs.Written.{Rewrites, Differs, WritesOnly, lines_changed};
-ghost use Rattle.bplus_tree.specs.declared.outcome.Fit.TheVariants as fits;
+ghost use Rattle.bplus_tree.specs.Damage.{IsTreeDamage};
+ghost use Rattle.page_space.specs.Stops.{IsFault, IsShort, spare_pages};
+ghost use Rattle.page_space.specs.Moves.{ArePart, Takes, Gives};
+ghost use Rattle.page_space.specs.Space.{FitsHeader, IsFreeList};
+ghost use Rattle.page_space.specs.Written.{Rewrites, Differs, WritesOnly, lines_changed};
+ghost use Rattle.node_edit.specs.declared.fit.Fit.TheVariants as fits;
 ghost use Rattle.bplus_tree.specs.Edit.{IsOutcome, IsCutAt, Stores, spent};
 
-use crate::outcome::{Fit, Outcome};
-use crate::space::{give_page, take_page};
-use crate::write::write_changes;
+use crate::outcome::Outcome;
 use line_pages::{Pages, Stop, copy_page};
+use node_edit::Fit;
 use page_search::{find, read_page};
+use page_space::{give_page, take_page, write_changes};
 use slotted_page::{Expect, Spot, Work};
 use ssd_model::PageBuf;
 
@@ -137,7 +138,7 @@ pub fn write_new<P: Pages>(
 }
 
 /// Writes a page that was cut, and takes a further page for its right part.
-#[tactic(auto, using(crate::proofs::SoundLaws::sound_never))]
+#[tactic(auto, using(page_space::proofs::SoundLaws::sound_never))]
 fn store_cut<P: Pages>(pages: &mut P, page: u64, key: u64, work: &mut Work) -> Result<Outcome, Stop>
     requires ready { P.is_ready pages.old }
     requires page { page < (P.standing pages.old).count }
@@ -160,7 +161,7 @@ fn store_cut<P: Pages>(pages: &mut P, page: u64, key: u64, work: &mut Work) -> R
 
 /// Writes a page whose old bytes stand in `spare` and its new ones in `page`, and takes a further page for those in `right`
 /// where it was cut.
-#[tactic(auto, using(crate::proofs::SoundLaws::sound_never))]
+#[tactic(auto, using(page_space::proofs::SoundLaws::sound_never))]
 pub fn store<P: Pages>(pages: &mut P, page: u64, fit: Fit, work: &mut Work) -> Result<Outcome, Stop>
     requires ready { P.is_ready pages.old }
     requires page { page < (P.standing pages.old).count }

@@ -6,22 +6,23 @@ ghost use Rattle.line_pages.specs.Standing.{Continues, HasCause, IsCause};
 ghost use Rattle.slotted_page.specs.Rows.{row_put, row_delete};
 ghost use Rattle.slotted_page.specs.Node.{IsWellFormed, entry_count, is_printable, leaf_rows};
 ghost use Rattle.slotted_page.specs.Search.{is_root_span};
-ghost use Rattle.bplus_tree.specs.Space.{IsFreeList, FitsHeader};
-ghost use Rattle.bplus_tree.specs.Moves.{ArePart};
-ghost use Rattle.bplus_tree.specs.Damage.{IsTreeDamage, IsFullRoot, IsFault, IsShort, StopsFor, spare_pages};
-ghost use Rattle.bplus_tree.specs.Edit.{Edits, Mends, IsMendable, AddsChild, IsSafe, IsSpent, StaysBelow, IsPair, IsCutIn, Rewritten, after_fit};
+ghost use Rattle.page_space.specs.Space.{IsFreeList, FitsHeader};
+ghost use Rattle.page_space.specs.Moves.{ArePart};
+ghost use Rattle.bplus_tree.specs.Damage.{IsTreeDamage, IsFullRoot};
+ghost use Rattle.page_space.specs.Stops.{IsFault, IsShort, StopsFor, spare_pages};
+ghost use Rattle.bplus_tree.specs.Edit.{Edits, Mends, IsMendable, AddsChild, IsSafe, IsSpent, StaysBelow, Rewritten, after_fit};
+ghost use Rattle.node_edit.specs.Edit.{IsPair, IsCutIn};
 ghost use Rattle.bplus_tree.specs.Path.{IsFullAt};
-ghost use Rattle.bplus_tree.specs.Record.{HoldsLength, WritesRecord};
-ghost use Rattle.bplus_tree.specs.Written.{Rewrites, lines_changed};
+ghost use Rattle.node_edit.specs.Record.{HoldsLength};
+ghost use Rattle.bplus_tree.specs.Record.{WritesRecord};
+ghost use Rattle.page_space.specs.Written.{Rewrites, lines_changed};
 
 use crate::access::{give, load, store};
-use crate::inner_edit::{inner_put, mend_divided, mend_joined};
 use crate::joining::join;
-use crate::leaf_edit::{leaf_delete, leaf_put};
-use crate::outcome::{Fit, Outcome, Pair};
-use crate::pair::pair_of;
-use crate::write::write_changes;
+use crate::outcome::Outcome;
 use line_pages::{Evidence, Pages, Stop, page_word};
+use node_edit::{Fit, Pair, inner_put, leaf_delete, leaf_put, mend_divided, mend_joined, pair_of};
+use page_space::write_changes;
 use slotted_page::{Expect, Work};
 use ssd_model::PageBuf;
 
@@ -251,7 +252,7 @@ fn outcome_of(fit: Fit) -> Outcome
 }
 
 /// Writes a page that was not cut.
-#[tactic(auto, using(crate::proofs::SoundLaws::sound_never))]
+#[tactic(auto, using(page_space::proofs::SoundLaws::sound_never))]
 fn keep<P: Pages>(pages: &mut P, page: u64, fit: Fit, work: &mut Work) -> Result<Outcome, Stop>
     requires ready { P.is_ready pages.old }
     requires page { page < (P.standing pages.old).count }

@@ -3,17 +3,18 @@ ghost use Rattle.std.specs.Prelude.{◌≡◌, ◌≢◌, ◌+◌, ◌<◌, ◌�
 ghost use Rattle.line_pages.specs.Bytes.{bytes_of};
 ghost use Rattle.line_pages.specs.Standing.{Continues, HasCause, KeepsLines};
 ghost use Rattle.slotted_page.specs.Node.{IsWellFormed, leaf_rows as rows_of, children as children_of};
-ghost use Rattle.bplus_tree.specs.Damage.{IsTreeDamage, IsFault};
-ghost use Rattle.bplus_tree.specs.Space.{FitsHeader};
-ghost use Rattle.bplus_tree.specs.Moves.{Gives};
-ghost use Rattle.bplus_tree.specs.Written.{Rewrites};
-ghost use Rattle.bplus_tree.specs.Edit.{left_of, right_of, whole_of, Merges, IsEnoughLeaf, IsEnoughInner, IsCutIn, IsPair, Joins, WritesJoined, WritesDivided};
+ghost use Rattle.bplus_tree.specs.Damage.{IsTreeDamage};
+ghost use Rattle.page_space.specs.Stops.{IsFault};
+ghost use Rattle.page_space.specs.Space.{FitsHeader};
+ghost use Rattle.page_space.specs.Moves.{Gives};
+ghost use Rattle.page_space.specs.Written.{Rewrites};
+ghost use Rattle.node_edit.specs.Edit.{left_of, right_of, whole_of, Merges, IsEnoughLeaf, IsEnoughInner, IsCutIn, IsPair};
+ghost use Rattle.bplus_tree.specs.Edit.{Joins, WritesJoined, WritesDivided};
 
 use crate::access::{give, load};
-use crate::merge::{left_expect, merge_inner, merge_leaves, right_expect};
-use crate::outcome::Pair;
-use crate::write::write_changes;
 use line_pages::{Pages, Stop};
+use node_edit::{Pair, left_expect, merge_inner, merge_leaves, right_expect};
+use page_space::write_changes;
 use slotted_page::Work;
 
 /// Reads two neighbours: the left one into `left` and `spare`, the right one into `right` and `page`.
@@ -69,7 +70,7 @@ fn merge(work: &mut Work, pair: &Pair, level: u8, count: u64) -> Option<u64>
 }
 
 /// Writes the left one, with the entries of both, and gives the right one back.
-#[tactic(auto, using(crate::proofs::SoundLaws::sound_never))]
+#[tactic(auto, using(page_space::proofs::SoundLaws::sound_never))]
 fn write_joined<P: Pages>(
     pages: &mut P,
     pair: &Pair,
@@ -94,7 +95,7 @@ fn write_joined<P: Pages>(
 }
 
 /// Writes both.
-#[tactic(auto, using(crate::proofs::SoundLaws::sound_never))]
+#[tactic(auto, using(page_space::proofs::SoundLaws::sound_never))]
 fn write_divided<P: Pages>(
     pages: &mut P,
     pair: &Pair,

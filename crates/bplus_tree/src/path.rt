@@ -4,21 +4,22 @@ ghost use Rattle.std.specs.List.{list_all};
 ghost use Rattle.line_pages.specs.Standing.{Continues, HasCause, KeepsLines};
 ghost use Rattle.slotted_page.specs.Rows.{row_put, row_delete};
 ghost use Rattle.slotted_page.specs.Node.{is_printable};
-ghost use Rattle.bplus_tree.specs.Space.{FitsHeader};
-ghost use Rattle.bplus_tree.specs.Tree.{tree_rows};
-ghost use Rattle.bplus_tree.specs.Damage.{IsTreeDamage, IsFault, StopsFor, spare_pages};
+ghost use Rattle.page_space.specs.Space.{FitsHeader};
+ghost use Rattle.tree_search.specs.Tree.{tree_rows};
+ghost use Rattle.bplus_tree.specs.Damage.{IsTreeDamage};
+ghost use Rattle.page_space.specs.Stops.{IsFault, StopsFor, spare_pages};
 ghost use Rattle.bplus_tree.specs.Edit.{Edits, IsSafe, IsSpent, StaysBelow};
-ghost use Rattle.bplus_tree.specs.Written.{WritesNothing};
+ghost use Rattle.page_space.specs.Written.{WritesNothing};
 ghost use Rattle.bplus_tree.specs.Record.{PutsAgain};
 ghost use Rattle.bplus_tree.specs.Path.{IsPlace, Leads, MayFollow, Settles, StandsAbove, StandsAt, StopsAbove, TakesFor, room_above, root_place};
 
 use crate::access::look;
 use crate::change::{add_child, delete_leaf, mend, put_leaf};
 use crate::outcome::Outcome;
-use crate::root::{Root, child_expect, root_expect};
 use arrayvec::ArrayVec;
 use line_pages::{Pages, Stop};
 use slotted_page::{Expect, Spot, Work};
+use tree_search::{Root, child_expect, root_expect};
 
 /// A page of a tree, and what is expected of it.
 #[derive(Clone, Copy)]

@@ -1,16 +1,13 @@
 //! Worked examples over pages in memory, and trees beside the rows that they are to have.
 ghost use Rattle.std.specs.Prelude.{◌≤◌, ◌<◌, ◌*◌};
 
-use crate::lookup::get;
-use crate::next::next_from;
-use crate::root::Root;
-use crate::space::{give_page, take_page};
 use crate::tree::{delete, put};
-use line_pages::{Evidence, Pages, Stop, VecPages};
+use line_pages::{Pages, Stop, VecPages};
 use nvm_model::{Line, NoMemory};
 use slotted_page::{Value, Work};
 use std::alloc::{AllocFailed, Global};
 use std::collections::BTreeMap;
+use tree_search::{Root, get, next_from};
 
 /// Why a test ended early.
 #[derive(Debug, Drop)]
@@ -150,30 +147,6 @@ impl Grown {
         } else {
             Err(Early::Differs(key))
         }
-    }
-
-    /// Takes a page.
-    fn take(&mut self) -> Result<u64, Early> {
-        let left = self.left;
-        if left == 0 {
-            return Err(Early::Spent);
-        }
-        self.left = 0;
-        let page = take_page(&mut self.pages, &mut self.work)?;
-        self.left = left - 1;
-        Ok(page)
-    }
-
-    /// Gives a page back.
-    fn give(&mut self, page: u64) -> Result<(), Early> {
-        let left = self.left;
-        if left == 0 || page < 1 || page >= self.pages.page_count() {
-            return Err(Early::Spent);
-        }
-        self.left = 0;
-        give_page(&mut self.pages, &mut self.work, page)?;
-        self.left = left - 1;
-        Ok(())
     }
 
     /// The value of a key is to have its length.
@@ -392,37 +365,5 @@ fn comes_and_goes(rt: HostRuntime) -> Result<(), Early> {
     assert_eq!(rt; grown.next(0)?, None);
     let high = grown.word(0, 2)?;
     assert_eq!(rt; grown.free_pages()?.saturating_add(2), high);
-    Ok(())
-}
-
-#[test]
-fn takes_what_was_given_back(rt: HostRuntime) -> Result<(), Early> {
-    let mut grown = Grown::new(rt.alloc(), 3)?;
-    assert_eq!(rt; grown.take()?, 2);
-    assert_eq!(rt; grown.word(0, 2)?, 3);
-    grown.give(2)?;
-    assert_eq!(rt; grown.word(0, 3)?, 2);
-    assert_eq!(rt; grown.free_pages()?, 1);
-    assert_eq!(rt; grown.take()?, 2);
-    assert_eq!(rt; grown.free_pages()?, 0);
-    Ok(())
-}
-
-/// Check 37: no page is free, and none is left behind the high water.
-#[test]
-fn has_no_page_left(rt: HostRuntime) -> Result<(), Early> {
-    let mut grown = Grown::new(rt.alloc(), 3)?;
-    grown.take()?;
-    let refused = Evidence::Page {
-        page: 0,
-        level: 0,
-        low: 0,
-        high: u64::MAX,
-        check: 37,
-    };
-    match grown.take() {
-        Err(Early::Stopped(stop)) => assert_eq!(rt; stop, Stop::Damaged(refused)),
-        _ => assert!(rt; false),
-    }
     Ok(())
 }

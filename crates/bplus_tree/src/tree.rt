@@ -4,20 +4,20 @@ ghost use Rattle.std.specs.List.{list_all};
 ghost use Rattle.slotted_page.specs.Node.{is_printable};
 ghost use Rattle.line_pages.specs.Standing.{Continues, HasCause, KeepsLines};
 ghost use Rattle.slotted_page.specs.Rows.{Row, row_get, row_put, row_delete};
-ghost use Rattle.bplus_tree.specs.Tree.{IsRooted};
-ghost use Rattle.bplus_tree.specs.Moves.{ChangesRows};
-ghost use Rattle.bplus_tree.specs.Damage.{IsTreeDamage, IsFault, IsLack, StandsIn, pages_at_hand};
-ghost use Rattle.bplus_tree.specs.Written.{WritesNothing};
+ghost use Rattle.tree_search.specs.Tree.{IsRooted};
+ghost use Rattle.bplus_tree.specs.Changes.{ChangesRows};
+ghost use Rattle.bplus_tree.specs.Damage.{IsTreeDamage, IsLack, StandsIn};
+ghost use Rattle.page_space.specs.Stops.{IsFault, pages_at_hand};
+ghost use Rattle.page_space.specs.Written.{WritesNothing};
 ghost use Rattle.bplus_tree.specs.Record.{PutsRecord};
 
 use crate::access::{take, write_new};
-use crate::lookup::get;
 use crate::outcome::Outcome;
-use crate::pair::root_of;
 use crate::path::{delete_in, put_in, top_of};
-use crate::root::Root;
 use line_pages::{Pages, Stop};
+use node_edit::root_of;
 use slotted_page::{Value, Work};
+use tree_search::{Root, get};
 
 /// Puts a value at a key, whether or not the key is there. Its callers know that already: it is `put` without the look-up.
 pub fn put_row<P: Pages>(

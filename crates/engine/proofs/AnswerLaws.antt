@@ -6,9 +6,9 @@ use Rattle.line_pages.specs.Lines.{Lines}
 use Rattle.slotted_page.specs.Rows.{Row, row_put, row_delete}
 use Rattle.store_meaning.specs.Layout.{Sizes, pages}
 use Rattle.store_laws.specs.ShownPages.{pages_in}
-use Rattle.table_store.specs.declared.limits.Limits.{Limits}
-use Rattle.table_store.specs.Catalog.{Table, tables}
-use Rattle.table_store.specs.Stored.{rows_of, with_rows, is_known}
+use Rattle.table_catalog.specs.declared.limits.Limits.{Limits}
+use Rattle.table_catalog.specs.Catalog.{Table, tables}
+use Rattle.table_catalog.specs.Stored.{rows_of, with_rows, is_known}
 use Rattle.table_store.specs.Created.{Makes}
 use Rattle.table_store.specs.Changed.{ChangesTable}
 use Rattle.table_store.specs.Putting.{stored_of}

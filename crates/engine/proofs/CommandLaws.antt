@@ -8,15 +8,15 @@ use Rattle.line_pages.specs.Standing.{Standing as Shown, Continues, KeepsLines, 
 use Rattle.line_pages.specs.declared.stop.Evidence.{Evidence}
 use Rattle.line_pages.specs.declared.stop.Stop.{Stop}
 use Rattle.line_pages.specs.declared.stop.Stop.TheVariants.{Nvm, Ssd, Damaged}
-use Rattle.bplus_tree.specs.Damage.{IsFault as IsTreeFault}
-use Rattle.table_store.specs.Stored.{IsStore}
+use Rattle.page_space.specs.Stops.{IsFault as IsTreeFault}
+use Rattle.table_catalog.specs.Stored.{IsStore}
 use Rattle.slotted_page.specs.declared.work.Work.{Work}
 use Rattle.store_meaning.specs.Layout.{Sizes, pages, ssd_blocks}
 use Rattle.store_laws.specs.ShownPages.{pages_in, committed_in}
 use Rattle.store_laws.specs.Steps.{MayLeave}
 use Rattle.nvm_layout.specs.Sizes.{sizes_of}
 use Rattle.nvm_layout.specs.declared.geometry.Geometry.{Geometry}
-use Rattle.table_store.specs.Catalog.{Table}
+use Rattle.table_catalog.specs.Catalog.{Table}
 use Rattle.transactions.specs.declared.book.Book.{Book}
 use Rattle.transactions.specs.StoreStanding.{standing_of, book_sizes, reach, IsReady, IsSteady}
 use Rattle.transactions.specs.StoreCalls.{NextWrite}

@@ -17,7 +17,7 @@ use Rattle.store_laws.specs.Steps.{IsStoreOf, MayLeave}
 use Rattle.store_laws.proofs.ImageLaws.{stores_left, stores_chosen}
 use Rattle.nvm_layout.specs.Sizes.{sizes_of}
 use Rattle.nvm_layout.specs.declared.geometry.Geometry.{Geometry}
-use Rattle.table_store.specs.Catalog.{Table}
+use Rattle.table_catalog.specs.Catalog.{Table}
 use Rattle.transactions.specs.declared.book.Book.{Book}
 use Rattle.transactions.specs.StoreStanding.{Apart, standing_of, past_of, book_sizes, reach, IsReady, IsSteady}
 use Rattle.script.specs.Machine.{State, current as current_tables}

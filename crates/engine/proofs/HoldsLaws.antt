@@ -19,9 +19,9 @@ use Rattle.store_laws.specs.OpenFacts.{OpenFacts, keeping}
 use Rattle.store_laws.specs.ShownPages.{pages_in, committed_in}
 use Rattle.store_laws.specs.Steps.{IsStoreOf}
 use Rattle.store_laws.proofs.OpenLaws.{open_pages, open_store, same_store}
-use Rattle.table_store.specs.declared.limits.Limits.{Limits}
-use Rattle.table_store.specs.Catalog.{Table, tables}
-use Rattle.table_store.specs.Stored.{IsStore}
+use Rattle.table_catalog.specs.declared.limits.Limits.{Limits}
+use Rattle.table_catalog.specs.Catalog.{Table, tables}
+use Rattle.table_catalog.specs.Stored.{IsStore}
 use Rattle.engine.specs.Holds.{AreLimits, HoldsTables, Holds, InOrder}
 
 -- The limits of a store are the only ones.

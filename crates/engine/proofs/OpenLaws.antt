@@ -15,7 +15,7 @@ use Rattle.store_laws.specs.Steps.{IsStoreOf}
 use Rattle.nvm_layout.specs.Sizes.{sizes_of}
 use Rattle.nvm_layout.specs.declared.geometry.Geometry.{Geometry}
 use Rattle.nvm_log.specs.declared.log.Log.{Log}
-use Rattle.table_store.specs.Catalog.{Table}
+use Rattle.table_catalog.specs.Catalog.{Table}
 use Rattle.transactions.specs.StoreStanding.{reach, IsReady}
 use Rattle.transactions.proofs.NewLaws.{new_ready, new_steady}
 use Rattle.recovery.specs.Opening.{Recovered, AreParts, KeepsStore}

@@ -9,12 +9,13 @@ use Rattle.line_pages.specs.declared.stop.Stop.{Stop}
 use Rattle.line_pages.specs.declared.stop.Stop.TheVariants.{Nvm, Ssd, Damaged}
 use Rattle.line_pages.specs.declared.touches.Accesses.{Accesses}
 use Rattle.slotted_page.specs.Rows.{Row, keys, row_next, Ascends, Each, last_key}
-use Rattle.bplus_tree.proofs.OrderLaws.{tree_rows-ascend}
-use Rattle.table_store.specs.declared.limits.Limits.{Limits}
+use Rattle.tree_search.proofs.OrderLaws.{tree_rows-ascend}
+use Rattle.table_catalog.specs.declared.limits.Limits.{Limits}
 use Rattle.table_store.specs.declared.answer.Next.{Next}
 use Rattle.table_store.specs.declared.answer.Next.TheVariants as next
-use Rattle.table_store.specs.Catalog.{Table, entries, tables, table_of}
-use Rattle.table_store.specs.Stored.{IsStore, HasTree, rows_of, IsLookupDamage}
+use Rattle.table_catalog.specs.Catalog.{Table, entries, tables, table_of}
+use Rattle.table_catalog.specs.Stored.{IsStore, HasTree, rows_of}
+use Rattle.table_store.specs.Getting.{IsLookupDamage}
 use Rattle.table_store.specs.Scanning.{next_of, row_up_to}
 use Rattle.script.specs.Tables.{row_range}
 use Rattle.script.specs.Machine.{State}

@@ -3,9 +3,10 @@ use Rattle.std.proofs.Common.{◌≡◌, ℕ, ◌+◌, ◌<◌, ◌≤◌, Bool,
 use Rattle.std.specs.Prelude.{◌&&◌, ◌||◌, nat_le, nat_lt, bytes_eq, unwrap_or}
 use Rattle.std.proofs.lemmas.Bool.{cases_Bool, cases_lt, le-leb, lt-leb, lt-ltb, le-ltb}
 use Rattle.slotted_page.specs.Rows.{Row, row_get, row_put, row_delete}
-use Rattle.table_store.specs.declared.limits.Limits.{Limits}
-use Rattle.table_store.specs.Catalog.{Table}
-use Rattle.table_store.specs.Stored.{rows_of, is_known, with_rows, got_of, found_value}
+use Rattle.table_catalog.specs.declared.limits.Limits.{Limits}
+use Rattle.table_catalog.specs.Catalog.{Table}
+use Rattle.table_catalog.specs.Stored.{rows_of, is_known, with_rows}
+use Rattle.table_store.specs.Getting.{got_of, found_value}
 use Rattle.table_store.specs.Putting.{stored_of}
 use Rattle.table_store.specs.Deleting.{deleted_of}
 use Rattle.table_store.specs.declared.answer.Stored.{Stored}

@@ -11,7 +11,7 @@ use Rattle.store_laws.specs.ShownPages.{pages_in, committed_in}
 use Rattle.store_laws.specs.Steps.{MayLeave}
 use Rattle.nvm_layout.specs.Sizes.{sizes_of}
 use Rattle.nvm_layout.specs.declared.geometry.Geometry.{Geometry}
-use Rattle.table_store.specs.Catalog.{Table}
+use Rattle.table_catalog.specs.Catalog.{Table}
 use Rattle.transactions.specs.declared.book.Book.{Book}
 use Rattle.transactions.specs.StoreStanding.{book_sizes, reach, kept_lines, reserve, IsReady, IsSteady}
 use Rattle.transactions.specs.StoreCalls as store

@@ -6,7 +6,7 @@ use Rattle.line_pages.specs.declared.stop.Stop.{Stop}
 use Rattle.line_pages.specs.Standing.{HasCause}
 use Rattle.store_meaning.specs.Layout.{pages}
 use Rattle.store_laws.specs.ShownPages.{pages_in}
-use Rattle.table_store.specs.Stored.{IsLookupDamage}
+use Rattle.table_store.specs.Getting.{IsLookupDamage}
 use Rattle.table_store.specs.Created.{IsCreateDamage}
 use Rattle.table_store.specs.Changed.{IsChangeDamage}
 use Rattle.transactions.specs.TakenBack.{IsDamage as IsLogDamage}

@@ -7,9 +7,9 @@ use Rattle.store_meaning.specs.Format.Format.{whole_lines}
 use Rattle.store_meaning.specs.Recovered.{super_of, recovered_pages}
 use Rattle.store_meaning.specs.InOrder.{Stands}
 use Rattle.store_laws.specs.Steps.{IsStoreOf}
-use Rattle.table_store.specs.declared.limits.Limits.{Limits}
-use Rattle.table_store.specs.Catalog.{Table, tables}
-use Rattle.table_store.specs.Stored.{IsStore}
+use Rattle.table_catalog.specs.declared.limits.Limits.{Limits}
+use Rattle.table_catalog.specs.Catalog.{Table, tables}
+use Rattle.table_catalog.specs.Stored.{IsStore}
 use Rattle.script.specs.Machine.{Bounds}
 
 -- the limits of a store of these sizes

@@ -3,7 +3,7 @@ use Rattle.std.specs.Prelude.{◌≡◌, ℕ, ◌<◌, ◌≤◌, List, Result, 
 use Rattle.devices.specs.World.{Standing, Moments, now}
 use Rattle.store_meaning.specs.Layout.{Sizes}
 use Rattle.nvm_layout.specs.Sizes.{sizes_of}
-use Rattle.table_store.specs.Catalog.{Table}
+use Rattle.table_catalog.specs.Catalog.{Table}
 use Rattle.transactions.specs.BookCalls.{IsNew}
 use Rattle.recovery.specs.Opening.{Answers, FindsInLog, IsComplete, ChangesNothing}
 use Rattle.recovery.specs.Causes.{OpenCause}

@@ -2,7 +2,7 @@
 use Rattle.std.specs.Prelude.{◌≡◌, ℕ, ◌+◌, ◌-◌, ◌≤◌, nat_le, false, List, [], ◌∷◌, ◌++◌, length, map, Option, if◌then◌else◌, IsTrue, Result, IfOk, IfErr, OnOk}
 use Rattle.devices.specs.World.{Standing, Goes, Moments}
 use Rattle.slotted_page.specs.Rows.{Row}
-use Rattle.table_store.specs.Catalog.{Table}
+use Rattle.table_catalog.specs.Catalog.{Table}
 use Rattle.line_pages.specs.declared.stop.Stop.{Stop}
 use Rattle.transactions.specs.StoreStanding.{reach}
 use Rattle.script.specs.Tables.{row_range, rows_or_none}

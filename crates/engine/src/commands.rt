@@ -1,9 +1,10 @@
 //! What commands on tables do.
 ghost use Rattle.std.specs.Prelude.{◌≡◌, ◌<◌, ◌≤◌, true, Some, IsTrue, IfOk};
 ghost use Rattle.line_pages.specs.Standing.{HasCause};
-ghost use Rattle.table_store.specs.Catalog.{IsCatalogDamage};
+ghost use Rattle.table_catalog.specs.Catalog.{IsCatalogDamage};
 ghost use Rattle.table_store.specs.Created.{IsCreateDamage};
-ghost use Rattle.table_store.specs.Stored.{is_known, IsLookupDamage};
+ghost use Rattle.table_catalog.specs.Stored.{is_known};
+ghost use Rattle.table_store.specs.Getting.{IsLookupDamage};
 ghost use Rattle.table_store.specs.Changed.{IsChangeDamage};
 ghost use Rattle.script.specs.Machine.{State, current as seen_tables};
 ghost use Rattle.script.specs.Script.{machine};

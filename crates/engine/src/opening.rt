@@ -2,7 +2,7 @@
 ghost use Rattle.std.specs.Prelude.{◌≡◌, ◌^◌, ◌≤◌, List, IsTrue, IfOk};
 ghost use Rattle.devices.specs.World.{Standing, Goes, now};
 ghost use Rattle.store_meaning.specs.Layout.{Sizes};
-ghost use Rattle.table_store.specs.Catalog.{Table};
+ghost use Rattle.table_catalog.specs.Catalog.{Table};
 ghost use Rattle.transactions.specs.BookCalls.{IsNew};
 ghost use Rattle.transactions.specs.StoreStanding.{reach};
 

@@ -1,7 +1,8 @@
 //! The rows of a scan, one by one.
 ghost use Rattle.std.specs.Prelude.{◌≡◌, ◌∷◌, ◌<◌, ◌≤◌, false, IsTrue, IfOk, IfErr, OnOk, OnErr};
 ghost use Rattle.line_pages.specs.Standing.{IsCause, last_count};
-ghost use Rattle.table_store.specs.Stored.{rows_of, IsLookupDamage};
+ghost use Rattle.table_catalog.specs.Stored.{rows_of};
+ghost use Rattle.table_store.specs.Getting.{IsLookupDamage};
 ghost use Rattle.table_store.specs.Scanning.{next_of};
 ghost use Rattle.script.specs.Tables.{rows_or_none};
 ghost use Rattle.script.specs.Machine.{State, current as seen_tables};

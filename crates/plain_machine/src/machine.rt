@@ -2,7 +2,7 @@
 ghost use Rattle.std.specs.Prelude.{◌≡◌, ◌<◌, ◌≤◌, ◌+◌, ◌∷◌, ◌++◌, [], None, Some, IfOk, OnOk, OnErr};
 ghost use Rattle.texts.specs.Lines.{is_silent as silent};
 ghost use Rattle.slotted_page.specs.Rows.{row_put, row_delete};
-ghost use Rattle.table_store.specs.Stored.{with_rows};
+ghost use Rattle.table_catalog.specs.Stored.{with_rows};
 ghost use Rattle.script.specs.Tables.{rows_or_none, with_table};
 ghost use Rattle.script.specs.Grammar.{command_in};
 ghost use Rattle.script.specs.Machine.{bounds_of, opening, Open, current as tables_now, writes_so_far, refusal as refusal_of, written, rows_in, accepted};
@@ -16,7 +16,7 @@ use script::{Command, Reason, Reply, is_silent, read_line};
 use slotted_page::Value;
 use std::alloc::Global;
 use std::marker::Model;
-use table_store::{Limits, Name};
+use table_catalog::{Limits, Name};
 
 /// An open transaction: its copy of the tables, and how many writes it has had.
 #[derive(Drop)]

@@ -1,7 +1,7 @@
 //! Tables as a list in the order of their creation.
 ghost use Rattle.std.specs.Prelude.{◌≡◌, ◌++◌, ◌∷◌, [], List, ℕ, position, IfOk, OnOk, OnErr, bytes_eq};
 ghost use Rattle.slotted_page.specs.Rows.{Row, row_get, row_put, row_delete};
-ghost use Rattle.table_store.specs.Stored.{is_known, with_rows, rows_of as rows_of_name};
+ghost use Rattle.table_catalog.specs.Stored.{is_known, with_rows, rows_of as rows_of_name};
 ghost use Rattle.script.specs.Machine.{is_full as full};
 ghost use Rattle.script.specs.Tables.{has_row, row_range, rows_or_none, with_table};
 ghost use Rattle.plain_machine.specs.Plain.{is_table, row_replies};
@@ -12,7 +12,7 @@ use script::Reply;
 use slotted_page::Value;
 use std::alloc::Global;
 use std::marker::Model;
-use table_store::Name;
+use table_catalog::Name;
 use texts::is_word;
 
 /// A name with rows. Contracts see the pair.

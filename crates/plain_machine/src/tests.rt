@@ -5,7 +5,7 @@ use crate::PlainMachine;
 use script::reply_text;
 use std::alloc::Global;
 use std::test::*;
-use table_store::Limits;
+use table_catalog::Limits;
 
 /// A machine for four tables.
 fn machine(alloc: Global, tables: u32, rows: u64, writes: u32) -> PlainMachine

@@ -8,8 +8,8 @@ use Rattle.texts.specs.Runs.{versions, commits}
 use Rattle.script.specs.Replies.{is_committed}
 use Rattle.script.specs.Machine.{Bounds, Open, State, refusal, accepted, judged, step, current, rows_in, written, found}
 use Rattle.script.specs.Script.{machine}
-use Rattle.table_store.specs.Catalog.{Table}
-use Rattle.table_store.specs.Stored.{with_rows}
+use Rattle.table_catalog.specs.Catalog.{Table}
+use Rattle.table_catalog.specs.Stored.{with_rows}
 use Rattle.script.specs.Tables.{with_table}
 use Rattle.script.specs.declared.command.Command.{Command}
 use Rattle.script.specs.declared.command.Command.TheVariants.{Create, Begin, Put, Del, Get, Scan, Commit, Abort, Checkpoint, Drain, Clean}

@@ -3,9 +3,9 @@ use Rattle.std.proofs.Common.{ℕ, ◌+◌, ◌≤◌, Bool, true, false, cond, 
 use Rattle.std.specs.Prelude.{option_map, unwrap_or, IfSome, bytes_eq, nat_le, ◌&&◌}
 use Rattle.std.specs.List.{AllByRecursion}
 use Rattle.slotted_page.specs.Rows.{Row, keys, last_key, Ascends, row_put, row_delete}
-use Rattle.bplus_tree.proofs.RowLaws.{Ascends-put, Ascends-delete, Ascends-lower}
-use Rattle.table_store.specs.Catalog.{Table}
-use Rattle.table_store.specs.Stored.{rows_of, with_rows}
+use Rattle.node_edit.proofs.RowLaws.{Ascends-put, Ascends-delete, Ascends-lower}
+use Rattle.table_catalog.specs.Catalog.{Table}
+use Rattle.table_catalog.specs.Stored.{rows_of, with_rows}
 use Rattle.texts.specs.Runs as run
 use Rattle.script.specs.Tables.{has_row, row_range, with_table, AreOrdered}
 use Rattle.script.specs.Grammar.{IsCommand}

@@ -5,7 +5,7 @@ use Rattle.std.specs.Prelude.{map, count_by, IfSome, ◌||◌}
 use Rattle.std.specs.List.{AllByRecursion}
 use Rattle.slotted_page.specs.Rows.{Row, row_get}
 use Rattle.script.specs.Tables.{has_row, row_range}
-use Rattle.table_store.specs.Catalog.{Table}
+use Rattle.table_catalog.specs.Catalog.{Table}
 use Rattle.script.specs.Tables.{AreTables}
 use Rattle.script.specs.Grammar.{command_of, IsCommand}
 use Rattle.script.specs.Replies.{text, is_committed, reply_line}

@@ -4,8 +4,8 @@ use Rattle.std.proofs.lemmas.Bool.{cases_Bool}
 use Rattle.std.proofs.lemmas.List.{get_or_default}
 use Rattle.slotted_page.specs.Rows.{row_delete}
 use Rattle.script.specs.Tables.{has_row}
-use Rattle.table_store.specs.Catalog.{Table}
-use Rattle.table_store.specs.Stored.{with_rows}
+use Rattle.table_catalog.specs.Catalog.{Table}
+use Rattle.table_catalog.specs.Stored.{with_rows}
 use Rattle.texts.specs.Runs as run
 use Rattle.script.specs.Machine.{Bounds, Open, State, refusal, accepted, judged, step, current, rows_in, written}
 use Rattle.script.specs.Script.{machine}

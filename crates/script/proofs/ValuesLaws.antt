@@ -5,8 +5,8 @@ use Rattle.std.specs.List.{AllByRecursion}
 use Rattle.slotted_page.specs.Value.{IsValue}
 use Rattle.slotted_page.specs.Rows.{Row, row_get, row_put, row_delete}
 use Rattle.script.specs.Tables.{has_row, row_range}
-use Rattle.table_store.specs.Catalog.{Table}
-use Rattle.table_store.specs.Stored.{rows_of, with_rows}
+use Rattle.table_catalog.specs.Catalog.{Table}
+use Rattle.table_catalog.specs.Stored.{rows_of, with_rows}
 use Rattle.script.specs.Tables.{with_table, IsRow, AreRows, AreTables}
 use Rattle.script.specs.Grammar.{IsCommand}
 use Rattle.texts.specs.Runs.{replies}

@@ -1,6 +1,6 @@
 -- The forms of a script line.
 use Rattle.std.specs.Prelude.{codes, ℕ, List, [], ◌∷◌, ◌++◌, Option, decimal}
-use Rattle.table_store.specs.Names.{IsName}
+use Rattle.table_catalog.specs.Names.{IsName}
 use Rattle.slotted_page.specs.Value.{IsValue}
 use Rattle.texts.specs.Numbers.{IsKey, IsCount}
 use Rattle.texts.specs.Fields.{space}

@@ -3,8 +3,8 @@ use Rattle.std.specs.Prelude.{ℕ, nat_le, Bool, ◌&&◌, List, [], ◌∷◌, 
 use Rattle.std.specs.List.{AllByRecursion}
 use Rattle.slotted_page.specs.Value.{IsValue}
 use Rattle.slotted_page.specs.Rows.{Row, row_get, keys, last_key, Ascends}
-use Rattle.table_store.specs.Catalog.{Table}
-use Rattle.table_store.specs.Stored.{rows_of}
+use Rattle.table_catalog.specs.Catalog.{Table}
+use Rattle.table_catalog.specs.Stored.{rows_of}
 use Rattle.texts.specs.Numbers.{IsKey}
 
 -- whether a row has the key

@@ -1,6 +1,6 @@
 //! Commands and replies, as contracts see them: plain data.
 use slotted_page::Value;
-use table_store::Name;
+use table_catalog::Name;
 
 /// What a line of a script asks.
 #[derive(Drop)]

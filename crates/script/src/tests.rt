@@ -4,7 +4,7 @@ ghost use Rattle.std.specs.Prelude.{◌≤◌};
 use super::*;
 use slotted_page::Value;
 use std::test::*;
-use table_store::Name;
+use table_catalog::Name;
 
 /// Whether a name has these bytes.
 fn is_name(name: &Name, bytes: &[u8]) -> bool {

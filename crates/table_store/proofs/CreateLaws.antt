@@ -9,20 +9,20 @@ use Rattle.line_pages.specs.declared.stop.Stop.{Stop}
 use Rattle.line_pages.specs.Lines.{Lines, with_line}
 use Rattle.line_pages.proofs.LineLaws.{with_line-here, with_line-other_page, with_line-other_line}
 use Rattle.slotted_page.specs.Rows.{Each}
-use Rattle.bplus_tree.specs.Space.{word, with_word, kind_of, high_of, free_head, IsFreeFrom, IsFreeList}
-use Rattle.bplus_tree.specs.Tree.{times, SameOn}
-use Rattle.bplus_tree.specs.Moves.{below, Moves, AreExactly, SameEntries, Takes}
-use Rattle.bplus_tree.proofs.TreeLaws.{times-append}
-use Rattle.bplus_tree.proofs.SpaceLaws.{free_from-same}
-use Rattle.table_store.specs.declared.limits.Limits.{Limits}
-use Rattle.table_store.specs.declared.entry.Entry.{Entry}
-use Rattle.table_store.specs.Names.{is_name}
-use Rattle.table_store.specs.Catalog.{entry_in, entries, entries_from, table_count, name_of, table_of, tables, place_of, is_entry, names_differ, catalog_checks}
-use Rattle.table_store.specs.Stored.{HasTree, all_pages, IsStore, is_known}
+use Rattle.page_space.specs.Space.{word, with_word, kind_of, high_of, free_head, IsFreeFrom, IsFreeList}
+use Rattle.page_space.specs.Counted.{times, SameOn}
+use Rattle.page_space.specs.Moves.{below, Moves, AreExactly, SameEntries, Takes}
+use Rattle.page_space.proofs.CountedLaws.{times-append}
+use Rattle.page_space.proofs.SpaceLaws.{free_from-same}
+use Rattle.table_catalog.specs.declared.limits.Limits.{Limits}
+use Rattle.table_catalog.specs.declared.entry.Entry.{Entry}
+use Rattle.table_catalog.specs.Names.{is_name}
+use Rattle.table_catalog.specs.Catalog.{entry_in, entries, entries_from, table_count, name_of, table_of, tables, place_of, is_entry, names_differ, catalog_checks}
+use Rattle.table_catalog.specs.Stored.{HasTree, all_pages, IsStore, is_known}
 use Rattle.table_store.specs.Created.{new_entry, leaf_line, Written, Makes, IsCreated}
-use Rattle.table_store.specs.declared.entry.Place.{Place}
+use Rattle.table_catalog.specs.declared.entry.Place.{Place}
 use Rattle.table_store.specs.declared.answer.Created.TheVariants.{Made, NoSlot}
-use Rattle.table_store.proofs.CatalogLaws.{AllHold, all_hold, none_fails, known_by}
+use Rattle.table_catalog.proofs.CatalogLaws.{AllHold, all_hold, none_fails, known_by}
 use Rattle.table_store.proofs.RoomLaws.{length-entries}
 use Rattle.table_store.proofs.EntryLaws.{name_back, field_named}
 use Rattle.table_store.proofs.LeafLaws.{leaf_is_tree, leaf_has_none}

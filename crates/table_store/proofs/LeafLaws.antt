@@ -5,7 +5,7 @@ use Rattle.line_pages.specs.Bytes.{bytes_of, u64_at}
 use Rattle.line_pages.proofs.ByteLaws.{header_word}
 use Rattle.slotted_page.specs.Rows.{last_key}
 use Rattle.slotted_page.specs.Node.{slots, leaf_rows, first_failing}
-use Rattle.bplus_tree.specs.Tree.{IsTree, tree_rows}
+use Rattle.tree_search.specs.Tree.{IsTree, tree_rows}
 use Rattle.table_store.specs.Created.{leaf_line}
 
 empty_leaf : (bytes : List ℕ) (count : ℕ) → u64_at bytes 0 ≡ 1 → u64_at bytes 8 ≡ 0 → u64_at bytes 16 ≡ 0 → u64_at bytes 24 ≡ 4096

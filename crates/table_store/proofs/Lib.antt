@@ -1,12 +1,9 @@
 pub mod EntryLaws
-pub mod CatalogLaws
-pub mod TableLaws
 pub mod LookupLaws
 pub mod FrameLaws
 pub mod LeafLaws
 pub mod CreateLaws
 pub mod RoomLaws
-pub mod TouchesLaws
 pub mod ChangeLaws
 pub mod RowsLaws
 pub mod ScanLaws

@@ -8,16 +8,17 @@ use Rattle.line_pages.specs.Standing.{Standing, ReadsPage, AddsReads}
 use Rattle.line_pages.proofs.TouchLaws.{accesses_from-begun}
 use Rattle.line_pages.proofs.StandingLaws.{page_adds, AddsReads-trans}
 use Rattle.slotted_page.specs.Rows.{Row}
-use Rattle.bplus_tree.specs.Tree.{IsRooted}
-use Rattle.bplus_tree.specs.Way.{IsPath}
-use Rattle.bplus_tree.specs.Damage.{IsFault}
-use Rattle.bplus_tree.proofs.SearchLaws.{on_ok, from_ok}
-use Rattle.table_store.specs.declared.limits.Limits.{Limits}
-use Rattle.table_store.specs.declared.entry.Place.{Place}
-use Rattle.table_store.specs.Catalog.{entries, tables, place_of, entry_rows, entry_pages, FitsEntry}
+use Rattle.tree_search.specs.Tree.{IsRooted}
+use Rattle.tree_search.specs.Way.{IsPath}
+use Rattle.page_space.specs.Stops.{IsFault}
+use Rattle.tree_search.proofs.SearchLaws.{on_ok, from_ok}
+use Rattle.table_catalog.specs.declared.limits.Limits.{Limits}
+use Rattle.table_catalog.specs.declared.entry.Place.{Place}
+use Rattle.table_catalog.specs.Catalog.{entries, tables, place_of, entry_rows, entry_pages, FitsEntry}
 use Rattle.table_store.specs.Changed.{root_at}
-use Rattle.table_store.specs.Stored.{IsStore, IsLookup, rows_of, place_levels, place_path}
-use Rattle.table_store.proofs.TableLaws.{rooted, rows_by}
+use Rattle.table_catalog.specs.Stored.{IsStore, rows_of}
+use Rattle.table_store.specs.Getting.{IsLookup, place_levels, place_path}
+use Rattle.table_catalog.proofs.TableLaws.{rooted, rows_by}
 
 -- the answers at a name that no table has, and at one that a table has
 pub named_none : {N : Type 0} (no_table : N) (of : Option (List Row) → N) (name : List ℕ) (lines : Lines) → no_table ≡ of None → place_of name 0 (entries lines) ≡ None → no_table ≡ of (rows_of name (tables lines))

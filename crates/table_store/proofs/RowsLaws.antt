@@ -9,26 +9,28 @@ use Rattle.line_pages.specs.declared.stop.Evidence.TheVariants.{Super, Frames, L
 use Rattle.line_pages.specs.Lines.{Lines}
 use Rattle.line_pages.proofs.LineLaws.{with_line-here}
 use Rattle.slotted_page.specs.Rows.{Row, keys, last_key, row_get, row_put, row_delete, Ascends}
-use Rattle.bplus_tree.specs.declared.root.Root.{Root}
-use Rattle.bplus_tree.specs.Space.{kind_of, high_of, free_head, FitsHeader}
-use Rattle.bplus_tree.specs.Tree.{IsRooted}
-use Rattle.bplus_tree.specs.Moves.{below, ArePart, Changes, ChangesRows}
-use Rattle.bplus_tree.specs.Damage.{IsFault, IsLack, StandsIn, pages_at_hand}
-use Rattle.bplus_tree.proofs.TreeLaws.{times-append}
-use Rattle.bplus_tree.proofs.RowLaws.{above_bound, row_get-none_above}
-use Rattle.bplus_tree.proofs.OrderLaws.{tree_rows-ascend}
-use Rattle.table_store.specs.declared.limits.Limits.{Limits}
-use Rattle.table_store.specs.declared.entry.Entry.{Entry}
-use Rattle.table_store.specs.declared.entry.Place.{Place}
-use Rattle.table_store.specs.Catalog.{entry_in, entries, table_count, tables, place_of, catalog_checks, entry_rows, entry_pages, FitsRoot}
-use Rattle.table_store.specs.Stored.{all_pages, rows_of, with_rows, IsStore}
+use Rattle.tree_search.specs.declared.root.Root.{Root}
+use Rattle.page_space.specs.Space.{kind_of, high_of, free_head, FitsHeader}
+use Rattle.tree_search.specs.Tree.{IsRooted}
+use Rattle.page_space.specs.Moves.{below, ArePart}
+use Rattle.bplus_tree.specs.Changes.{Changes, ChangesRows}
+use Rattle.page_space.specs.Stops.{IsFault, pages_at_hand}
+use Rattle.bplus_tree.specs.Damage.{IsLack, StandsIn}
+use Rattle.page_space.proofs.CountedLaws.{times-append}
+use Rattle.node_edit.proofs.RowLaws.{above_bound, row_get-none_above}
+use Rattle.tree_search.proofs.OrderLaws.{tree_rows-ascend}
+use Rattle.table_catalog.specs.declared.limits.Limits.{Limits}
+use Rattle.table_catalog.specs.declared.entry.Entry.{Entry}
+use Rattle.table_catalog.specs.declared.entry.Place.{Place}
+use Rattle.table_catalog.specs.Catalog.{entry_in, entries, table_count, tables, place_of, catalog_checks, entry_rows, entry_pages, FitsRoot}
+use Rattle.table_catalog.specs.Stored.{all_pages, rows_of, with_rows, IsStore}
 use Rattle.table_store.specs.Changed.{root_at, Enters, ChangesTable}
 use Rattle.table_store.specs.Putting.{stored_of}
 use Rattle.table_store.specs.Deleting.{deleted_of}
 use Rattle.table_store.specs.declared.answer.Stored.TheVariants.{Done as Put, TableFull}
 use Rattle.table_store.specs.declared.answer.Deleted.TheVariants.{Done as Gone, Absent}
-use Rattle.table_store.proofs.CatalogLaws.{AllHold, all_hold}
-use Rattle.table_store.proofs.TableLaws.{tree_of_place, pages_of_place, rooted, rows_by}
+use Rattle.table_catalog.proofs.CatalogLaws.{AllHold, all_hold}
+use Rattle.table_catalog.proofs.TableLaws.{tree_of_place, pages_of_place, rooted, rows_by}
 use Rattle.table_store.proofs.RoomLaws.{room_for_table}
 use Rattle.table_store.proofs.ChangeLaws.{around, rows_changed, high_new, other_pages}
 

@@ -7,13 +7,13 @@ use Rattle.line_pages.specs.Touch.{Access, begins, begun_from, last_from}
 use Rattle.line_pages.specs.Standing.{Standing, ReadsPage, AddsReads}
 use Rattle.line_pages.proofs.StandingLaws.{page_adds, AddsReads-trans}
 use Rattle.slotted_page.specs.Rows.{Row, Each}
-use Rattle.bplus_tree.specs.Tree.{IsRooted}
-use Rattle.bplus_tree.specs.Way.{AreReadsIn}
-use Rattle.bplus_tree.proofs.SearchLaws.{on_ok, from_ok}
-use Rattle.table_store.specs.declared.limits.Limits.{Limits}
-use Rattle.table_store.specs.declared.entry.Place.{Place}
-use Rattle.table_store.specs.Catalog.{entries, place_of, entry_rows, entry_pages, FitsEntry}
-use Rattle.table_store.specs.Stored.{IsStore}
+use Rattle.tree_search.specs.Tree.{IsRooted}
+use Rattle.tree_search.specs.Way.{AreReadsIn}
+use Rattle.tree_search.proofs.SearchLaws.{on_ok, from_ok}
+use Rattle.table_catalog.specs.declared.limits.Limits.{Limits}
+use Rattle.table_catalog.specs.declared.entry.Place.{Place}
+use Rattle.table_catalog.specs.Catalog.{entries, place_of, entry_rows, entry_pages, FitsEntry}
+use Rattle.table_catalog.specs.Stored.{IsStore}
 use Rattle.table_store.specs.Changed.{root_at}
 use Rattle.table_store.specs.Scanning.{place_pages, IsScan}
 use Rattle.table_store.proofs.LookupLaws.{rooted_now, with_fact}

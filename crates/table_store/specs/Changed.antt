@@ -4,13 +4,13 @@ use Rattle.nvm_model.specs.declared.line.Line.{Line}
 use Rattle.line_pages.specs.declared.stop.Evidence.{Evidence}
 use Rattle.line_pages.specs.Lines.{Lines, with_line}
 use Rattle.slotted_page.specs.Rows.{Row}
-use Rattle.bplus_tree.specs.declared.root.Root.{Root}
-use Rattle.bplus_tree.specs.Space.{high_of}
+use Rattle.tree_search.specs.declared.root.Root.{Root}
+use Rattle.page_space.specs.Space.{high_of}
 use Rattle.bplus_tree.specs.Damage.{IsTreeDamage}
-use Rattle.table_store.specs.declared.limits.Limits.{Limits}
-use Rattle.table_store.specs.declared.entry.Place.{Place}
-use Rattle.table_store.specs.Catalog.{entry_in, tables, IsCatalogDamage}
-use Rattle.table_store.specs.Stored.{IsStore, rows_of, with_rows}
+use Rattle.table_catalog.specs.declared.limits.Limits.{Limits}
+use Rattle.table_catalog.specs.declared.entry.Place.{Place}
+use Rattle.table_catalog.specs.Catalog.{entry_in, tables, IsCatalogDamage}
+use Rattle.table_catalog.specs.Stored.{IsStore, rows_of, with_rows}
 
 -- the root of an entry's tree
 abbrev pub root_at : Place → Root

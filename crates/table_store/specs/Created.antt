@@ -4,14 +4,14 @@ use Rattle.nvm_model.specs.declared.line.Line.{Line}
 use Rattle.line_pages.specs.declared.stop.Evidence.{Evidence}
 use Rattle.line_pages.specs.Lines.{Lines, with_line, IsLine}
 use Rattle.line_pages.specs.Standing.{Standing, KeepsLines}
-use Rattle.bplus_tree.specs.Space.{high_of, with_word, take_checks, IsSpaceDamage}
-use Rattle.table_store.specs.declared.limits.Limits.{Limits}
-use Rattle.table_store.specs.declared.entry.Entry.{Entry}
+use Rattle.page_space.specs.Space.{high_of, with_word, take_checks, IsSpaceDamage}
+use Rattle.table_catalog.specs.declared.limits.Limits.{Limits}
+use Rattle.table_catalog.specs.declared.entry.Entry.{Entry}
 use Rattle.table_store.specs.declared.answer.Created.{Created}
 use Rattle.table_store.specs.declared.answer.Created.TheVariants.{Made, Present, NoSlot}
-use Rattle.table_store.specs.Names.{is_name}
-use Rattle.table_store.specs.Catalog.{entry_in, table_count, tables, entries, place_of, IsCatalogDamage}
-use Rattle.table_store.specs.Stored.{IsStore, is_known}
+use Rattle.table_catalog.specs.Names.{is_name}
+use Rattle.table_catalog.specs.Catalog.{entry_in, table_count, tables, entries, place_of, IsCatalogDamage}
+use Rattle.table_catalog.specs.Stored.{IsStore, is_known}
 
 -- the field of a name: its length, its bytes, then zeros
 unfoldable pub field_of : List ℕ → List ℕ

@@ -3,11 +3,11 @@ use Rattle.std.specs.Prelude.{◌≡◌, ℕ, ◌+◌, ◌-◌, Bool, true, fals
 use Rattle.line_pages.specs.Lines.{Lines}
 use Rattle.line_pages.specs.Standing.{Standing, KeepsLines}
 use Rattle.slotted_page.specs.Rows.{Row, row_get, row_delete}
-use Rattle.table_store.specs.declared.limits.Limits.{Limits}
+use Rattle.table_catalog.specs.declared.limits.Limits.{Limits}
 use Rattle.table_store.specs.declared.answer.Deleted.{Deleted}
 use Rattle.table_store.specs.declared.answer.Deleted.TheVariants.{Done, Absent, NoTable}
-use Rattle.table_store.specs.declared.entry.Place.{Place}
-use Rattle.table_store.specs.Catalog.{entry_in}
+use Rattle.table_catalog.specs.declared.entry.Place.{Place}
+use Rattle.table_catalog.specs.Catalog.{entry_in}
 use Rattle.table_store.specs.Changed.{ChangesTable}
 
 -- the answer, the table having these rows

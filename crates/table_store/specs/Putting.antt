@@ -3,7 +3,7 @@ use Rattle.std.specs.Prelude.{ℕ, Bool, true, false, ◌||◌, nat_lt, List, le
 use Rattle.line_pages.specs.Lines.{Lines}
 use Rattle.line_pages.specs.Standing.{Standing, KeepsLines}
 use Rattle.slotted_page.specs.Rows.{Row, row_get, row_put}
-use Rattle.table_store.specs.declared.limits.Limits.{Limits}
+use Rattle.table_catalog.specs.declared.limits.Limits.{Limits}
 use Rattle.table_store.specs.declared.answer.Stored.{Stored}
 use Rattle.table_store.specs.declared.answer.Stored.TheVariants.{Done, TableFull, NoTable}
 use Rattle.table_store.specs.Changed.{ChangesTable}

@@ -3,11 +3,11 @@ use Rattle.std.specs.Prelude.{◌≡◌, ℕ, Bool, true, false, nat_le, List, [
 use Rattle.line_pages.specs.Lines.{Lines}
 use Rattle.line_pages.specs.Touch.{Access}
 use Rattle.slotted_page.specs.Rows as rows
-use Rattle.bplus_tree.specs.Way.{AreReadsIn}
-use Rattle.table_store.specs.declared.entry.Place.{Place}
+use Rattle.tree_search.specs.Way.{AreReadsIn}
+use Rattle.table_catalog.specs.declared.entry.Place.{Place}
 use Rattle.table_store.specs.declared.answer.Next.{Next}
 use Rattle.table_store.specs.declared.answer.Next.TheVariants.{Row, End, NoTable}
-use Rattle.table_store.specs.Catalog.{entries, entry_pages, place_of}
+use Rattle.table_catalog.specs.Catalog.{entries, entry_pages, place_of}
 
 -- the first row from the lower bound on, unless it is above the upper one
 abbrev pub row_up_to : ℕ → Option rows.Row → Next

@@ -2,23 +2,20 @@
 ghost use Rattle.std.specs.Prelude.{◌≡◌, ◌+◌, ◌*◌, ◌/◌, ◌<◌, ◌≤◌, None, IsTrue, OnOk, IfOk, IfErr, IfSome};
 ghost use Rattle.line_pages.specs.Lines.{with_line};
 ghost use Rattle.line_pages.specs.Standing.{Continues, HasCause, Never, ReadsPage};
-ghost use Rattle.bplus_tree.specs.Space.{with_word, take_checks, IsSpaceDamage};
-ghost use Rattle.bplus_tree.specs.Moves.{Takes};
-ghost use Rattle.bplus_tree.specs.Damage.{IsFault};
-ghost use Rattle.table_store.specs.Names.{is_name};
-ghost use Rattle.table_store.specs.Catalog.{entry_in as entry_of_line, entries, table_count, place_of, IsCatalogDamage};
-ghost use Rattle.table_store.specs.Stored.{IsStore};
+ghost use Rattle.page_space.specs.Space.{with_word, take_checks, IsSpaceDamage};
+ghost use Rattle.page_space.specs.Moves.{Takes};
+ghost use Rattle.page_space.specs.Stops.{IsFault};
+ghost use Rattle.table_catalog.specs.Names.{is_name};
+ghost use Rattle.table_catalog.specs.Catalog.{entry_in as entry_of_line, entries, table_count, place_of, IsCatalogDamage};
+ghost use Rattle.table_catalog.specs.Stored.{IsStore};
 ghost use Rattle.table_store.specs.Created.{field_of as field_of_name, new_entry, Written, Makes, IsCreated, KeepsUnlessMade, IsSlot, IsCreateDamage};
 
 use crate::answer::Created;
-use crate::catalog::{read_catalog, search};
-use crate::entry::{Entry, line_of};
-use crate::limits::Limits;
-use crate::name::Name;
-use bplus_tree::take_page;
 use line_pages::{Pages, Stop};
 use nvm_model::Line;
+use page_space::take_page;
 use slotted_page::Work;
+use table_catalog::{Entry, Limits, Name, line_of, read_catalog, search};
 
 /// The bytes that keep a name.
 fn field_of(name: &Name) -> [u8; 32]

@@ -2,22 +2,20 @@
 ghost use Rattle.std.specs.Prelude.{◌≡◌, ◌+◌, ◌-◌, ◌≤◌, ℕ, List, Some, true, false, not, is_some, IsTrue, OnOk, IfOk, IfErr};
 ghost use Rattle.line_pages.specs.Standing.{Continues, HasCause};
 ghost use Rattle.slotted_page.specs.Rows.{row_get, row_delete};
-ghost use Rattle.bplus_tree.specs.Damage.{IsFault, IsTreeDamage};
-ghost use Rattle.table_store.specs.declared.entry.Place.{Place};
-ghost use Rattle.table_store.specs.Catalog.{entry_in as entry_of_line, entries, tables, place_of, entry_rows, FitsRoot};
-ghost use Rattle.table_store.specs.Stored.{is_known, rows_of, IsStore};
+ghost use Rattle.page_space.specs.Stops.{IsFault};
+ghost use Rattle.bplus_tree.specs.Damage.{IsTreeDamage};
+ghost use Rattle.table_catalog.specs.declared.entry.Place.{Place};
+ghost use Rattle.table_catalog.specs.Catalog.{entry_in as entry_of_line, entries, tables, place_of, entry_rows, FitsRoot};
+ghost use Rattle.table_catalog.specs.Stored.{is_known, rows_of, IsStore};
 ghost use Rattle.table_store.specs.Changed.{ChangesTable, IsChangeDamage};
 ghost use Rattle.table_store.specs.Deleting.{deleted_of, is_no_table, DeletesIfDone, CountsIfDone, KeepsUnlessDone};
 
 use crate::answer::Deleted;
-use crate::catalog::find_entry;
-use crate::entry::{Place, root_of};
-use crate::limits::Limits;
-use crate::name::Name;
 use crate::placed::{has_row, write_place};
 use bplus_tree::delete_row;
 use line_pages::{Pages, Stop};
 use slotted_page::Work;
+use table_catalog::{Limits, Name, Place, find_entry, root_of};
 
 /// Takes a row out of the tree of a table, and writes its entry with one row less. A number of rows that is 0 stays 0.
 fn remove_row<P: Pages>(

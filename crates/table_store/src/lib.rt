@@ -1,14 +1,10 @@
-//! Tables by name over pages: the catalog in page 0, and under each of its entries a tree of rows.
+//! Tables by name over pages: the calls on the tables of a catalog, under each of whose entries stands a tree of rows.
 #![tactic(auto)]
 
 mod answer;
-mod catalog;
 mod creation;
 mod deletion;
-mod entry;
-mod limits;
 mod lookup;
-mod name;
 mod placed;
 mod scan;
 mod storing;
@@ -16,11 +12,9 @@ mod storing;
 mod tests;
 
 pub use answer::{Created, Deleted, Got, Next, Stored};
-pub use catalog::has_table;
 pub use creation::create;
 pub use deletion::delete;
-pub use limits::Limits;
 pub use lookup::get;
-pub use name::Name;
 pub use scan::scan_next;
 pub use storing::put;
+pub use table_catalog::{Limits, Name, has_table};

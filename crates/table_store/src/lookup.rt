@@ -4,20 +4,18 @@ ghost use Rattle.line_pages.specs.Touch.{Touch, begins, touch_of};
 ghost use Rattle.line_pages.specs.Standing.{Continues, HasCause, KeepsLines, AddsReads};
 ghost use Rattle.slotted_page.specs.Rows.{Row, row_get};
 ghost use Rattle.slotted_page.specs.Search.{IsNodeDamage};
-ghost use Rattle.bplus_tree.specs.Tree.{IsRooted};
-ghost use Rattle.bplus_tree.specs.Damage.{IsFault};
-ghost use Rattle.bplus_tree.specs.Way.{IsPath};
-ghost use Rattle.table_store.specs.Catalog.{entries, tables, place_of};
-ghost use Rattle.table_store.specs.Stored.{rows_of, is_known, is_no_table, found_value, got_of, place_levels, IsStore, IsLookup, IsLookupDamage};
+ghost use Rattle.tree_search.specs.Tree.{IsRooted};
+ghost use Rattle.page_space.specs.Stops.{IsFault};
+ghost use Rattle.tree_search.specs.Way.{IsPath};
+ghost use Rattle.table_catalog.specs.Catalog.{entries, tables, place_of};
+ghost use Rattle.table_catalog.specs.Stored.{rows_of, is_known, IsStore};
+ghost use Rattle.table_store.specs.Getting.{is_no_table, found_value, got_of, place_levels, IsLookup, IsLookupDamage};
 
 use crate::answer::Got;
-use crate::catalog::find_entry;
-use crate::entry::root_of;
-use crate::limits::Limits;
-use crate::name::Name;
-use bplus_tree::Root;
 use line_pages::{Pages, Stop};
 use slotted_page::Work;
+use table_catalog::{Limits, Name, find_entry, root_of};
+use tree_search::Root;
 
 /// The value of a key in the tree of a table.
 fn get_in<P: Pages>(pages: &mut P, root: &Root, key: u64, work: &mut Work) -> Result<Got, Stop>
@@ -38,7 +36,7 @@ fn get_in<P: Pages>(pages: &mut P, root: &Root, key: u64, work: &mut Work) -> Re
     ensures ready { OnOk result (P.is_ready pages.new) }
     ensures steady { P.is_steady pages.old → OnOk result (P.is_steady pages.new) }
 {
-    match bplus_tree::get(pages, root, key, work)? {
+    match tree_search::get(pages, root, key, work)? {
         Some(value) => Ok(Got::Found(value)),
         None => Ok(Got::Absent),
     }

@@ -2,16 +2,16 @@
 ghost use Rattle.std.specs.Prelude.{◌≡◌, ◌+◌, ◌<◌, ◌≤◌, ℕ, List, is_some, IsTrue, OnOk, IfOk, IfErr};
 ghost use Rattle.line_pages.specs.Standing.{Continues, HasCause, KeepsLines, Never};
 ghost use Rattle.slotted_page.specs.Rows.{Row, row_get};
-ghost use Rattle.bplus_tree.specs.Tree.{IsRooted};
-ghost use Rattle.bplus_tree.specs.Damage.{IsFault, IsTreeDamage};
-ghost use Rattle.table_store.specs.Catalog.{FitsRoot};
+ghost use Rattle.tree_search.specs.Tree.{IsRooted};
+ghost use Rattle.page_space.specs.Stops.{IsFault};
+ghost use Rattle.bplus_tree.specs.Damage.{IsTreeDamage};
+ghost use Rattle.table_catalog.specs.Catalog.{FitsRoot};
 ghost use Rattle.table_store.specs.Changed.{root_at, Enters};
 
-use crate::entry::{Entry, Place, line_of, root_of};
-use crate::limits::Limits;
-use bplus_tree::{Root, get};
 use line_pages::{Pages, Stop};
 use slotted_page::{Value, Work};
+use table_catalog::{Entry, Limits, Place, line_of, root_of};
+use tree_search::{Root, get};
 
 /// The value of a key of a table, with damage in the words of the calls that change a tree.
 fn value_at<P: Pages>(

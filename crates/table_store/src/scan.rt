@@ -4,21 +4,19 @@ ghost use Rattle.line_pages.specs.Touch.{Touch, touch_of};
 ghost use Rattle.line_pages.specs.Standing.{Continues, HasCause, KeepsLines, AddsReads};
 ghost use Rattle.slotted_page.specs.Rows.{Row, row_next};
 ghost use Rattle.slotted_page.specs.Search.{IsNodeDamage};
-ghost use Rattle.bplus_tree.specs.Tree.{IsRooted};
-ghost use Rattle.bplus_tree.specs.Way.{AreReadsIn};
-ghost use Rattle.bplus_tree.specs.Damage.{IsFault};
-ghost use Rattle.table_store.specs.Catalog.{tables};
-ghost use Rattle.table_store.specs.Stored.{rows_of, is_known, IsStore, IsLookupDamage};
+ghost use Rattle.tree_search.specs.Tree.{IsRooted};
+ghost use Rattle.tree_search.specs.Way.{AreReadsIn};
+ghost use Rattle.page_space.specs.Stops.{IsFault};
+ghost use Rattle.table_catalog.specs.Catalog.{tables};
+ghost use Rattle.table_catalog.specs.Stored.{rows_of, is_known, IsStore};
+ghost use Rattle.table_store.specs.Getting.{IsLookupDamage};
 ghost use Rattle.table_store.specs.Scanning.{row_up_to, next_of, is_no_table, IsScan};
 
 use crate::answer::Next;
-use crate::catalog::find_entry;
-use crate::entry::root_of;
-use crate::limits::Limits;
-use crate::name::Name;
-use bplus_tree::{Root, next_from};
 use line_pages::{Pages, Stop};
 use slotted_page::Work;
+use table_catalog::{Limits, Name, find_entry, root_of};
+use tree_search::{Root, next_from};
 
 /// The first row from a key on in the tree of a table, unless its key is above `to`.
 fn next_in<P: Pages>(

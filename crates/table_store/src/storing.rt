@@ -2,21 +2,19 @@
 ghost use Rattle.std.specs.Prelude.{◌≡◌, ◌+◌, ◌*◌, ◌/◌, ◌≤◌, ℕ, List, Some, false, not, is_some, IsTrue, OnOk, IfOk, IfErr, if◌then◌else◌};
 ghost use Rattle.line_pages.specs.Standing.{Continues, HasCause};
 ghost use Rattle.slotted_page.specs.Rows.{row_get, row_put};
-ghost use Rattle.bplus_tree.specs.Damage.{IsFault, IsTreeDamage};
-ghost use Rattle.table_store.specs.Catalog.{entries, tables, place_of, entry_rows, FitsRoot};
-ghost use Rattle.table_store.specs.Stored.{is_known, rows_of, IsStore};
+ghost use Rattle.page_space.specs.Stops.{IsFault};
+ghost use Rattle.bplus_tree.specs.Damage.{IsTreeDamage};
+ghost use Rattle.table_catalog.specs.Catalog.{entries, tables, place_of, entry_rows, FitsRoot};
+ghost use Rattle.table_catalog.specs.Stored.{is_known, rows_of, IsStore};
 ghost use Rattle.table_store.specs.Changed.{ChangesTable, IsChangeDamage};
 ghost use Rattle.table_store.specs.Putting.{stored_of, is_no_table, PutsIfDone, KeepsUnlessDone};
 
 use crate::answer::Stored;
-use crate::catalog::find_entry;
-use crate::entry::{Place, root_of};
-use crate::limits::Limits;
-use crate::name::Name;
 use crate::placed::{has_row, write_place};
 use bplus_tree::put_row;
 use line_pages::{Pages, Stop};
 use slotted_page::{Value, Work};
+use table_catalog::{Limits, Name, Place, find_entry, root_of};
 
 /// How many rows there are after a put, the key being found or new.
 fn rows_after(rows: u64, found: bool) -> u64

@@ -2,18 +2,15 @@
 ghost use Rattle.std.specs.Prelude.{◌+◌, ◌≤◌, OnOk};
 
 use crate::answer::{Created, Deleted, Got, Next, Stored};
-use crate::catalog::has_table;
 use crate::creation::create;
 use crate::deletion::delete;
-use crate::limits::Limits;
 use crate::lookup::get;
-use crate::name::Name;
 use crate::scan::scan_next;
 use crate::storing::put;
-use line_pages::{Evidence, Pages, Stop, VecPages};
+use line_pages::{Pages, Stop, VecPages};
 use nvm_model::{Line, NoMemory};
 use slotted_page::{Value, Work};
-use std::alloc::Global;
+use table_catalog::{Limits, Name, has_table};
 
 /// Why a test ended early.
 #[derive(Debug, Drop)]
@@ -58,20 +55,6 @@ fn line(words: [u64; 8]) -> Line {
 }
 
 const TWO_TABLES: Limits = Limits { tables: 2, rows: 9 };
-
-#[test]
-fn tells_names_from_other_bytes(rt: HostRuntime) -> Result<(), Early> {
-    assert_eq!(rt; named(b"table_7")?.bytes().len(), 7);
-    assert_eq!(rt;
-        named(b"abcdefghijklmnopqrstuvwxyz01234")?.bytes().len(),
-        31
-    );
-    assert!(rt; Name::from_bytes(b"").is_none());
-    assert!(rt; Name::from_bytes(b"abcdefghijklmnopqrstuvwxyz012345").is_none());
-    assert!(rt; Name::from_bytes(b"A").is_none());
-    assert!(rt; Name::from_bytes(b"a b").is_none());
-    Ok(())
-}
 
 #[test]
 fn makes_tables_by_name(rt: HostRuntime) -> Result<(), Early> {
@@ -149,52 +132,6 @@ fn looks_keys_up(rt: HostRuntime) -> Result<(), Early> {
             get(&mut pages, &TWO_TABLES, &named(b"b")?, 5, &mut work)?,
             Got::NoTable
         )
-    );
-    Ok(())
-}
-
-/// The check that a look-up of `a` names, the first line of page 0 and that of its first entry being these.
-fn check_of(alloc: Global, header: [u64; 8], entry: [u64; 8]) -> Result<u8, Early> {
-    let mut pages = VecPages::new(alloc, 8, 2)?;
-    let mut work = Work::new();
-    pages.write_line(0, 0, &line(header))?;
-    pages.write_line(0, 2, &line(entry))?;
-    let name = named(b"a")?;
-    match has_table(&mut pages, &TWO_TABLES, &name, &mut work) {
-        Ok(_) => Ok(0),
-        Err(Stop::Damaged(Evidence::Page { page: 0, check, .. })) => Ok(check),
-        Err(stop) => Err(Early::Stopped(stop)),
-    }
-}
-
-#[test]
-fn names_the_check_that_fails(rt: HostRuntime) -> Result<(), Early> {
-    let good = [0x6101, 0, 0, 0, 1, 1, 1, 0];
-    assert_eq!(rt; check_of(rt.alloc(), [4, 1, 2, 0, 0, 0, 0, 0], good)?, 0);
-    assert_eq!(rt; check_of(rt.alloc(), [5, 1, 2, 0, 0, 0, 0, 0], good)?, 31);
-    assert_eq!(rt; check_of(rt.alloc(), [4, 3, 2, 0, 0, 0, 0, 0], good)?, 32);
-    assert_eq!(rt; check_of(rt.alloc(), [4, 1, 9, 0, 0, 0, 0, 0], good)?, 33);
-    assert_eq!(rt; check_of(rt.alloc(), [4, 1, 2, 2, 0, 0, 0, 0], good)?, 34);
-    let header = [4, 1, 2, 0, 0, 0, 0, 0];
-    assert_eq!(rt;
-        check_of(rt.alloc(), header, [0x4101, 0, 0, 0, 1, 1, 1, 0])?,
-        35
-    );
-    assert_eq!(rt;
-        check_of(rt.alloc(), header, [0x6101, 1, 0, 0, 1, 1, 1, 0])?,
-        35
-    );
-    assert_eq!(rt;
-        check_of(rt.alloc(), header, [0x6101, 0, 0, 0, 2, 1, 1, 0])?,
-        35
-    );
-    assert_eq!(rt;
-        check_of(rt.alloc(), header, [0x6101, 0, 0, 0, 1, 5, 1, 0])?,
-        35
-    );
-    assert_eq!(rt;
-        check_of(rt.alloc(), header, [0x6101, 0, 0, 0, 1, 1, 10, 0])?,
-        35
     );
     Ok(())
 }

@@ -1,7 +1,9 @@
 //! A tree that grows over pages in memory.
 ghost use Rattle.std.specs.Prelude.{◌≤◌, ◌<◌, ◌*◌};
 
-use bplus_tree::{Root, get, put};
+use bplus_tree::put;
+
+use tree_search::{Root, get};
 use line_pages::{Pages, Stop, VecPages};
 use nvm_model::{Line, NoMemory};
 use slotted_page::{Value, Work};

@@ -1,11 +1,11 @@
-use Rattle.bplus_tree.specs.Damage.{IsShort, spare_pages}
+use Rattle.page_space.specs.Stops.{IsShort, spare_pages}
 use Rattle.std.proofs.Common.{rules, IfErr, arith, IsTrue, sym, subst}
-use Rattle.bplus_tree.specs.Moves.{Takes}
-use Rattle.bplus_tree.specs.Written.{Rewrites}
-use Rattle.bplus_tree.proofs.WrittenLaws.{changed_most}
+use Rattle.page_space.specs.Moves.{Takes}
+use Rattle.page_space.specs.Written.{Rewrites}
+use Rattle.page_space.proofs.WrittenLaws.{changed_most}
 use Rattle.slotted_page.specs.declared.work.Work.{Work}
 use Rattle.bplus_tree.proofs.Storing.{stored_cut}
-use Rattle.bplus_tree.proofs.SoundLaws.{sound_cut}
+use Rattle.page_space.proofs.SoundLaws.{sound_cut}
 use Rattle.bplus_tree.proofs.access.store_cut.Goals as goal
 
 pub write_changes-requires-clause-room : goal.write_changes-requires-clause-room

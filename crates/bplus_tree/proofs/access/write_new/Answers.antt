@@ -1,5 +1,5 @@
 use Rattle.std.proofs.Common.{arith, IsTrue, sym, subst}
-use Rattle.bplus_tree.proofs.WrittenLaws.{changed_most, rewrites_from, at_most_64}
+use Rattle.page_space.proofs.WrittenLaws.{changed_most, rewrites_from, at_most_64}
 use Rattle.bplus_tree.proofs.access.write_new.Goals as goal
 
 pub write_changes-requires-clause-room : goal.write_changes-requires-clause-room

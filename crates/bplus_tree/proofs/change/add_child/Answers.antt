@@ -1,11 +1,11 @@
 use Rattle.std.proofs.Common.{◌≡◌, ◌≤◌, ◌+◌, ℕ, true, Result, Ok, Err, IfOk, OnOk, refl, arith, sym, subst, IsTrue, ap, ◌∙◌}
 use Rattle.slotted_page.specs.declared.root.Expect.{Expect}
 use Rattle.slotted_page.proofs.PageFacts.{inner_facts}
-use Rattle.bplus_tree.specs.declared.outcome.Fit.{Fit}
-use Rattle.bplus_tree.specs.declared.outcome.Fit.TheVariants as fits
+use Rattle.node_edit.specs.declared.fit.Fit.{Fit}
+use Rattle.node_edit.specs.declared.fit.Fit.TheVariants as fits
 use Rattle.bplus_tree.specs.declared.outcome.Outcome.{Outcome}
 use Rattle.bplus_tree.specs.declared.outcome.Outcome.TheVariants.{Whole, Short, Cut, Alone}
-use Rattle.bplus_tree.specs.Written.{lines_changed}
+use Rattle.page_space.specs.Written.{lines_changed}
 use Rattle.line_pages.specs.declared.stop.Stop.{Stop}
 use Rattle.line_pages.specs.declared.stop.Evidence.TheVariants.{Page}
 use Rattle.line_pages.specs.Lines.{Lines}
@@ -13,12 +13,12 @@ use Rattle.line_pages.specs.Bytes.{bytes_of}
 use Rattle.line_pages.specs.Standing.{HasCause}
 use Rattle.bplus_tree.specs.Damage.{IsTreeDamage}
 use Rattle.bplus_tree.specs.Edit.{IsOutcome, StaysBelow}
-use Rattle.bplus_tree.proofs.WrittenLaws.{changed_most}
+use Rattle.page_space.proofs.WrittenLaws.{changed_most}
 use Rattle.bplus_tree.proofs.Storing.{spent_most, if_both, child_added}
 use Rattle.bplus_tree.proofs.TreeDamageLaws.{root_damage}
-use Rattle.bplus_tree.specs.Damage.{spare_pages}
+use Rattle.page_space.specs.Stops.{spare_pages}
 use Rattle.bplus_tree.specs.Path.{IsFullAt}
-use Rattle.bplus_tree.proofs.LackLaws.{stops_wider, stored_sound}
+use Rattle.page_space.proofs.LackLaws.{stops_wider, stored_sound}
 use Rattle.bplus_tree.proofs.change.add_child.Goals as goal
 
 stays : {E : Type 0} (count : ℕ) (e : Expect) (fit : Fit) (r : Result Outcome E) → (e.root ≡ true → e.level ≡ 3 → fit ≡ fits.Whole) → IfOk r (IsOutcome count fit) → IfOk r (StaysBelow e)

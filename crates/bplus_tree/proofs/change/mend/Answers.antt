@@ -1,7 +1,7 @@
 use Rattle.std.proofs.Common.{rules, ◌≡◌, refl, IfErr, IsTrue, sym, subst, ◌∙◌}
 use Rattle.line_pages.specs.Lines.{Lines}
-use Rattle.bplus_tree.specs.Space.{FitsHeader}
-use Rattle.bplus_tree.specs.Damage.{IsFault}
+use Rattle.page_space.specs.Space.{FitsHeader}
+use Rattle.page_space.specs.Stops.{IsFault}
 use Rattle.bplus_tree.proofs.LackLaws.{pair_well, stays_above}
 use Rattle.bplus_tree.specs.Edit.{Rewritten}
 use Rattle.bplus_tree.proofs.Editing.{mended_by}

@@ -2,13 +2,13 @@ use Rattle.std.proofs.Common.{length, ◌≤◌, ℕ, List, arith, sym, subst, I
 use Rattle.line_pages.specs.Lines.{Lines}
 use Rattle.line_pages.specs.Bytes.{bytes_of}
 use Rattle.slotted_page.specs.Rows.{row_put}
-use Rattle.bplus_tree.specs.Written.{lines_changed}
-use Rattle.bplus_tree.proofs.WrittenLaws.{changed_most}
+use Rattle.page_space.specs.Written.{lines_changed}
+use Rattle.page_space.proofs.WrittenLaws.{changed_most}
 use Rattle.bplus_tree.proofs.Storing.{spent_most, leaf_spent, leaf_edits, if_both}
 use Rattle.slotted_page.specs.Node.{leaf_rows}
-use Rattle.bplus_tree.specs.Record.{HoldsLength}
+use Rattle.node_edit.specs.Record.{HoldsLength}
 use Rattle.bplus_tree.proofs.SameLength.{uncut_whole, outcome_whole, record_written}
-use Rattle.bplus_tree.proofs.LackLaws.{stored_sound}
+use Rattle.page_space.proofs.LackLaws.{stored_sound}
 use Rattle.bplus_tree.proofs.change.put_leaf.Goals as goal
 
 pub store-requires-clause-room : goal.store-requires-clause-room

@@ -1,20 +1,18 @@
-use Rattle.std.proofs.Common.{inl, IsTrue, sym, subst, ◌∙◌}
+use Rattle.std.proofs.Common.{inl, IsTrue, sym, subst, ◌∙◌, rules, IfErr, ℕ}
 use Rattle.std.specs.Prelude.{List}
 use Rattle.line_pages.specs.Lines.{Lines}
 use Rattle.line_pages.proofs.StandingLaws.{Continues-trans}
 use Rattle.slotted_page.specs.Rows.{row_delete}
 use Rattle.bplus_tree.specs.declared.path.Passed.{Passed}
 use Rattle.bplus_tree.proofs.Editing.{delete_local}
-use Rattle.bplus_tree.proofs.PathLaws.{Climbing, CanSettle, climb_start, climb_on, can_settle, uncut_below, uncut_above}
-use Rattle.std.proofs.Common.{rules, IfErr, ℕ}
+use Rattle.bplus_tree.proofs.PathLaws.{Climbing, CanSettle, climb_start, climb_on, can_settle, uncut_below, uncut_above, climb_faults}
 use Rattle.line_pages.specs.Bytes.{bytes_of}
 use Rattle.slotted_page.specs.Node.{IsWellFormed}
-use Rattle.bplus_tree.specs.Space.{FitsHeader}
-use Rattle.bplus_tree.specs.Damage.{IsFault}
+use Rattle.page_space.specs.Space.{FitsHeader}
+use Rattle.page_space.specs.Stops.{IsFault}
 use Rattle.bplus_tree.specs.Path.{StandsAbove, StopsAbove}
-use Rattle.bplus_tree.proofs.SearchLaws.{well_formed_top}
+use Rattle.tree_search.proofs.SearchLaws.{well_formed_top}
 use Rattle.bplus_tree.proofs.StandLaws.{leads_stands}
-use Rattle.bplus_tree.proofs.PathLaws.{climb_faults}
 use Rattle.bplus_tree.proofs.path.delete_in.Given as given
 use Rattle.bplus_tree.specs.Edit.{IsSafe}
 use Rattle.bplus_tree.proofs.path.delete_in.Goals.{In-Some}

@@ -1,16 +1,15 @@
-use Rattle.std.proofs.Common.{rules, arith, refl, IsTrue, sym, subst, ◌∙◌}
+use Rattle.std.proofs.Common.{rules, arith, refl, IsTrue, sym, subst, ◌∙◌, IfErr}
 use Rattle.line_pages.proofs.StandingLaws.{Continues-refl, Continues-trans}
 use Rattle.bplus_tree.specs.declared.path.Passed.{Passed}
 use Rattle.std.specs.Prelude.{List}
 use Rattle.bplus_tree.proofs.PathLaws.{Descended, descended_on}
-use Rattle.std.proofs.Common.{IfErr}
 use Rattle.line_pages.specs.Lines.{Lines}
 use Rattle.line_pages.specs.Bytes.{bytes_of}
 use Rattle.slotted_page.specs.Node.{IsWellFormed}
-use Rattle.bplus_tree.specs.Damage.{IsFault}
-use Rattle.bplus_tree.proofs.SearchLaws.{well_formed_top}
+use Rattle.page_space.specs.Stops.{IsFault}
+use Rattle.tree_search.proofs.SearchLaws.{well_formed_top}
 use Rattle.bplus_tree.proofs.StandLaws.{leads_stands}
-use Rattle.bplus_tree.proofs.TouchedLaws.{nothing_refl, nothing_read, nothing_then}
+use Rattle.page_space.proofs.TouchedLaws.{nothing_refl, nothing_read, nothing_then}
 use Rattle.bplus_tree.proofs.path.descend.Goals as goal
 
 pub loop-child-init : goal.loop-child-init

@@ -1,7 +1,7 @@
 -- So far the path leads to this place, by reads alone.
 use Rattle.std.proofs.Common.{◌≡◌}
 use Rattle.line_pages.specs.Standing.{Continues}
-use Rattle.bplus_tree.specs.Written.{WritesNothing}
+use Rattle.page_space.specs.Written.{WritesNothing}
 use Rattle.bplus_tree.proofs.PathLaws.{Descended}
 use Rattle.bplus_tree.proofs.path.descend.Given as goal
 

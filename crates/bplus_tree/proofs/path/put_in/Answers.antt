@@ -1,20 +1,17 @@
-use Rattle.std.proofs.Common.{length, inr, IsTrue, sym, subst, ◌∙◌}
+use Rattle.std.proofs.Common.{length, inr, IsTrue, sym, subst, ◌∙◌, rules, IfErr, ℕ, ◌<◌, ◌≤◌}
 use Rattle.std.specs.Prelude.{List}
 use Rattle.line_pages.proofs.StandingLaws.{Continues-trans}
 use Rattle.slotted_page.specs.Rows.{row_put}
 use Rattle.bplus_tree.specs.declared.path.Passed.{Passed}
 use Rattle.bplus_tree.proofs.Editing.{put_local}
-use Rattle.bplus_tree.proofs.PathLaws.{Climbing, CanSettle, climb_start, climb_on, climb_end, can_settle}
-use Rattle.std.proofs.Common.{rules, IfErr, ℕ, length, ◌<◌, ◌≤◌}
-use Rattle.bplus_tree.specs.Space.{FitsHeader}
-use Rattle.bplus_tree.specs.Tree.{tree_rows}
-use Rattle.bplus_tree.specs.Damage.{StopsFor, spare_pages}
-use Rattle.bplus_tree.specs.Path.{StandsAbove, StopsAbove}
-use Rattle.bplus_tree.proofs.LackLaws.{fault_stops}
+use Rattle.bplus_tree.proofs.PathLaws.{Climbing, CanSettle, climb_start, climb_on, climb_end, can_settle, climb_stops, emptied}
+use Rattle.page_space.specs.Space.{FitsHeader}
+use Rattle.tree_search.specs.Tree.{tree_rows}
+use Rattle.page_space.specs.Stops.{StopsFor, spare_pages}
+use Rattle.bplus_tree.specs.Path.{StandsAbove, StopsAbove, MayFollow}
+use Rattle.page_space.proofs.LackLaws.{fault_stops}
 use Rattle.bplus_tree.proofs.StandLaws.{leads_stands, leaf_stops}
-use Rattle.bplus_tree.proofs.PathLaws.{climb_stops, emptied}
 use Rattle.bplus_tree.specs.declared.outcome.Outcome.{Outcome}
-use Rattle.bplus_tree.specs.Path.{MayFollow}
 use Rattle.bplus_tree.proofs.LeafOfKey.{again_start, again_on}
 use Rattle.bplus_tree.proofs.path.put_in.Given as given
 use Rattle.bplus_tree.specs.Edit.{IsSafe}

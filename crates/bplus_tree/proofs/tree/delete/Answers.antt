@@ -1,5 +1,5 @@
 use Rattle.std.proofs.Common.{rules, IfErr, IsTrue, sym, subst}
-use Rattle.bplus_tree.specs.Damage.{IsFault}
+use Rattle.page_space.specs.Stops.{IsFault}
 use Rattle.bplus_tree.proofs.RootLaws.{stands_on}
 use Rattle.bplus_tree.proofs.tree.delete.Goals as goal
 

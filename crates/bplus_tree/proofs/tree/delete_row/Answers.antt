@@ -1,5 +1,5 @@
 use Rattle.std.proofs.Common.{rules, IfErr, subst}
-use Rattle.bplus_tree.specs.Damage.{IsFault}
+use Rattle.page_space.specs.Stops.{IsFault}
 use Rattle.bplus_tree.proofs.RootLaws.{root_stands}
 use Rattle.slotted_page.specs.Rows.{row_delete}
 use Rattle.bplus_tree.specs.declared.outcome.Outcome.TheVariants.{Whole, Short, Alone}

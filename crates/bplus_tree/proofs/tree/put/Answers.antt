@@ -1,6 +1,7 @@
 use Rattle.std.proofs.Common.{rules, ℕ, List, length, IfErr, IsTrue, sym, subst}
 use Rattle.slotted_page.specs.Rows.{row_put}
-use Rattle.bplus_tree.specs.Damage.{IsLack, pages_at_hand}
+use Rattle.bplus_tree.specs.Damage.{IsLack}
+use Rattle.page_space.specs.Stops.{pages_at_hand}
 use Rattle.bplus_tree.proofs.LackLaws.{fault_lack}
 use Rattle.bplus_tree.proofs.RootLaws.{stands_on}
 use Rattle.bplus_tree.proofs.tree.put.Goals as goal

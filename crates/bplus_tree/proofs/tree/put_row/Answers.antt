@@ -2,11 +2,13 @@ use Rattle.std.proofs.Common.{rules, length, IfErr, ◌≢◌, ◌≤◌, ◌-�
 use Rattle.slotted_page.specs.Rows.{row_put}
 use Rattle.bplus_tree.specs.declared.path.Place.{Place}
 use Rattle.bplus_tree.specs.declared.outcome.Outcome.TheVariants.{Whole, Short, Cut, Alone}
-use Rattle.bplus_tree.specs.Edit.{IsNewRoot, StaysBelow}
-use Rattle.bplus_tree.specs.Moves.{Takes}
+use Rattle.node_edit.specs.Edit.{IsNewRoot}
+use Rattle.bplus_tree.specs.Edit.{StaysBelow}
+use Rattle.page_space.specs.Moves.{Takes}
 use Rattle.bplus_tree.proofs.Storing.{root_edited, root_cut}
 use Rattle.bplus_tree.proofs.PathLaws.{at_root}
-use Rattle.bplus_tree.specs.Damage.{IsLack, pages_at_hand}
+use Rattle.bplus_tree.specs.Damage.{IsLack}
+use Rattle.page_space.specs.Stops.{pages_at_hand}
 use Rattle.bplus_tree.proofs.LackLaws.{fault_lack}
 use Rattle.bplus_tree.proofs.RootLaws.{root_stands, put_lack, take_lack}
 use Rattle.bplus_tree.proofs.LeafOfKey.{root_again}

@@ -1,7 +1,7 @@
 use Rattle.line_pages.proofs.StandingLaws.{Continues-trans, ReadsPage-trans}
 use Rattle.std.proofs.Common.{ap, sym, subst, IsTrue, ◌∙◌}
 use Rattle.line_pages.specs.Lines.{Lines}
-use Rattle.table_store.specs.Catalog.{entries, place_of}
+use Rattle.table_catalog.specs.Catalog.{entries, place_of}
 use Rattle.table_store.proofs.CreateLaws.{present_is}
 use Rattle.table_store.proofs.creation.find_slot.Goals as goal
 

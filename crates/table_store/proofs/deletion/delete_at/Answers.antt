@@ -1,10 +1,10 @@
 use Rattle.std.proofs.Common.{◌≡◌, Bool, Result, IfErr, rules, ℕ, List, Some, true, is_some, IsTrue, sym, subst, ◌∙◌}
 use Rattle.slotted_page.specs.Rows.{row_get, row_delete}
-use Rattle.table_store.specs.Catalog.{entries, place_of, entry_rows, entry_pages}
-use Rattle.table_store.specs.Stored.{IsStore}
+use Rattle.table_catalog.specs.Catalog.{entries, place_of, entry_rows, entry_pages}
+use Rattle.table_catalog.specs.Stored.{IsStore}
 use Rattle.table_store.specs.Changed.{ChangesTable}
 use Rattle.line_pages.specs.declared.stop.Stop.{Stop}
-use Rattle.bplus_tree.specs.Damage.{IsFault}
+use Rattle.page_space.specs.Stops.{IsFault}
 use Rattle.table_store.proofs.RowsLaws.{place_rooted, as_before, is_deleted, is_absent}
 use Rattle.table_store.proofs.deletion.delete_at.Goals as goal
 

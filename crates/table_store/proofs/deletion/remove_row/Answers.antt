@@ -2,8 +2,8 @@ use Rattle.std.proofs.Common.{◌≡◌, ◌+◌, ℕ, Result, OnOk, IfErr, IsTr
 use Rattle.line_pages.specs.declared.stop.Stop.{Stop}
 use Rattle.line_pages.proofs.StandingLaws.{Continues-trans}
 use Rattle.slotted_page.specs.Rows.{row_delete}
-use Rattle.bplus_tree.specs.Damage.{IsFault}
-use Rattle.table_store.specs.Catalog.{entry_in, entry_rows, entry_pages}
+use Rattle.page_space.specs.Stops.{IsFault}
+use Rattle.table_catalog.specs.Catalog.{entry_in, entry_rows, entry_pages}
 use Rattle.table_store.proofs.RowsLaws.{stands_in, stepped_by, rows_deleted, counted_by}
 use Rattle.table_store.proofs.deletion.remove_row.Goals as goal
 

@@ -1,9 +1,10 @@
 use Rattle.std.proofs.Common.{not, ap, refl, IsTrue, sym, subst, ◌∙◌}
 use Rattle.table_store.proofs.CreateLaws.{unknown_by, present_is}
-use Rattle.table_store.specs.Catalog.{tables}
-use Rattle.table_store.specs.Stored.{is_known, is_no_table, got_of}
+use Rattle.table_catalog.specs.Catalog.{tables}
+use Rattle.table_catalog.specs.Stored.{is_known}
+use Rattle.table_store.specs.Getting.{is_no_table, got_of}
 use Rattle.table_store.proofs.LookupLaws.{known_some, named_none, answer_in, sound_in, way_none, way_some}
-use Rattle.table_store.proofs.TouchesLaws.{first_on}
+use Rattle.table_catalog.proofs.TouchesLaws.{first_on}
 use Rattle.table_store.proofs.lookup.get.Goals as goal
 
 pub returns-in-None-clause-value : goal.returns-in-None-clause-value

@@ -1,6 +1,6 @@
 use Rattle.std.proofs.Common.{not, ap, refl, IsTrue, sym, subst, ◌∙◌}
-use Rattle.table_store.specs.Catalog.{tables}
-use Rattle.table_store.specs.Stored.{is_known}
+use Rattle.table_catalog.specs.Catalog.{tables}
+use Rattle.table_catalog.specs.Stored.{is_known}
 use Rattle.table_store.specs.Scanning.{next_of, is_no_table}
 use Rattle.table_store.proofs.CreateLaws.{unknown_by, present_is}
 use Rattle.table_store.proofs.LookupLaws.{known_some, named_none, answer_in, sound_in}

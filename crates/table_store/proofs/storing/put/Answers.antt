@@ -1,6 +1,6 @@
 use Rattle.std.proofs.Common.{not, ap, refl, sym, ◌∙◌}
-use Rattle.table_store.specs.Catalog.{tables}
-use Rattle.table_store.specs.Stored.{is_known}
+use Rattle.table_catalog.specs.Catalog.{tables}
+use Rattle.table_catalog.specs.Stored.{is_known}
 use Rattle.table_store.specs.Putting.{stored_of, is_no_table}
 use Rattle.table_store.proofs.CreateLaws.{unknown_by, present_is}
 use Rattle.table_store.proofs.LookupLaws.{named_none, known_some}

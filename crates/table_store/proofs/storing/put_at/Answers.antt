@@ -1,10 +1,10 @@
 use Rattle.std.proofs.Common.{◌≡◌, ◌+◌, ◌*◌, ◌/◌, Result, IfErr, rules, ◌≤◌, ℕ, List, Some, Bool, is_some, IsTrue, sym, subst, ◌∙◌, arith}
 use Rattle.slotted_page.specs.Rows.{row_get, row_put}
-use Rattle.table_store.specs.Catalog.{entries, place_of, entry_rows, entry_pages}
-use Rattle.table_store.specs.Stored.{IsStore}
+use Rattle.table_catalog.specs.Catalog.{entries, place_of, entry_rows, entry_pages}
+use Rattle.table_catalog.specs.Stored.{IsStore}
 use Rattle.table_store.specs.Changed.{ChangesTable}
 use Rattle.line_pages.specs.declared.stop.Stop.{Stop}
-use Rattle.bplus_tree.specs.Damage.{IsFault}
+use Rattle.page_space.specs.Stops.{IsFault}
 use Rattle.table_store.proofs.RowsLaws.{place_rooted, as_before, is_full, is_stored}
 use Rattle.table_store.proofs.storing.put_at.Goals.{else-not-found-via-then-not-found+else-place-limits, else-not-found-via-else-not-found}
 use Rattle.table_store.proofs.storing.put_at.Goals as goal

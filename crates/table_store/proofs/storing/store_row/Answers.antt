@@ -1,6 +1,6 @@
 use Rattle.std.proofs.Common.{◌+◌, ◌≤◌, cond, Result, IsTrue, IfErr, refl, sym, subst, rules}
 use Rattle.line_pages.specs.declared.stop.Stop.{Stop}
-use Rattle.bplus_tree.specs.Damage.{IsFault}
+use Rattle.page_space.specs.Stops.{IsFault}
 use Rattle.slotted_page.specs.Rows.{row_put}
 use Rattle.line_pages.proofs.StandingLaws.{Continues-trans}
 use Rattle.table_store.proofs.RowsLaws.{stepped_by, rows_put, few_after, sound_put}

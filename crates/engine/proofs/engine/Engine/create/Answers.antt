@@ -1,5 +1,5 @@
 use Rattle.std.proofs.Common.{ap, sym, Some, arith, true}
-use Rattle.table_store.specs.Stored.{is_known}
+use Rattle.table_catalog.specs.Stored.{is_known}
 use Rattle.script.specs.Machine.{State, current}
 use Rattle.script.specs.declared.command.Command.TheVariants as command
 use Rattle.script.specs.declared.command.Reply.TheVariants as reply

@@ -1,6 +1,7 @@
 use Rattle.std.proofs.Common.{◌≡◌, ◌∙◌, ap, rules, Ok, Some, List, ◌∷◌, [], sym}
-use Rattle.table_store.specs.Catalog.{Table}
-use Rattle.table_store.specs.Stored.{rows_of, got_of}
+use Rattle.table_catalog.specs.Catalog.{Table}
+use Rattle.table_catalog.specs.Stored.{rows_of}
+use Rattle.table_store.specs.Getting.{got_of}
 use Rattle.script.specs.Machine.{State, step}
 use Rattle.script.specs.declared.command.Command.TheVariants.{Get}
 use Rattle.script.specs.declared.command.Reply.{Reply}

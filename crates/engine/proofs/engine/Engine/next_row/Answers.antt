@@ -1,6 +1,6 @@
 use Rattle.std.proofs.Common.{◌≡◌, ◌∙◌, ap, List}
-use Rattle.table_store.specs.Catalog.{Table}
-use Rattle.table_store.specs.Stored.{rows_of}
+use Rattle.table_catalog.specs.Catalog.{Table}
+use Rattle.table_catalog.specs.Stored.{rows_of}
 use Rattle.store_meaning.specs.Layout.{pages}
 use Rattle.store_laws.specs.ShownPages.{pages_in}
 use Rattle.devices.specs.World.{now}

@@ -1,6 +1,6 @@
 use Rattle.std.proofs.Common.{◌≡◌, ◌∙◌, ap, refl, rules, Ok, List, sym}
-use Rattle.table_store.specs.Catalog.{Table}
-use Rattle.table_store.specs.Stored.{rows_of}
+use Rattle.table_catalog.specs.Catalog.{Table}
+use Rattle.table_catalog.specs.Stored.{rows_of}
 use Rattle.table_store.specs.Scanning.{next_of}
 use Rattle.table_store.specs.declared.answer.Next.{Next}
 use Rattle.table_store.specs.declared.answer.Next.TheVariants as next

@@ -1,7 +1,0 @@
-use Rattle.std.proofs.Common.{◌≤◌}
-use Rattle.slotted_page.specs.Node.{children}
-use Rattle.bplus_tree.specs.Edit.{child_place}
-use Rattle.bplus_tree.proofs.inner_edit.child_at.Given as goal
-
-abbrev pub invariant-loop-i : goal.invariant-loop-i
-invariant-loop-i l = l.i ≤ child_place l.key (children l.page)

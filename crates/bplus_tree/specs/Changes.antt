@@ -1,0 +1,22 @@
+-- What the calls on a tree do to its rows.
+use Rattle.std.specs.Prelude.{◌≡◌, ◌≢◌, ℕ, ◌+◌, ◌<◌, ◌≤◌, ◌⊎◌, List, [], ◌∷◌, ◌++◌, nat_lt, if◌then◌else◌}
+use Rattle.tree_search.specs.declared.root.Root.{Root}
+use Rattle.line_pages.specs.Lines.{Lines}
+use Rattle.page_space.specs.Space.{high_of, IsFreeList}
+use Rattle.slotted_page.specs.Rows.{Row}
+use Rattle.tree_search.specs.Tree.{IsRooted}
+use Rattle.page_space.specs.Moves.{ArePart, Moves, SameEntries}
+
+-- The tree of a root before a call and after it.
+pub record Changes (count : ℕ) (old new : Lines) (root root' : Root) (used free : List ℕ) (rows' : List Row) : Type 0 where
+  pub used' : List ℕ
+  pub free' : List ℕ
+  pub moves : Moves count old new used used' free free'
+  pub entries : SameEntries old new
+  pub tree : IsRooted count new root' rows' used'
+
+-- A call that changes the rows of a tree by `step`, as its callers use it.
+abbrev pub ChangesRows : ℕ → Lines → Lines → Root → Root → (List Row → List Row) → Type 0
+ChangesRows count old new root root' step =
+    (rows : List Row) (used free : List ℕ) → IsRooted count old root rows used → IsFreeList old free → ArePart old (used ++ free) → high_of old ≤ count
+    → Changes count old new root root' used free (step rows)

@@ -1,0 +1,7 @@
+pub mod RowLaws
+pub mod KeyPlaceLaws
+pub mod LeafLaws
+pub mod SameLength
+pub mod ChildEdits
+pub mod PairLaws
+pub mod MergeLaws

@@ -1,0 +1,5 @@
+pub mod Counted
+pub mod Space
+pub mod Moves
+pub mod Stops
+pub mod Written

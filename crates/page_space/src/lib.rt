@@ -1,0 +1,10 @@
+//! The pages of a store as trees use them: taken, given back, and written by the lines that differ.
+#![tactic(auto)]
+
+mod space;
+#[cfg(test)]
+mod tests;
+mod write;
+
+pub use space::{give_page, take_page};
+pub use write::write_changes;

@@ -1,0 +1,4 @@
+pub mod EntryLaws
+pub mod CatalogLaws
+pub mod TableLaws
+pub mod TouchesLaws

@@ -1,0 +1,3 @@
+pub mod Names
+pub mod Catalog
+pub mod Stored

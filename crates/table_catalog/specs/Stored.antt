@@ -1,0 +1,49 @@
+-- A store of pages in order, and its tables by name.
+use Rattle.std.specs.Prelude.{◌≡◌, ℕ, ◌-◌, Bool, true, false, List, [], ◌∷◌, ◌++◌, length, None, Option, Some, if◌then◌else◌, flat_map, map, bytes_eq, ◌⊎◌}
+use Rattle.line_pages.specs.Lines.{Lines}
+use Rattle.slotted_page.specs.Checks.{first_failure}
+use Rattle.slotted_page.specs.Rows.{Row, Each, last_key}
+use Rattle.page_space.specs.Space.{high_of, IsFreeList}
+use Rattle.page_space.specs.Moves.{AreExactly}
+use Rattle.tree_search.specs.Tree.{IsTree}
+use Rattle.table_catalog.specs.declared.limits.Limits.{Limits}
+use Rattle.table_catalog.specs.declared.entry.Entry.{Entry}
+use Rattle.table_catalog.specs.declared.entry.Place.{Place}
+use Rattle.table_catalog.specs.Catalog.{entries, catalog_checks, entry_rows, entry_pages, Table}
+
+-- the entry's tree is well formed, and its number of rows is right
+abbrev pub HasTree : ℕ → Lines → Entry → Type 0
+HasTree count lines entry = IsTree count lines (entry.levels - 1) entry.root 0 last_key true × (length (entry_rows lines entry) ≡ entry.rows)
+
+-- all pages of all tables
+abbrev pub all_pages : Lines → List Entry → List ℕ
+all_pages lines all = flat_map (entry_pages lines) all
+
+-- The catalog passes its checks, each entry has its tree, and page 0, the pages of the trees and the free list are exactly
+-- the pages below the high water, each once.
+pub record IsStore (limits : Limits) (count : ℕ) (lines : Lines) : Type 0 where
+  pub catalog : first_failure (catalog_checks limits count lines) ≡ None
+  pub trees : Each (HasTree count lines) (entries lines)
+  pub free : List ℕ
+  pub is_free : IsFreeList lines free
+  pub exact : AreExactly (high_of lines) (0 ∷ (all_pages lines (entries lines) ++ free))
+
+-- whether a table has the name
+abbrev pub is_known : List ℕ → List Table → Bool
+is_known name [] = false
+is_known name (table ∷ rest) = if bytes_eq table.0 name then true else is_known name rest
+
+-- the rows of the first table with the name
+abbrev pub rows_of : List ℕ → List Table → Option (List Row)
+rows_of name [] = None
+rows_of name (table ∷ rest) = if bytes_eq table.0 name then Some table.1 else rows_of name rest
+
+-- the tables with other rows in the first one with the name
+abbrev pub with_rows : List ℕ → List Row → List Table → List Table
+with_rows name rows [] = []
+with_rows name rows (table ∷ rest) = if bytes_eq table.0 name then (table.0, rows) ∷ rest else table ∷ with_rows name rows rest
+
+-- the rows of the tree of an entry, if there is one
+abbrev pub place_rows : Lines → Option Place → Option (List Row)
+place_rows lines None = None
+place_rows lines (Some place) = Some (entry_rows lines place.entry)

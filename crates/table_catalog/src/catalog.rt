@@ -1,0 +1,195 @@
+//! The catalog in page 0, read line by line.
+ghost use Rattle.std.specs.Prelude.{◌≡◌, ◌+◌, [], ◌∷◌, ◌++◌, ◌<◌, ◌≤◌, ℕ, false, None, Some, IsTrue, OnOk, IfOk, IfErr, IfSome};
+ghost use Rattle.line_pages.specs.Touch.{begins, touch_of};
+ghost use Rattle.line_pages.specs.Standing.{Continues, HasCause, IsCause, ReadsPage};
+ghost use Rattle.slotted_page.specs.Checks.{first_failure};
+ghost use Rattle.page_space.specs.Space.{word};
+ghost use Rattle.page_space.specs.Stops.{IsFault};
+ghost use Rattle.table_catalog.specs.Catalog.{entry_in as entry_of_line, header_checks, catalog_checks, entries, tables, place_of, entry_touches, entries_read, lookup_touches, FitsCatalog, FitsEntry, FitsPlace, FitsRoot, IsCatalogDamage};
+ghost use Rattle.table_catalog.specs.Stored.{is_known, IsStore};
+
+use crate::entry::{Entry, Place, entry_in, has_name, is_listed};
+use crate::limits::Limits;
+use crate::name::Name;
+use line_pages::{Evidence, Pages, Stop, copy_page};
+use nvm_model::Line;
+use slotted_page::Work;
+
+/// The stop for a check that the catalog fails: its bytes are kept.
+fn damage<P: Pages>(pages: &mut P, limits: &Limits, work: &mut Work, check: u8) -> Stop
+    requires ready { P.is_ready pages.old }
+    requires open { begins (P.standing pages.old).access 0 false ≡ false }
+    requires some { 1 ≤ (P.standing pages.old).count }
+    requires fails { IsTrue (P.standing pages.old).told → first_failure (catalog_checks limits.now (P.standing pages.old).count (P.standing pages.old).current) ≡ Some check }
+    ensures cause { IsCause (λ e. IsTrue (P.standing pages.old).told → IsCatalogDamage limits.now (P.standing pages.old).count (P.standing pages.old).current work.new.page e) (P.standing pages.old) (P.standing pages.new) result }
+    ensures continues { Continues (P.may_leave pages.old) (P.may_leave pages.new) (P.is_steady pages.old) (P.standing pages.old) (P.standing pages.new) }
+    ensures again { (P.standing pages.new).visits ≤ (P.standing pages.old).visits }
+{
+    match copy_page(pages, 0, &mut work.page) {
+        Ok(()) => Stop::Damaged(Evidence::Page {
+            page: 0,
+            level: 0,
+            low: 0,
+            high: u64::MAX,
+            check,
+        }),
+        Err(stop) => stop,
+    }
+}
+
+/// The first check that the header of the catalog fails.
+fn failing(header: &Line, limits: &Limits, count: u64) -> Option<u8>
+    ensures { result ≡ first_failure (header_checks limits.now count header.now) }
+{
+    let tables = header.words[1];
+    let high = header.words[2];
+    if header.words[0] != 4 {
+        Some(31)
+    } else if tables > limits.tables as u64 {
+        Some(32)
+    } else if high < 1 || high > count {
+        Some(33)
+    } else if header.words[3] >= high {
+        Some(34)
+    } else {
+        None
+    }
+}
+
+/// Reads the header of the catalog and makes its checks.
+#[tactic(auto, using(crate::proofs::CatalogLaws::fits_catalog, crate::proofs::CatalogLaws::odd_header))]
+pub fn read_catalog<P: Pages>(
+    pages: &mut P,
+    limits: &Limits,
+    work: &mut Work,
+) -> Result<Line, Stop>
+    requires ready { P.is_ready pages.old }
+    ensures header { IsTrue (P.standing pages.old).told → IfOk result (λ line. line ≡ (P.standing pages.old).current 0 0) }
+    ensures fits { IfOk result (FitsCatalog limits.now (P.standing pages.old).count) }
+    ensures cause { HasCause (λ e. IsTrue (P.standing pages.old).told → IsCatalogDamage limits.now (P.standing pages.old).count (P.standing pages.old).current work.new.page e) (P.standing pages.old) (P.standing pages.new) result }
+    ensures continues { Continues (P.may_leave pages.old) (P.may_leave pages.new) (P.is_steady pages.old) (P.standing pages.old) (P.standing pages.new) }
+    ensures reads { OnOk result (ReadsPage 0 (P.standing pages.old) (P.standing pages.new)) }
+    ensures line { OnOk result ((P.standing pages.new).touches ≡ (P.standing pages.old).touches ++ touch_of (P.standing pages.old).access 0 0 false ∷ []) }
+    ensures few { (P.standing pages.new).visits ≤ (P.standing pages.old).visits + 1 }
+    ensures ready { OnOk result (P.is_ready pages.new) }
+    ensures steady { P.is_steady pages.old → OnOk result (P.is_steady pages.new) }
+{
+    let count = pages.page_count();
+    let header = pages.read_line(0, 0)?;
+    match failing(&header, limits, count) {
+        None => Ok(header),
+        Some(check) => Err(damage(pages, limits, work, check)),
+    }
+}
+
+/// Reads one entry of the catalog, whose access is open, and makes its checks.
+#[tactic(auto, using(crate::proofs::CatalogLaws::fits_entry, crate::proofs::CatalogLaws::odd_entry))]
+fn read_entry<P: Pages>(
+    pages: &mut P,
+    limits: &Limits,
+    header: &Line,
+    at: u64,
+    work: &mut Work,
+) -> Result<Entry, Stop>
+    requires ready { P.is_ready pages.old }
+    requires open { (P.standing pages.old).access ≡ Some (0, false) }
+    requires header { IsTrue (P.standing pages.old).told → header.now ≡ (P.standing pages.old).current 0 0 }
+    requires fits { FitsCatalog limits.now (P.standing pages.old).count header.now }
+    requires at { at < word header.now 1 }
+    ensures entry { IsTrue (P.standing pages.old).told → IfOk result (λ entry. entry ≡ entry_of_line ((P.standing pages.old).current 0 (2 + at))) }
+    ensures fits { IfOk result (FitsEntry limits.now (word header.now 2)) }
+    ensures cause { HasCause (λ e. IsTrue (P.standing pages.old).told → IsCatalogDamage limits.now (P.standing pages.old).count (P.standing pages.old).current work.new.page e) (P.standing pages.old) (P.standing pages.new) result }
+    ensures continues { Continues (P.may_leave pages.old) (P.may_leave pages.new) (P.is_steady pages.old) (P.standing pages.old) (P.standing pages.new) }
+    ensures reads { OnOk result (ReadsPage 0 (P.standing pages.old) (P.standing pages.new)) }
+    ensures line { OnOk result ((P.standing pages.new).touches ≡ (P.standing pages.old).touches ++ touch_of (Some (0, false)) 0 (2 + at) false ∷ []) }
+    ensures again { (P.standing pages.new).visits ≤ (P.standing pages.old).visits }
+    ensures ready { OnOk result (P.is_ready pages.new) }
+    ensures steady { P.is_steady pages.old → OnOk result (P.is_steady pages.new) }
+{
+    let line = pages.read_line(0, 2 + at as usize)?;
+    let entry = entry_in(&line);
+    if !is_listed(&entry, limits, header.words[2]) {
+        return Err(damage(pages, limits, work, 35));
+    }
+    Ok(entry)
+}
+
+/// Looks a name up among the entries of the catalog, whose access is open: the first entry with the name.
+pub fn search<P: Pages>(
+    pages: &mut P,
+    limits: &Limits,
+    header: &Line,
+    name: &Name,
+    work: &mut Work,
+) -> Result<Option<Place>, Stop>
+    requires ready { P.is_ready pages.old }
+    requires open { (P.standing pages.old).access ≡ Some (0, false) }
+    requires header { IsTrue (P.standing pages.old).told → header.now ≡ (P.standing pages.old).current 0 0 }
+    requires fits { FitsCatalog limits.now (P.standing pages.old).count header.now }
+    ensures place { IsTrue (P.standing pages.old).told → IfOk result (λ place. place ≡ place_of name.now 0 (entries (P.standing pages.old).current)) }
+    ensures fits { IfOk result (λ place. IfSome place (FitsPlace limits.now header.now)) }
+    ensures cause { HasCause (λ e. IsTrue (P.standing pages.old).told → IsCatalogDamage limits.now (P.standing pages.old).count (P.standing pages.old).current work.new.page e) (P.standing pages.old) (P.standing pages.new) result }
+    ensures continues { Continues (P.may_leave pages.old) (P.may_leave pages.new) (P.is_steady pages.old) (P.standing pages.old) (P.standing pages.new) }
+    ensures reads { OnOk result (ReadsPage 0 (P.standing pages.old) (P.standing pages.new)) }
+    ensures lines { IfOk result (λ place. (P.standing pages.new).touches ≡ (P.standing pages.old).touches ++ entry_touches 2 (entries_read (word header.now 1) place)) }
+    ensures again { (P.standing pages.new).visits ≤ (P.standing pages.old).visits }
+    ensures ready { OnOk result (P.is_ready pages.new) }
+    ensures steady { P.is_steady pages.old → OnOk result (P.is_steady pages.new) }
+{
+    for at in 0..header.words[1] {
+        let entry = read_entry(pages, limits, header, at, work)?;
+        if has_name(&entry, name) {
+            return Ok(Some(Place { at, entry }));
+        }
+    }
+    Ok(None)
+}
+
+/// Looks a name up in the catalog: the first entry with the name.
+pub fn find_entry<P: Pages>(
+    pages: &mut P,
+    limits: &Limits,
+    name: &Name,
+    work: &mut Work,
+) -> Result<Option<Place>, Stop>
+    requires ready { P.is_ready pages.old }
+    ensures place { IsTrue (P.standing pages.old).told → IfOk result (λ place. place ≡ place_of name.now 0 (entries (P.standing pages.old).current)) }
+    ensures fits { IfOk result (λ place. IfSome place (FitsRoot limits.now (P.standing pages.old).count)) }
+    ensures sound { IsTrue (P.standing pages.old).told → IsStore limits.now (P.standing pages.old).count (P.standing pages.old).current → IfErr result IsFault }
+    ensures cause { HasCause (λ e. IsTrue (P.standing pages.old).told → IsCatalogDamage limits.now (P.standing pages.old).count (P.standing pages.old).current work.new.page e) (P.standing pages.old) (P.standing pages.new) result }
+    ensures continues { Continues (P.may_leave pages.old) (P.may_leave pages.new) (P.is_steady pages.old) (P.standing pages.old) (P.standing pages.new) }
+    ensures reads { OnOk result (ReadsPage 0 (P.standing pages.old) (P.standing pages.new)) }
+    ensures lines { IsTrue (P.standing pages.old).told → OnOk result ((P.standing pages.new).touches ≡ (P.standing pages.old).touches ++ lookup_touches (P.standing pages.old).access (P.standing pages.old).current name.now) }
+    ensures few { (P.standing pages.new).visits ≤ (P.standing pages.old).visits + 1 }
+    ensures ready { OnOk result (P.is_ready pages.new) }
+    ensures steady { P.is_steady pages.old → OnOk result (P.is_steady pages.new) }
+{
+    let header = read_catalog(pages, limits, work)?;
+    search(pages, limits, &header, name, work)
+}
+
+/// Whether a table has the name. `Damaged` comes only with the first of the checks 31 to 35 that the catalog fails.
+#[tactic(auto, using(crate::proofs::CatalogLaws::known_by, crate::proofs::TableLaws::sound_catalog))]
+pub fn has_table<P: Pages>(
+    pages: &mut P,
+    limits: &Limits,
+    name: &Name,
+    work: &mut Work,
+) -> Result<bool, Stop>
+    requires ready { P.is_ready pages.old }
+    // the answer
+    ensures known { IsTrue (P.standing pages.old).told → IfOk result (λ known. known ≡ is_known name.now (tables (P.standing pages.old).current)) }
+    // why it stops
+    ensures sound { IsTrue (P.standing pages.old).told → IsStore limits.now (P.standing pages.old).count (P.standing pages.old).current → IfErr result IsFault }
+    ensures cause { HasCause (λ e. IsTrue (P.standing pages.old).told → IsCatalogDamage limits.now (P.standing pages.old).count (P.standing pages.old).current work.new.page e) (P.standing pages.old) (P.standing pages.new) result }
+    // what is read, and what stays
+    ensures reads { OnOk result (ReadsPage 0 (P.standing pages.old) (P.standing pages.new)) }
+    ensures lines { IsTrue (P.standing pages.old).told → OnOk result ((P.standing pages.new).touches ≡ (P.standing pages.old).touches ++ lookup_touches (P.standing pages.old).access (P.standing pages.old).current name.now) }
+    ensures few { (P.standing pages.new).visits ≤ (P.standing pages.old).visits + 1 }
+    ensures continues { Continues (P.may_leave pages.old) (P.may_leave pages.new) (P.is_steady pages.old) (P.standing pages.old) (P.standing pages.new) }
+    ensures ready { OnOk result (P.is_ready pages.new) }
+    ensures steady { P.is_steady pages.old → OnOk result (P.is_steady pages.new) }
+{
+    let place = find_entry(pages, limits, name, work)?;
+    Ok(place.is_some())
+}

@@ -1,0 +1,14 @@
+//! The catalog of tables in page 0, read line by line: the names of tables, their entries, and the look-up of a name.
+#![tactic(auto)]
+
+mod catalog;
+mod entry;
+mod limits;
+mod name;
+#[cfg(test)]
+mod tests;
+
+pub use catalog::{find_entry, has_table, read_catalog, search};
+pub use entry::{Entry, Place, line_of, root_of};
+pub use limits::Limits;
+pub use name::Name;

@@ -1,0 +1,9 @@
+pub mod TreeLaws
+pub mod OrderLaws
+pub mod FanLaws
+pub mod SizeLaws
+pub mod SearchLaws
+pub mod PartLaws
+pub mod RecordLaws
+pub mod NextLaws
+pub mod NextReads

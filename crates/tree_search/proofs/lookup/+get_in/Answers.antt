@@ -1,0 +1,66 @@
+use Rattle.std.proofs.Common.{◌≡◌, Some, slice_get, IsTrue, IfOk, sym, subst}
+use Rattle.line_pages.specs.Lines.{Lines}
+use Rattle.line_pages.specs.Bytes.{bytes_of}
+use Rattle.slotted_page.specs.Rows.{Row}
+use Rattle.slotted_page.specs.Node.{IsWellFormed, leaf_rows}
+use Rattle.tree_search.proofs.SearchLaws.{well_formed_top, found_row, found_gap, found_child, sound_child, way_on, way_end, way_row}
+use Rattle.tree_search.proofs.lookup.+get_in.Goals as goal
+
+pub returns-in-Row-clause-value : goal.returns-in-Row-clause-value
+returns-in-Row-clause-value g t c = λ told tree.
+    let e = c.args.expect.now in
+    let lines = (g.P.Pages.standing c.args.pages.now).current in
+    let well = well_formed_top e.pages lines e.level c.args.page e.low e.high e.root tree in
+    found_row lines e c.args.page c.args.key c.in-Row.at c.value_at.result well (rw c.in-Row.is at (c.in_ok-at.ensures.spot told well))
+    (λ row got.
+    subst (λ (all : Lines). IsWellFormed (bytes_of all c.args.page) e → (r : Row) → slice_get (leaf_rows (bytes_of all c.args.page)) c.in-Row.at ≡ Some r → IfOk c.value_at.result (λ value. value ≡ Some r.1))
+    (c.in_ok-at.ensures.reads.current told) (c.value_at.ensures.value (subst IsTrue (sym c.in_ok-at.ensures.continues.told) told)) well row got)
+
+pub returns-in-Row-clause-way : goal.returns-in-Row-clause-way
+returns-in-Row-clause-way g t c = λ told starts.
+    let e = c.args.expect.now in
+    way_row e c.args.page c.args.key (g.P.Pages.standing c.args.pages.now) (g.P.Pages.standing c.find.new.pages) (g.P.Pages.standing c.value_at.new.pages) c.value_at.result
+    (rw c.in-Row.is at c.in_ok-at.ensures.safe) starts c.in_ok-at.ensures.reads c.value_at.ensures.reads
+
+pub returns-in-Gap-clause-value : goal.returns-in-Gap-clause-value
+returns-in-Gap-clause-value g t c = λ told tree.
+    let e = c.args.expect.now in
+    let lines = (g.P.Pages.standing c.args.pages.now).current in
+    found_gap lines e c.args.page c.args.key c.in-Gap.field-0
+    (rw c.in-Gap.is at (c.in_ok-at.ensures.spot told (well_formed_top e.pages lines e.level c.args.page e.low e.high e.root tree)))
+
+pub returns-in-Gap-clause-way : goal.returns-in-Gap-clause-way
+returns-in-Gap-clause-way g t c = λ told starts.
+    way_end c.args.expect.now c.args.page c.args.key (g.P.Pages.standing c.args.pages.now) (g.P.Pages.standing c.find.new.pages) (rw c.in-Gap.is at c.in_ok-at.ensures.safe) starts c.in_ok-at.ensures.reads
+
+pub returns-in-Child-clause-value : goal.returns-in-Child-clause-value
+returns-in-Child-clause-value g t c = λ told tree.
+    let e = c.args.expect.now in
+    let old = g.P.Pages.standing c.args.pages.now in
+    let new = g.P.Pages.standing c.find.new.pages in
+    let spot = rw c.in-Child.is at (c.in_ok-at.ensures.spot told (well_formed_top e.pages old.current e.level c.args.page e.low e.high e.root tree)) in
+    found_child old.current new.current e c.args.page c.args.key c.in-Child.field-0 c.in-Child.child c.in-Child.low c.in-Child.high c.get_in.result
+    (c.in_ok-at.ensures.reads.current told) tree c.requires.above c.requires.within (rw c.in-Child.is at c.in_ok-at.ensures.safe) spot
+    (rw c.child_expect-lower.ensures at (c.get_in.ensures.value (subst IsTrue (sym c.in_ok-at.ensures.continues.told) told)))
+
+pub returns-in-Child-clause-sound : goal.returns-in-Child-clause-sound
+returns-in-Child-clause-sound g t c = λ told tree.
+    let e = c.args.expect.now in
+    let old = g.P.Pages.standing c.args.pages.now in
+    let new = g.P.Pages.standing c.find.new.pages in
+    let spot = rw c.in-Child.is at (c.in_ok-at.ensures.spot told (well_formed_top e.pages old.current e.level c.args.page e.low e.high e.root tree)) in
+    sound_child old.current new.current e c.args.page c.args.key c.in-Child.field-0 c.in-Child.child c.in-Child.low c.in-Child.high c.get_in.result
+    (c.in_ok-at.ensures.reads.current told) tree c.requires.above c.requires.within (rw c.in-Child.is at c.in_ok-at.ensures.safe) spot
+    (rw c.child_expect-lower.ensures at (c.get_in.ensures.sound (subst IsTrue (sym c.in_ok-at.ensures.continues.told) told)))
+
+pub returns-in-Child-clause-way : goal.returns-in-Child-clause-way
+returns-in-Child-clause-way g t c = λ told starts.
+    let e = c.args.expect.now in
+    let old = g.P.Pages.standing c.args.pages.now in
+    let new = g.P.Pages.standing c.find.new.pages in
+    let told_on = subst IsTrue (sym c.in_ok-at.ensures.continues.told) told in
+    way_on e c.args.page c.args.key c.in-Child.field-0 c.in-Child.child c.in-Child.low c.in-Child.high old new (g.P.Pages.standing c.get_in.new.pages) c.get_in.result
+    c.requires.above c.requires.within (rw c.in-Child.is at c.in_ok-at.ensures.safe)
+    (λ tree. rw c.in-Child.is at (c.in_ok-at.ensures.spot told (well_formed_top e.pages old.current e.level c.args.page e.low e.high e.root tree)))
+    starts (c.in_ok-at.ensures.reads.current told) c.in_ok-at.ensures.reads (c.in_ok-at.ensures.level told) (rw c.child_expect-lower.ensures at (c.get_in.ensures.level told_on))
+    (rw c.child_expect-lower.ensures at (c.get_in.ensures.way told_on))

@@ -1,0 +1,17 @@
+use Rattle.std.proofs.Common.{◌≡◌, ℕ, ◌+◌, ◌-◌, ◌≤◌, arith, Result, Ok, Err, OnOk, subst}
+use Rattle.slotted_page.specs.declared.root.Expect.{Expect}
+use Rattle.tree_search.proofs.SearchLaws.{way_visits}
+use Rattle.tree_search.proofs.lookup.get.Goals as goal
+
+by_levels : {T E : Type 0} (r : Result T E) (new old levels : ℕ) → 1 ≤ levels → OnOk r (new ≡ old + (levels - 1 + 1)) → OnOk r (new ≡ old + levels)
+by_levels (Ok v) new old levels some e = omega (arith, e, some)
+by_levels (Err s) new old levels some e = tt
+
+pub returns-clause-visits : goal.returns-clause-visits
+returns-clause-visits g c = λ told starts.
+    let old = g.P.Pages.standing c.args.pages.now in
+    let new = g.P.Pages.standing c.get_in.new.pages in
+    let root = c.args.root.now in
+    by_levels c.get_in.result new.visits old.visits root.levels c.requires.some_levels
+    (subst (λ (e : Expect). OnOk c.get_in.result (new.visits ≡ old.visits + (e.level + 1))) c.root_expect-expect.ensures
+    (way_visits c.root_expect-expect.result root.page c.args.key old new c.get_in.result starts (c.get_in.ensures.way told starts)))

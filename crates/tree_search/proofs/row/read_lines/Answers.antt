@@ -1,0 +1,46 @@
+use Rattle.std.proofs.Common.{◌+◌, ◌*◌, IsTrue, arith, refl, ap, sym, subst, ◌∙◌}
+use Rattle.ssd_model.specs.Page.{Same}
+use Rattle.line_pages.specs.Bytes.{bytes_of}
+use Rattle.line_pages.proofs.StandingLaws.{Continues-refl, Continues-trans, ReadsPage-refl, ReadsPage-trans, one_read}
+use Rattle.tree_search.proofs.PartLaws.{part_step, part_end, no_more}
+use Rattle.tree_search.proofs.row.read_lines.Goals as goal
+
+pub loop-line-init : goal.loop-line-init
+loop-line-init g c =
+    let old = g.P.Pages.standing c.args.pages.now in
+    record {
+      ready = c.requires.ready;
+      steady = λ s. s;
+      continues = Continues-refl (g.P.Pages.may_leave c.args.pages.now) (g.P.Pages.is_steady c.args.pages.now) old;
+      reads = ReadsPage-refl c.args.page old c.requires.open;
+      again = omega arith;
+      nvm_kept = refl;
+      ssd_kept = refl;
+      size = c.byte.ensures.size;
+      same = λ told. record { each = λ j low high. absurd (omega (arith, low, high)) };
+    }
+
+pub loop-line-preserved : goal.loop-line-preserved
+loop-line-preserved g c =
+    let read = c.in_ok-value.ensures in
+    let before = c.loop-line.invariant in
+    let l = c.loop-line.line in
+    let old = g.P.Pages.standing c.args.pages.now in
+    let more = ReadsPage-trans before.reads (one_read c.in_ok-value.value read.continues.told read.reads) in
+    record {
+      ready = read.ready;
+      steady = λ steady. read.steady (before.steady steady);
+      continues = Continues-trans before.continues before.steady read.continues;
+      reads = more;
+      again = no_more more c.requires.open;
+      nvm_kept = read.cause.kept.0 ∙ before.nvm_kept;
+      ssd_kept = read.cause.kept.1 ∙ before.ssd_kept;
+      size = c.set_page_line.ensures.size;
+      same = λ told.
+          subst (Same (64 * c.args.first) (64 * (l + 1)) (bytes_of old.current c.args.page)) (sym c.set_page_line.ensures.bytes)
+          (part_step (old.current c.args.page) c.loop-line.into (64 * c.args.first) l c.in_ok-value.value before.size (omega (arith, c.requires.end, c.loop-line-test.true))
+          (read.value (subst IsTrue (sym before.continues.told) told) ∙ ap (λ lines. lines c.args.page l) (before.reads.current told)) (before.same told));
+    }
+
+pub returns-clause-bytes : goal.returns-clause-bytes
+returns-clause-bytes g c = λ told. part_end _ _ c.args.first c.loop-line.line c.args.end (c.loop-line.invariant.same told) (omega arith)

@@ -1,0 +1,19 @@
+-- So far the lines below are in their place, by reads of this page alone.
+use Rattle.std.proofs.Common.{◌≡◌, ◌*◌, ◌≤◌, length, IsTrue}
+use Rattle.ssd_model.specs.Page.{Same}
+use Rattle.line_pages.specs.Bytes.{bytes_of}
+use Rattle.line_pages.specs.Standing.{Continues, ReadsPage}
+use Rattle.tree_search.proofs.row.read_lines.Given as goal
+
+abbrev pub invariant-loop-line : goal.invariant-loop-line
+invariant-loop-line g l = record {
+  ready : g.P.Pages.is_ready l.pages;
+  steady : g.P.Pages.is_steady l.fn.pages → g.P.Pages.is_steady l.pages;
+  continues : Continues (g.P.Pages.may_leave l.fn.pages) (g.P.Pages.may_leave l.pages) (g.P.Pages.is_steady l.fn.pages) (g.P.Pages.standing l.fn.pages) (g.P.Pages.standing l.pages);
+  reads : ReadsPage l.page (g.P.Pages.standing l.fn.pages) (g.P.Pages.standing l.pages);
+  again : (g.P.Pages.standing l.pages).visits ≤ (g.P.Pages.standing l.fn.pages).visits;
+  nvm_kept : (g.P.Pages.standing l.pages).nvm_faults ≡ (g.P.Pages.standing l.fn.pages).nvm_faults;
+  ssd_kept : (g.P.Pages.standing l.pages).ssd_faults ≡ (g.P.Pages.standing l.fn.pages).ssd_faults;
+  size : length l.into ≡ 4096;
+  same : IsTrue (g.P.Pages.standing l.fn.pages).told → Same (64 * l.first) (64 * l.line) (bytes_of (g.P.Pages.standing l.fn.pages).current l.page) l.into;
+}

@@ -1,0 +1,4 @@
+pub mod Tree
+pub mod Way
+pub mod Record
+pub mod Next

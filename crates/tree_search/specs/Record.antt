@@ -1,0 +1,17 @@
+-- A row by its record alone.
+use Rattle.std.specs.Prelude.{◌≡◌, ℕ, ◌+◌, ◌-◌, IsTrue, Bool, List, length, Option, Some, None, nat_le, ◌&&◌, if◌then◌else◌}
+use Rattle.slotted_page.specs.Rows.{Row}
+use Rattle.slotted_page.specs.Node.{Slot, row_in}
+use Rattle.slotted_page.specs.Value.{value_of}
+
+-- the record has a key and lies in the page
+abbrev pub is_record : Slot → Bool
+is_record slot = nat_le 8 slot.size && nat_le (slot.place + slot.size) 4096
+
+abbrev pub with_key : ℕ → Option (List ℕ) → Option Row
+with_key key None = None
+with_key key (Some value) = Some (key, value)
+
+-- the row of a record, where it is one that a leaf can have
+abbrev pub row_found : List ℕ → Slot → Option Row
+row_found bytes slot = if is_record slot then with_key (row_in bytes slot).0 (value_of (row_in bytes slot).1) else None

@@ -1,0 +1,11 @@
+//! Ordered trees of rows over pages, of 1 to 4 levels, and the searches in them.
+#![tactic(auto)]
+
+mod lookup;
+mod next;
+mod root;
+mod row;
+
+pub use lookup::get;
+pub use next::next_from;
+pub use root::{Root, child_expect, root_expect};

@@ -1,0 +1,157 @@
+//! The first row from a key on.
+ghost use Rattle.std.specs.Prelude.{◌≡◌, ◌+◌, ◌-◌, ◌*◌, ◌<◌, ◌≤◌, ℕ, List, length, slice_get, drop, Some, None, Option, true, false, IsTrue, OnOk, IfOk, IfErr};
+ghost use Rattle.line_pages.specs.Bytes.{bytes_of};
+ghost use Rattle.line_pages.specs.Standing.{Continues, HasCause, ReadsPage, KeepsLines, AddsReads};
+ghost use Rattle.slotted_page.specs.Rows.{Row, row_next, last_key};
+ghost use Rattle.slotted_page.specs.Node.{IsWellFormed, leaf_rows, children as children_of};
+ghost use Rattle.slotted_page.specs.Search.{is_root_span, IsNodeDamage};
+ghost use Rattle.page_search.specs.Answers.{ShowsDamage};
+ghost use Rattle.tree_search.specs.Tree.{IsTree, IsRooted, tree_rows, tree_pages};
+ghost use Rattle.tree_search.specs.Way.{AreReadsIn};
+ghost use Rattle.page_space.specs.Stops.{IsFault};
+ghost use Rattle.tree_search.specs.Next.{Reaches, most_visits};
+
+use crate::root::{Root, child_expect, root_expect};
+use crate::row::row_at;
+use line_pages::{Pages, Stop, read_word};
+use page_search::find;
+use slotted_page::{Expect, Spot, Value, Work};
+
+/// The row at a place of a leaf, whose access is open, if it has so many.
+fn row_from<P: Pages>(
+    pages: &mut P,
+    page: u64,
+    expect: &Expect,
+    at: usize,
+    work: &mut Work,
+) -> Result<Option<(u64, Value)>, Stop>
+    requires ready { P.is_ready pages.old }
+    requires page { page < (P.standing pages.old).count }
+    requires pages { expect.now.pages ≡ (P.standing pages.old).count }
+    requires root { is_root_span expect.now.low expect.now.high ≡ true → expect.now.root ≡ true }
+    requires level { expect.now.level ≡ 0 }
+    requires open { (P.standing pages.old).access ≡ Some (page, false) }
+    ensures row { IsTrue (P.standing pages.old).told → IsWellFormed (bytes_of (P.standing pages.old).current page) expect.now → IfOk result (λ row. row ≡ slice_get (leaf_rows (bytes_of (P.standing pages.old).current page)) at) }
+    ensures damage { IsTrue (P.standing pages.old).told → IfErr result (ShowsDamage page expect.now (bytes_of (P.standing pages.old).current page)) }
+    ensures cause { HasCause (λ e. IsTrue (P.standing pages.old).told → IsNodeDamage (P.standing pages.old).count (P.standing pages.old).current work.new.page e) (P.standing pages.old) (P.standing pages.new) result }
+    ensures continues { Continues (P.may_leave pages.old) (P.may_leave pages.new) (P.is_steady pages.old) (P.standing pages.old) (P.standing pages.new) }
+    ensures reads { OnOk result (ReadsPage page (P.standing pages.old) (P.standing pages.new)) }
+    ensures again { (P.standing pages.new).visits ≤ (P.standing pages.old).visits }
+    ensures ready { OnOk result (P.is_ready pages.new) }
+    ensures steady { P.is_steady pages.old → OnOk result (P.is_steady pages.new) }
+{
+    let count = read_word(pages, page, 8)?;
+    if at as u64 >= count {
+        return Ok(None);
+    }
+    row_at(pages, page, expect, at, work)
+}
+
+/// The first row from a key on in the tree under a page.
+#[cycle(next_in)]
+fn next_in<P: Pages>(
+    pages: &mut P,
+    page: u64,
+    expect: &Expect,
+    from: u64,
+    work: &mut Work,
+) -> Result<Option<(u64, Value)>, Stop>
+    requires ready { P.is_ready pages.old }
+    requires page { page < (P.standing pages.old).count }
+    requires pages { expect.now.pages ≡ (P.standing pages.old).count }
+    requires root { is_root_span expect.now.low expect.now.high ≡ true → expect.now.root ≡ true }
+    requires above { expect.now.low ≤ from }
+    requires within { from ≤ expect.now.high }
+    requires few_levels { expect.now.level ≤ 3 }
+    ensures row { IsTrue (P.standing pages.old).told → IsTree expect.now.pages (P.standing pages.old).current expect.now.level page expect.now.low expect.now.high expect.now.root → IfOk result (λ row. row ≡ row_next from (tree_rows (P.standing pages.old).current expect.now.level page)) }
+    ensures sound { IsTrue (P.standing pages.old).told → IsTree expect.now.pages (P.standing pages.old).current expect.now.level page expect.now.low expect.now.high expect.now.root → IfErr result IsFault }
+    ensures touches { IsTrue (P.standing pages.old).told → IsTree expect.now.pages (P.standing pages.old).current expect.now.level page expect.now.low expect.now.high expect.now.root → OnOk result (AddsReads (AreReadsIn (tree_pages (P.standing pages.old).current expect.now.level page)) (P.standing pages.old) (P.standing pages.new)) }
+    ensures cause { HasCause (λ e. IsTrue (P.standing pages.old).told → IsNodeDamage (P.standing pages.old).count (P.standing pages.old).current work.new.page e) (P.standing pages.old) (P.standing pages.new) result }
+    ensures continues { Continues (P.may_leave pages.old) (P.may_leave pages.new) (P.is_steady pages.old) (P.standing pages.old) (P.standing pages.new) }
+    ensures keeps { OnOk result (KeepsLines (P.standing pages.old) (P.standing pages.new)) }
+    ensures few { (P.standing pages.new).visits + 2 ≤ (P.standing pages.old).visits + most_visits expect.now.level }
+    ensures ready { OnOk result (P.is_ready pages.new) }
+    ensures steady { P.is_steady pages.old → OnOk result (P.is_steady pages.new) }
+{
+    match find(pages, page, expect, from, work)? {
+        Spot::Row(at) => row_from(pages, page, expect, at, work),
+        Spot::Gap(at) => row_from(pages, page, expect, at, work),
+        Spot::Child(_, child, low, high) => {
+            let lower = child_expect(expect, low, high);
+            match next_in(pages, child, &lower, from, work)? {
+                Some(row) => Ok(Some(row)),
+                None => next_after(pages, page, expect, high, work),
+            }
+        }
+    }
+}
+
+/// The first row behind those of a child that reaches up to a key.
+#[cycle(next_in)]
+fn next_after<P: Pages>(
+    pages: &mut P,
+    page: u64,
+    expect: &Expect,
+    high: u64,
+    work: &mut Work,
+) -> Result<Option<(u64, Value)>, Stop>
+    requires ready { P.is_ready pages.old }
+    requires page { page < (P.standing pages.old).count }
+    requires pages { expect.now.pages ≡ (P.standing pages.old).count }
+    requires root { is_root_span expect.now.low expect.now.high ≡ true → expect.now.root ≡ true }
+    requires level { 1 ≤ expect.now.level }
+    requires few_levels { expect.now.level ≤ 3 }
+    requires above { expect.now.low ≤ high }
+    requires within { high ≤ expect.now.high }
+    ensures row { IsTrue (P.standing pages.old).told → IsTree expect.now.pages (P.standing pages.old).current expect.now.level page expect.now.low expect.now.high expect.now.root → Reaches (children_of (bytes_of (P.standing pages.old).current page)) expect.now.high high → IfOk result (λ row. row ≡ row_next (high + 1) (tree_rows (P.standing pages.old).current expect.now.level page)) }
+    ensures sound { IsTrue (P.standing pages.old).told → IsTree expect.now.pages (P.standing pages.old).current expect.now.level page expect.now.low expect.now.high expect.now.root → IfErr result IsFault }
+    ensures touches { IsTrue (P.standing pages.old).told → IsTree expect.now.pages (P.standing pages.old).current expect.now.level page expect.now.low expect.now.high expect.now.root → OnOk result (AddsReads (AreReadsIn (tree_pages (P.standing pages.old).current expect.now.level page)) (P.standing pages.old) (P.standing pages.new)) }
+    ensures cause { HasCause (λ e. IsTrue (P.standing pages.old).told → IsNodeDamage (P.standing pages.old).count (P.standing pages.old).current work.new.page e) (P.standing pages.old) (P.standing pages.new) result }
+    ensures continues { Continues (P.may_leave pages.old) (P.may_leave pages.new) (P.is_steady pages.old) (P.standing pages.old) (P.standing pages.new) }
+    ensures keeps { OnOk result (KeepsLines (P.standing pages.old) (P.standing pages.new)) }
+    ensures few { (P.standing pages.new).visits + 1 ≤ (P.standing pages.old).visits + most_visits (expect.now.level - 1) }
+    ensures ready { OnOk result (P.is_ready pages.new) }
+    ensures steady { P.is_steady pages.old → OnOk result (P.is_steady pages.new) }
+{
+    if high >= expect.high {
+        return Ok(None);
+    }
+    match find(pages, page, expect, high + 1, work)? {
+        Spot::Child(_, child, low, top) => {
+            let lower = child_expect(expect, low, top);
+            next_in(pages, child, &lower, high + 1, work)
+        }
+        _ => Ok(None),
+    }
+}
+
+/// The row with the least key not below a key; `None` exactly where there is none. Where it answers `Ok`, it has read lines
+/// of pages of the tree alone.
+pub fn next_from<P: Pages>(
+    pages: &mut P,
+    root: &Root,
+    from: u64,
+    work: &mut Work,
+) -> Result<Option<(u64, Value)>, Stop>
+    requires ready { P.is_ready pages.old }
+    requires some { 1 ≤ root.now.page }
+    requires page { root.now.page < (P.standing pages.old).count }
+    requires some_levels { 1 ≤ root.now.levels }
+    requires few_levels { root.now.levels ≤ 4 }
+    // the row
+    ensures row { IsTrue (P.standing pages.old).told → (rows : List Row) (used : List ℕ) → IsRooted (P.standing pages.old).count (P.standing pages.old).current root.now rows used → IfOk result (λ row. row ≡ row_next from rows) }
+    // what is read
+    ensures touches { IsTrue (P.standing pages.old).told → (rows : List Row) (used : List ℕ) → IsRooted (P.standing pages.old).count (P.standing pages.old).current root.now rows used → OnOk result (AddsReads (AreReadsIn used) (P.standing pages.old) (P.standing pages.new)) }
+    // why it stops
+    ensures sound { IsTrue (P.standing pages.old).told → (rows : List Row) (used : List ℕ) → IsRooted (P.standing pages.old).count (P.standing pages.old).current root.now rows used → IfErr result IsFault }
+    ensures cause { HasCause (λ e. IsTrue (P.standing pages.old).told → IsNodeDamage (P.standing pages.old).count (P.standing pages.old).current work.new.page e) (P.standing pages.old) (P.standing pages.new) result }
+    // what stays
+    ensures continues { Continues (P.may_leave pages.old) (P.may_leave pages.new) (P.is_steady pages.old) (P.standing pages.old) (P.standing pages.new) }
+    ensures keeps { OnOk result (KeepsLines (P.standing pages.old) (P.standing pages.new)) }
+    ensures few { (P.standing pages.new).visits ≤ (P.standing pages.old).visits + 22 }
+    ensures ready { OnOk result (P.is_ready pages.new) }
+    ensures steady { P.is_steady pages.old → OnOk result (P.is_steady pages.new) }
+{
+    let expect = root_expect(root, pages.page_count());
+    next_in(pages, root.page, &expect, from, work)
+}

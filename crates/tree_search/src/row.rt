@@ -1,0 +1,170 @@
+//! One row of a leaf, read by the lines of its slot and its record.
+ghost use Rattle.std.specs.Prelude.{◌≡◌, ◌+◌, ◌*◌, ◌<◌, ◌≤◌, ℕ, length, slice_get, Some, None, true, false, IsTrue, OnOk, IfOk, IfErr};
+ghost use Rattle.ssd_model.specs.Page.{Same};
+ghost use Rattle.line_pages.specs.Bytes.{bytes_of};
+ghost use Rattle.line_pages.specs.Standing.{Continues, HasCause, Never, ReadsPage};
+ghost use Rattle.line_pages.specs.Touch.{begins};
+ghost use Rattle.slotted_page.specs.Rows.{Row};
+ghost use Rattle.slotted_page.specs.Node.{IsWellFormed, leaf_rows};
+ghost use Rattle.slotted_page.specs.Sound.{slot_of};
+ghost use Rattle.slotted_page.specs.Search.{is_root_span, IsNodeDamage};
+ghost use Rattle.page_search.specs.Answers.{ShowsDamage};
+ghost use Rattle.tree_search.specs.Record.{row_found};
+
+use line_pages::{Pages, Stop, page_word, read_half, set_page_line};
+use page_search::read_page;
+use slotted_page::{Expect, Value, Work};
+use ssd_model::PageBuf;
+
+/// Reads lines of a page whose access is open to their places in a buffer.
+fn read_lines<P: Pages>(
+    pages: &mut P,
+    page: u64,
+    first: usize,
+    end: usize,
+    into: &mut PageBuf,
+) -> Result<(), Stop>
+    requires ready { P.is_ready pages.old }
+    requires page { page < (P.standing pages.old).count }
+    requires open { (P.standing pages.old).access ≡ Some (page, false) }
+    requires end { end ≤ 64 }
+    ensures bytes { IsTrue (P.standing pages.old).told → OnOk result (Same (64 * first) (64 * end) (bytes_of (P.standing pages.old).current page) into.new) }
+    ensures size { length into.new ≡ 4096 }
+    ensures cause { HasCause Never (P.standing pages.old) (P.standing pages.new) result }
+    ensures continues { Continues (P.may_leave pages.old) (P.may_leave pages.new) (P.is_steady pages.old) (P.standing pages.old) (P.standing pages.new) }
+    ensures reads { OnOk result (ReadsPage page (P.standing pages.old) (P.standing pages.new)) }
+    ensures again { (P.standing pages.new).visits ≤ (P.standing pages.old).visits }
+    ensures ready { OnOk result (P.is_ready pages.new) }
+    ensures steady { P.is_steady pages.old → OnOk result (P.is_steady pages.new) }
+{
+    into.byte(0);
+    for line in first..end {
+        let value = pages.read_line(page, line)?;
+        set_page_line(into, line, &value);
+    }
+    Ok(())
+}
+
+/// The row of a record in a page; `None` where it is none that a leaf can have.
+fn row_from(page: &PageBuf, place: u16, size: u16) -> Option<(u64, Value)>
+    ensures { result ≡ row_found page.now (record { place = place; size = size }) }
+{
+    let from = place as usize;
+    let end = from + size as usize;
+    if size < 8 || end > 4096 {
+        return None;
+    }
+    let key = page_word(page, from);
+    match Value::from_bytes(page.part(from + 8, end)) {
+        Some(value) => Some((key, value)),
+        None => None,
+    }
+}
+
+/// Reads the lines of a record, whose page's access is open, and gives its row.
+fn read_record<P: Pages>(
+    pages: &mut P,
+    page: u64,
+    place: u16,
+    size: u16,
+    work: &mut Work,
+) -> Result<Option<(u64, Value)>, Stop>
+    requires ready { P.is_ready pages.old }
+    requires page { page < (P.standing pages.old).count }
+    requires open { (P.standing pages.old).access ≡ Some (page, false) }
+    ensures row { IsTrue (P.standing pages.old).told → IfOk result (λ row. row ≡ row_found (bytes_of (P.standing pages.old).current page) (record { place = place; size = size })) }
+    ensures cause { HasCause Never (P.standing pages.old) (P.standing pages.new) result }
+    ensures continues { Continues (P.may_leave pages.old) (P.may_leave pages.new) (P.is_steady pages.old) (P.standing pages.old) (P.standing pages.new) }
+    ensures reads { OnOk result (ReadsPage page (P.standing pages.old) (P.standing pages.new)) }
+    ensures again { (P.standing pages.new).visits ≤ (P.standing pages.old).visits }
+    ensures ready { OnOk result (P.is_ready pages.new) }
+    ensures steady { P.is_steady pages.old → OnOk result (P.is_steady pages.new) }
+{
+    let from = place as usize;
+    let end = from + size as usize;
+    if size < 8 || end > 4096 {
+        return Ok(None);
+    }
+    read_lines(pages, page, from / 64, (end + 63) / 64, &mut work.page)?;
+    Ok(row_from(&work.page, place, size))
+}
+
+/// Reads the row at a place of a leaf, whose access is open, by the lines of its slot and its record. `None` is answered
+/// where something looks odd, which is never in a well-formed leaf that has the row.
+fn read_row<P: Pages>(
+    pages: &mut P,
+    page: u64,
+    at: usize,
+    work: &mut Work,
+) -> Result<Option<(u64, Value)>, Stop>
+    requires ready { P.is_ready pages.old }
+    requires page { page < (P.standing pages.old).count }
+    requires open { (P.standing pages.old).access ≡ Some (page, false) }
+    ensures row { IsTrue (P.standing pages.old).told → at < 1008 → IfOk result (λ row. row ≡ row_found (bytes_of (P.standing pages.old).current page) (slot_of (bytes_of (P.standing pages.old).current page) at)) }
+    ensures cause { HasCause Never (P.standing pages.old) (P.standing pages.new) result }
+    ensures continues { Continues (P.may_leave pages.old) (P.may_leave pages.new) (P.is_steady pages.old) (P.standing pages.old) (P.standing pages.new) }
+    ensures reads { OnOk result (ReadsPage page (P.standing pages.old) (P.standing pages.new)) }
+    ensures again { (P.standing pages.new).visits ≤ (P.standing pages.old).visits }
+    ensures ready { OnOk result (P.is_ready pages.new) }
+    ensures steady { P.is_steady pages.old → OnOk result (P.is_steady pages.new) }
+{
+    if at >= 1008 {
+        return Ok(None);
+    }
+    let place = read_half(pages, page, 64 + 4 * at)?;
+    let size = read_half(pages, page, 64 + 4 * at + 2)?;
+    read_record(pages, page, place, size, work)
+}
+
+/// The answer where something of a row looked odd: the whole page is read and checked, and it has no such row.
+fn no_row<P: Pages>(
+    pages: &mut P,
+    page: u64,
+    expect: &Expect,
+    work: &mut Work,
+) -> Result<Option<(u64, Value)>, Stop>
+    requires ready { P.is_ready pages.old }
+    requires page { page < (P.standing pages.old).count }
+    requires pages { expect.now.pages ≡ (P.standing pages.old).count }
+    requires root { is_root_span expect.now.low expect.now.high ≡ true → expect.now.root ≡ true }
+    ensures none { IfOk result (λ row. row ≡ None) }
+    ensures damage { IsTrue (P.standing pages.old).told → IfErr result (ShowsDamage page expect.now (bytes_of (P.standing pages.old).current page)) }
+    ensures cause { HasCause (λ e. IsTrue (P.standing pages.old).told → IsNodeDamage (P.standing pages.old).count (P.standing pages.old).current work.new.page e) (P.standing pages.old) (P.standing pages.new) result }
+    ensures continues { Continues (P.may_leave pages.old) (P.may_leave pages.new) (P.is_steady pages.old) (P.standing pages.old) (P.standing pages.new) }
+    ensures reads { OnOk result (ReadsPage page (P.standing pages.old) (P.standing pages.new)) }
+    ensures again { begins (P.standing pages.old).access page false ≡ false → (P.standing pages.new).visits ≤ (P.standing pages.old).visits }
+    ensures ready { OnOk result (P.is_ready pages.new) }
+    ensures steady { P.is_steady pages.old → OnOk result (P.is_steady pages.new) }
+{
+    read_page(pages, page, expect, work)?;
+    Ok(None)
+}
+
+/// The row at a place of a leaf, whose access is open. `Damaged` comes exactly where a check of the whole page fails.
+pub fn row_at<P: Pages>(
+    pages: &mut P,
+    page: u64,
+    expect: &Expect,
+    at: usize,
+    work: &mut Work,
+) -> Result<Option<(u64, Value)>, Stop>
+    requires ready { P.is_ready pages.old }
+    requires page { page < (P.standing pages.old).count }
+    requires pages { expect.now.pages ≡ (P.standing pages.old).count }
+    requires root { is_root_span expect.now.low expect.now.high ≡ true → expect.now.root ≡ true }
+    requires level { expect.now.level ≡ 0 }
+    requires open { (P.standing pages.old).access ≡ Some (page, false) }
+    ensures row { IsTrue (P.standing pages.old).told → IsWellFormed (bytes_of (P.standing pages.old).current page) expect.now → (r : Row) → slice_get (leaf_rows (bytes_of (P.standing pages.old).current page)) at ≡ Some r → IfOk result (λ row. row ≡ Some r) }
+    ensures damage { IsTrue (P.standing pages.old).told → IfErr result (ShowsDamage page expect.now (bytes_of (P.standing pages.old).current page)) }
+    ensures cause { HasCause (λ e. IsTrue (P.standing pages.old).told → IsNodeDamage (P.standing pages.old).count (P.standing pages.old).current work.new.page e) (P.standing pages.old) (P.standing pages.new) result }
+    ensures continues { Continues (P.may_leave pages.old) (P.may_leave pages.new) (P.is_steady pages.old) (P.standing pages.old) (P.standing pages.new) }
+    ensures reads { OnOk result (ReadsPage page (P.standing pages.old) (P.standing pages.new)) }
+    ensures again { (P.standing pages.new).visits ≤ (P.standing pages.old).visits }
+    ensures ready { OnOk result (P.is_ready pages.new) }
+    ensures steady { P.is_steady pages.old → OnOk result (P.is_steady pages.new) }
+{
+    match read_row(pages, page, at, work)? {
+        Some(row) => Ok(Some(row)),
+        None => no_row(pages, page, expect, work),
+    }
+}
