@@ -10,9 +10,9 @@ ghost use Rattle.slotted_page.specs.Inner.{IsInner, IsBranch};
 ghost use Rattle.node_edit.specs.declared.fit.Fit.TheVariants as fits;
 ghost use Rattle.node_edit.specs.Edit.{Fits, child_put, child_place, has_child, AreChildren, both, joined, IsCutIn, IsPair, PairsUp, Mended};
 
+use crate::fit::Fit;
 use crate::leaf_edit::top_of;
 use crate::pair::Pair;
-use crate::fit::Fit;
 use slotted_page::{Expect, child_key, children, inner_cut, inner_insert, inner_remove};
 use ssd_model::PageBuf;
 
