@@ -1,8 +1,5 @@
 -- A value put in place of another of its length changes lines of its record alone.
-use Rattle.std.proofs.Common.{◌≡◌, ◌≢◌, ℕ, ◌+◌, ◌-◌, ◌*◌, true, false, inl, inr, List, [], ◌∷◌, length, take, get_or, Some, Result, Ok, Err, OnOk, IfOk, sym, ap, subst, ◌∙◌, arith}
-use Rattle.std.proofs.lemmas.Slice.Eq.{bytes_eq-Decides}
-use Rattle.std.proofs.lemmas.Bool.{cases_eq, cases_lt, eq-eqb, ne_eqb, lt-ltb, le-ltb}
-use Rattle.std.proofs.lemmas.List.{drop_all}
+use Rattle.std.proofs.Common.{◌≡◌, ◌≢◌, ℕ, List, Result, Ok, Err, OnOk, IfOk, sym, subst, ◌∙◌}
 use Rattle.line_pages.specs.Bytes.{bytes_of}
 use Rattle.line_pages.specs.Standing.{Standing, ReadsPage}
 use Rattle.node_edit.specs.declared.fit.Fit.{Fit}

@@ -1,5 +1,5 @@
 -- What the calls on a tree do to its rows.
-use Rattle.std.specs.Prelude.{◌≡◌, ◌≢◌, ℕ, ◌+◌, ◌<◌, ◌≤◌, ◌⊎◌, List, [], ◌∷◌, ◌++◌, nat_lt, if◌then◌else◌}
+use Rattle.std.specs.Prelude.{ℕ, ◌≤◌, List, ◌++◌}
 use Rattle.tree_search.specs.declared.root.Root.{Root}
 use Rattle.line_pages.specs.Lines.{Lines}
 use Rattle.page_space.specs.Space.{high_of, IsFreeList}

@@ -1,5 +1,5 @@
--- A row by its record alone.
-use Rattle.std.specs.Prelude.{◌≡◌, ℕ, ◌+◌, ◌-◌, IsTrue, Bool, List, length, Option, Some, None, nat_le, ◌&&◌, if◌then◌else◌}
+-- A value put by the lines of its record alone.
+use Rattle.std.specs.Prelude.{◌≡◌, ℕ, ◌-◌, IsTrue, List}
 use Rattle.slotted_page.specs.Rows.{Row}
 use Rattle.line_pages.specs.Bytes.{bytes_of}
 use Rattle.line_pages.specs.Standing.{Standing}

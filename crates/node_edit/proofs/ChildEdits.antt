@@ -1,8 +1,8 @@
 -- Children by the place of a key, and inner pages within bounds.
-use Rattle.std.proofs.Common.{◌≡◌, ℕ, zero, suc, Some, ◌+◌, ◌-◌, ◌<◌, ◌≤◌, inl, inr, Bool, true, false, List, [], ◌∷◌, ◌++◌, length, take, drop, get_or, refl, sym, ap, subst, ◌∙◌, arith, nat_lt, nat_le, nat_eq, take-append-drop, append_assoc, ◌||◌, length-append, length-drop, ◌≢◌, ◌⊎◌, Option, None, append-nil, slice_get}
+use Rattle.std.proofs.Common.{◌≡◌, ℕ, zero, suc, Some, ◌+◌, ◌-◌, ◌<◌, ◌≤◌, inl, inr, Bool, true, false, List, [], ◌∷◌, ◌++◌, length, take, drop, get_or, refl, sym, ap, subst, ◌∙◌, arith, nat_lt, nat_le, nat_eq, take-append-drop, append_assoc, ◌||◌, length-append, length-drop}
 use Rattle.std.specs.List.{insert, remove, list_all}
 use Rattle.std.proofs.lemmas.List.{length-take-le}
-use Rattle.std.proofs.lemmas.Bool.{lt-ltb, le-ltb, le-leb, ltb-true, eqb-true, eq-eqb, ne_eqb, cases_lt, cases_eq, and_parts, and_from, leb-true, cases_Bool}
+use Rattle.std.proofs.lemmas.Bool.{lt-ltb, le-ltb, le-leb, ltb-true, eqb-true, eq-eqb, ne_eqb, cases_lt, cases_eq, and_parts, and_from, leb-true}
 use Rattle.slotted_page.specs.declared.root.Expect.{Expect}
 use Rattle.slotted_page.specs.Rows.{Ascends, Each}
 use Rattle.page_edit.specs.Cut.{children_left}
@@ -14,7 +14,6 @@ use Rattle.slotted_page.proofs.InnerLemmas.{length_children}
 use Rattle.node_edit.specs.Edit.{part, Divides, child_put, child_place, has_child, AreChildren, both, joined, IsCutIn, Holds}
 use Rattle.node_edit.specs.declared.pair.Pair.{Pair}
 use Rattle.slotted_page.specs.Spans.{reach}
-use Rattle.std.proofs.lemmas.List.Concat.{flat_map-append}
 use Rattle.page_space.specs.Moves.{below}
 
 -- a child put behind another one, up to where that one reached

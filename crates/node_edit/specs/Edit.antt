@@ -1,5 +1,5 @@
 -- What the changes of nodes make of their bytes.
-use Rattle.std.specs.Prelude.{◌≡◌, ◌≢◌, ℕ, suc, ◌+◌, ◌-◌, ◌*◌, ◌<◌, ◌≤◌, ◌⊎◌, Bool, true, false, List, [], ◌∷◌, ◌++◌, Option, Some, None, drop, max, nat_lt, ◌==◌, if◌then◌else◌, flat_map, length, nat_le, ◌||◌}
+use Rattle.std.specs.Prelude.{◌≡◌, ℕ, suc, ◌-◌, ◌<◌, ◌≤◌, Bool, true, false, List, [], ◌∷◌, ◌++◌, Option, Some, None, drop, nat_lt, ◌==◌, if◌then◌else◌, length, nat_le, ◌||◌}
 use Rattle.std.specs.List.{list_all}
 use Rattle.slotted_page.specs.declared.root.Expect.{Expect}
 use Rattle.slotted_page.specs.Rows.{Row, Ascends, last_key}

@@ -1,5 +1,5 @@
 -- Where the record of a key stands.
-use Rattle.std.specs.Prelude.{◌≡◌, ℕ, ◌+◌, ◌-◌, IsTrue, Bool, List, length, Option, Some, None, nat_le, ◌&&◌, if◌then◌else◌}
+use Rattle.std.specs.Prelude.{◌≡◌, ℕ, List, length, Some}
 use Rattle.slotted_page.specs.Rows.{Row, row_get}
 use Rattle.slotted_page.specs.Node.{Slot, leaf_rows}
 use Rattle.slotted_page.specs.Sound.{slot_of}

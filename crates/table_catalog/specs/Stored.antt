@@ -1,5 +1,5 @@
 -- A store of pages in order, and its tables by name.
-use Rattle.std.specs.Prelude.{◌≡◌, ℕ, ◌-◌, Bool, true, false, List, [], ◌∷◌, ◌++◌, length, None, Option, Some, if◌then◌else◌, flat_map, map, bytes_eq, ◌⊎◌}
+use Rattle.std.specs.Prelude.{◌≡◌, ℕ, ◌-◌, Bool, true, false, List, [], ◌∷◌, ◌++◌, length, None, Option, Some, if◌then◌else◌, flat_map, bytes_eq}
 use Rattle.line_pages.specs.Lines.{Lines}
 use Rattle.slotted_page.specs.Checks.{first_failure}
 use Rattle.slotted_page.specs.Rows.{Row, Each, last_key}

@@ -58,11 +58,7 @@ fn failing(header: &Line, limits: &Limits, count: u64) -> Option<u8>
 
 /// Reads the header of the catalog and makes its checks.
 #[tactic(auto, using(crate::proofs::CatalogLaws::fits_catalog, crate::proofs::CatalogLaws::odd_header))]
-pub fn read_catalog<P: Pages>(
-    pages: &mut P,
-    limits: &Limits,
-    work: &mut Work,
-) -> Result<Line, Stop>
+pub fn read_catalog<P: Pages>(pages: &mut P, limits: &Limits, work: &mut Work) -> Result<Line, Stop>
     requires ready { P.is_ready pages.old }
     ensures header { IsTrue (P.standing pages.old).told → IfOk result (λ line. line ≡ (P.standing pages.old).current 0 0) }
     ensures fits { IfOk result (FitsCatalog limits.now (P.standing pages.old).count) }

@@ -5,9 +5,9 @@ ghost use Rattle.table_catalog.specs.Catalog.{entry_in as entry_of_line, field_i
 
 use crate::limits::Limits;
 use crate::name::{Name, all_name_bytes};
-use tree_search::Root;
 use line_pages::{get_word, put_word};
 use nvm_model::Line;
+use tree_search::Root;
 
 /// The entry of a table: the bytes that keep its name, its root page, the levels of its tree, and the number of its rows.
 #[derive(Clone, Copy, Debug, PartialEq, Eq)]

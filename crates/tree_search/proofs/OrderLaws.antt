@@ -1,6 +1,6 @@
 -- The rows of a tree ascend within its bounds, and a key's row is in the leaf at the end of the key's path.
-use Rattle.std.proofs.Common.{◌≡◌, ℕ, zero, suc, ◌+◌, ◌-◌, ◌<◌, ◌≤◌, inl, inr, Bool, true, false, List, [], ◌∷◌, ◌++◌, length, Some, refl, sym, ap, subst, ◌∙◌, arith, nat_eq, append-nil, append_assoc, flat_map, slice_get, ◌≢◌, ◌⊎◌, Option, None}
-use Rattle.std.proofs.lemmas.Bool.{lt-ltb, le-ltb, eqb-true, eq-eqb, cases_lt, ne_eqb, cases_Bool}
+use Rattle.std.proofs.Common.{◌≡◌, ℕ, zero, suc, ◌+◌, ◌-◌, ◌<◌, ◌≤◌, inl, inr, Bool, true, false, List, [], ◌∷◌, ◌++◌, length, Some, refl, sym, ap, subst, ◌∙◌, arith, nat_eq, append-nil, append_assoc, flat_map, slice_get}
+use Rattle.std.proofs.lemmas.Bool.{lt-ltb, le-ltb, eqb-true, eq-eqb, cases_lt}
 use Rattle.std.proofs.lemmas.List.{map-append}
 use Rattle.line_pages.specs.Lines.{Lines}
 use Rattle.line_pages.specs.Bytes.{bytes_of}
@@ -11,7 +11,6 @@ use Rattle.tree_search.specs.Tree.{IsTree, tree_rows, child_for, path}
 use Rattle.node_edit.proofs.RowLaws.{Ascends-append, below_bound, above_bound, Each-append, row_get-amid, or_else, row_next-behind, row_next-append}
 use Rattle.slotted_page.proofs.PageFacts.{leaf_facts, inner_facts}
 use Rattle.tree_search.proofs.TreeLaws.{Each-map}
-use Rattle.std.proofs.lemmas.List.Concat.{flat_map-append}
 
 -- rows that ascend in each span ascend in a row
 pub Ascends-fan : (rows_at : ℕ → List Row) (cs : List Child) (low high : ℕ) → begins_at low cs ≡ true → Ascends low high (first_keys cs)

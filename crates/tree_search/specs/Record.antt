@@ -1,5 +1,5 @@
 -- A row by its record alone.
-use Rattle.std.specs.Prelude.{◌≡◌, ℕ, ◌+◌, ◌-◌, IsTrue, Bool, List, length, Option, Some, None, nat_le, ◌&&◌, if◌then◌else◌}
+use Rattle.std.specs.Prelude.{ℕ, ◌+◌, Bool, List, Option, Some, None, nat_le, ◌&&◌, if◌then◌else◌}
 use Rattle.slotted_page.specs.Rows.{Row}
 use Rattle.slotted_page.specs.Node.{Slot, row_in}
 use Rattle.slotted_page.specs.Value.{value_of}

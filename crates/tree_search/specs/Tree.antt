@@ -1,12 +1,11 @@
 -- Trees over pages.
-use Rattle.std.specs.Prelude.{◌≡◌, ℕ, zero, suc, ◌+◌, ◌-◌, ◌≤◌, Bool, true, false, List, [], ◌∷◌, nat_lt, ◌==◌, if◌then◌else◌, flat_map, ◌≢◌, ◌*◌, ◌<◌, ◌⊎◌, ◌++◌, Option, Some, None, drop, max, length, nat_le, ◌||◌}
+use Rattle.std.specs.Prelude.{◌≡◌, ℕ, zero, suc, ◌-◌, ◌≤◌, Bool, true, false, List, [], ◌∷◌, nat_lt, if◌then◌else◌, flat_map}
 use Rattle.tree_search.specs.declared.root.Root.{Root}
 use Rattle.line_pages.specs.Lines.{Lines}
 use Rattle.line_pages.specs.Bytes.{bytes_of}
 use Rattle.slotted_page.specs.Rows.{Each, last_key, Row}
 use Rattle.slotted_page.specs.Spans.{Span, spans}
 use Rattle.slotted_page.specs.Node.{Child, leaf_rows, children, IsWellFormed}
-use Rattle.std.specs.List.{list_all}
 use Rattle.page_space.specs.Counted.{times}
 
 -- The page heads a well-formed tree of this level, which stands among `count` pages. A leaf has level 0.
@@ -54,6 +53,7 @@ abbrev pub leaf_for : Lines → ℕ → ℕ → ℕ → ℕ
 leaf_for lines zero page key = page
 leaf_for lines (suc level) page key = leaf_for lines level (child_for key 0 (children (bytes_of lines page))) key
 
+-- the rows and the pages of some children
 abbrev pub rows_of : Lines → ℕ → List Child → List Row
 rows_of lines level cs = flat_map (λ (child : Child). tree_rows lines level child.1) cs
 
