@@ -1,9 +1,10 @@
 -- Hexadecimal digits of bytes in a row, and sentences: what one more gives, and that no line feed is among them.
-use Rattle.std.proofs.Common.{◌≡◌, ℕ, zero, suc, ◌+◌, ◌/◌, ◌%◌, false, List, [], ◌∷◌, ◌++◌, refl, ap, ◌∙◌, sym, append_assoc, zero-add, add-one}
+use Rattle.std.proofs.Common.{◌≡◌, ℕ, zero, suc, ◌+◌, ◌/◌, ◌%◌, ◌<◌, false, List, [], ◌∷◌, ◌++◌, length, take, refl, ap, ◌∙◌, sym, arith, append_assoc, zero-add, add-one}
 use Rattle.std.specs.Prelude.{◌==◌, map, slice_index}
 use Rattle.std.specs.Int.{to_le_bytes, w64}
 use Rattle.std.specs.List.{AllByRecursion}
 use Rattle.std.proofs.lemmas.Bool.{or_parts}
+use Rattle.std.proofs.lemmas.List.{map_more}
 use Rattle.std.proofs.lemmas.List.Folds.{list_any-append}
 use Rattle.hex.specs.Hex.{encode_with, encode_lower, lower_digits}
 use Rattle.texts.specs.Lines.{line_feed, has_line_feed, IsOneLine, sentence}
@@ -35,6 +36,13 @@ pub sentence-push : (word : List ℕ) (words : List (List ℕ)) (last : List ℕ
 sentence-push word [] last = refl
 sentence-push word (next ∷ words) last =
     ap (λ l. word ++ 32 ∷ l) (sentence-push next words last) ∙ sym (append_assoc word (32 ∷ sentence (next ∷ words)) (32 ∷ last))
+
+-- one word more of a sentence of words
+pub sentence-word_more : (f : ℕ → List ℕ) (words : List ℕ) (w : ℕ) → 0 < w → w < length words →
+    sentence (map f (take (w + 1) words)) ≡ sentence (map f (take w words)) ++ 32 ∷ f (slice_index words w)
+sentence-word_more f [] w some h = absurd (omega arith)
+sentence-word_more f (x ∷ words) zero some h = absurd (omega arith)
+sentence-word_more f (x ∷ words) (suc w) some h = ap sentence (map_more f (x ∷ words) (suc w) 0 h) ∙ sentence-push (f x) (map f (take w words)) (f (slice_index (x ∷ words) (suc w)))
 
 -- a name and a number stand behind others, and then more
 pub behind : {first second : List ℕ} (old name digits rest : List ℕ) → first ≡ old ++ (name ++ digits) → second ≡ first ++ rest → second ≡ old ++ (name ++ (digits ++ rest))
