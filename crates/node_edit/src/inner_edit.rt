@@ -13,14 +13,8 @@ ghost use Rattle.node_edit.specs.Edit.{Fits, child_put, child_place, has_child, 
 use crate::fit::Fit;
 use crate::leaf_edit::top_of;
 use crate::pair::Pair;
-<<<<<<< HEAD
-use crate::fit::Fit;
 use page_edit::{inner_cut, inner_insert, inner_remove};
 use slotted_page::{Expect, child_key, children};
-=======
-use page_edit::{inner_cut, inner_insert, inner_remove};
-use slotted_page::{Expect, child_key, children};
->>>>>>> tree
 use ssd_model::PageBuf;
 
 /// What an inner page of a tree is in itself.
