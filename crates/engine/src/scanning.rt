@@ -1,14 +1,8 @@
 //! The rows of a scan, one by one.
-<<<<<<< ours
-ghost use Rattle.std.specs.Prelude.{◌≡◌, ◌∷◌, ◌<◌, ◌≤◌, false, IsTrue, IfOk, IfErr, OnOk, OnErr};
-ghost use Rattle.line_pages.specs.Standing.{IsCause, last_count};
-ghost use Rattle.table_catalog.specs.Stored.{rows_of};
-ghost use Rattle.table_store.specs.Getting.{IsLookupDamage};
-=======
 ghost use Rattle.std.specs.Prelude.{◌≡◌, ◌∷◌, ◌<◌, ◌≤◌, false, IsTrue, IfOk, OnOk, OnErr};
 ghost use Rattle.line_pages.specs.Standing.{HasCause, last_count};
-ghost use Rattle.table_store.specs.Stored.{rows_of, IsLookupDamage};
->>>>>>> theirs
+ghost use Rattle.table_catalog.specs.Stored.{rows_of};
+ghost use Rattle.table_store.specs.Getting.{IsLookupDamage};
 ghost use Rattle.table_store.specs.Scanning.{next_of};
 ghost use Rattle.transactions.specs.StoreStanding.{reach};
 ghost use Rattle.script.specs.Tables.{rows_or_none};
