@@ -31,12 +31,13 @@ use Rattle.script.proofs.ValuesLaws.{IsState}
 use Rattle.engine.specs.declared.engine.Engine.{Engine}
 use Rattle.engine.specs.Engine.{engine_sizes, StandsFor, IsSteadyFor, Shows}
 use Rattle.engine.specs.Holds.{bounds_in, HoldsTables, InOrder}
+use Rattle.engine.specs.Answers.{closed}
 use Rattle.engine.specs.Steps.{Does, after_line}
 use Rattle.engine.proofs.HoldsLaws.{image_in_order, open_image}
 use Rattle.script_run.specs.declared.stop.Halt.{Halt}
 use Rattle.script_run.specs.Cause.{IsFault}
 use Rattle.script_run.specs.Sent.{Writes}
-use Rattle.script_run.specs.Run.{Aim, Owes, IsSafe, AreSafe, Proceeds, Comes}
+use Rattle.script_run.specs.Run.{Aim, Owes, IsSafe, AreSafe, Proceeds, Comes, IsDone}
 
 -- ---- an engine over a call that leaves the devices
 
@@ -371,3 +372,76 @@ module _ (aim : Aim) (engine after : Engine) (s : State) (line : List ℕ) (comm
       (subst (λ (l : List ℕ). Owes aim after (run.state_after (machine (bounds_in aim.sizes)) s (command_in line)) l commands new)
       (ap (λ (g : Sizes). text (run.replies (machine (bounds_in g)) s (command_in line))) (sym owes.sizes) ∙ said)
       (reply_owed new x timed told does))
+
+-- ---- a call of an engine that makes no tables, as a row of a scan and the end of a run
+
+module _ (aim : Aim) (engine after : Engine) (s : State) (bytes : List ℕ) (commands : List (Option Command)) (old : Standing) (owes : Owes aim engine s bytes commands old) where
+  -- each moment is safe
+  pub does_safe : {T : Type 0} (f : State → State) (new : Standing) (r : Result T Stop) → (f s).tables ≡ s.tables → IsTimed old → IsTrue old.told → Does f engine old after new r → AreSafe aim old new
+  does_safe f new r same timed told does = record {
+    each = λ m low high.
+        let whole : acked owes.said + acked bytes ≡ length owes.past = owes.counted in
+        let most : acked bytes ≤ 1 = owes.at_most in
+        subst (IsSafe aim (new.at m)) (sym (Goes-sent timed does.goes m low)) record {
+          said = owes.said;
+          is_said = owes.is_said;
+          begins = (bytes ++ text (run.replies (machine (bounds_in aim.sizes)) s commands), owes.to_send);
+          images = λ in_order i left.
+              let either = (does.moments told (owes.steady in_order) s owes.shows).each m low high i left in
+              record {
+                tables = s.tables;
+                past = owes.past;
+                later = run.versions (machine (bounds_in aim.sizes)) s commands;
+                version = owes.to_commit;
+                in_order = order_by owes.sizes owes.lines owes.blocks (⊎_elim (λ before. before) (λ behind. subst (λ (T : List Table). InOrder (engine_sizes engine) T old.lines old.blocks (fresh i)) same behind) either);
+                acknowledged = omega arith;
+                one_more = omega arith;
+              };
+        };
+  }
+
+  -- and where it leaves the state what is owed stays
+  pub does_owes : {T : Type 0} (new : Standing) (x : T) → IsTimed old → IsTrue old.told → Does (λ (t : State). t) engine old after new (Ok x) → Owes aim after s bytes commands new
+  does_owes new x timed told does = record {
+    said = owes.said;
+    is_said = Goes-sent timed does.goes new.clock does.goes.clock ∙ owes.is_said;
+    to_send = owes.to_send;
+    past = owes.past;
+    to_commit = owes.to_commit;
+    counted = owes.counted;
+    at_most = owes.at_most;
+    said_whole = owes.said_whole;
+    bytes_whole = owes.bytes_whole;
+    tables = owes.tables;
+    copy = owes.copy;
+    shows = does.shows told s owes.shows;
+    sizes = does.sizes ∙ owes.sizes;
+    lines = does.goes.lines ∙ owes.lines;
+    blocks = does.goes.blocks ∙ owes.blocks;
+    steady = λ in_order. does.steady (owes.steady in_order);
+  }
+
+-- the end of a run, of which nothing is left
+pub done_by : {T : Type 0} (aim : Aim) (engine after : Engine) (s : State) (old new : Standing) (x : T) → Owes aim engine s [] [] old → IsTimed old → IsTrue old.told → Does closed engine old after new (Ok x) → IsDone aim after new
+done_by aim engine after s old new x owes timed told does = record {
+  s = closed s;
+  owes = record {
+    said = owes.said;
+    is_said = Goes-sent timed does.goes new.clock does.goes.clock ∙ owes.is_said;
+    to_send = owes.to_send;
+    past = owes.past;
+    to_commit = owes.to_commit;
+    counted = owes.counted;
+    at_most = owes.at_most;
+    said_whole = owes.said_whole;
+    bytes_whole = owes.bytes_whole;
+    tables = owes.tables;
+    copy = tt;
+    shows = does.shows told s owes.shows;
+    sizes = does.sizes ∙ owes.sizes;
+    lines = does.goes.lines ∙ owes.lines;
+    blocks = does.goes.blocks ∙ owes.blocks;
+    steady = λ in_order. does.steady (owes.steady in_order);
+  };
+  closed = refl;
+}
