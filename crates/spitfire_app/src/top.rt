@@ -1,11 +1,14 @@
 //! The top call, and all that the program does.
-ghost use Rattle.std.specs.Prelude.{◌≡◌, ◌<◌, ◌≤◌, ◌⊎◌, ◌^◌, List, [], Some, IsTrue, length};
-ghost use Rattle.devices.specs.World.{Standing, GoesOn, IsHonest, now};
+ghost use Rattle.std.specs.Prelude.{◌≡◌, ◌≤◌, ◌⊎◌, ◌^◌, List, [], ◌∷◌, ◌++◌, Some, true, false, IsTrue, length};
+ghost use Rattle.ssd_model.specs.Page.{zero_page};
+ghost use Rattle.devices.specs.World.{GoesOn, WorldCall, OnlyChanges, IsHonest, Rose, now, sent};
 ghost use Rattle.store_meaning.specs.Layout.{Sizes, nvm_lines, ssd_blocks};
 ghost use Rattle.recovery.specs.Opening.{HoldsStore};
 ghost use Rattle.table_store.specs.Catalog.{Table};
 ghost use Rattle.engine.specs.Holds.{Holds, InOrder};
 ghost use Rattle.nvm_layout.specs.Sizes.{sizes_of};
+ghost use Rattle.app_texts.specs.DamageText.{damage_text};
+ghost use Rattle.script_run.specs.Statuses.{IsOneOf};
 ghost use Rattle.spitfire_app.specs.CommandLine.{task_of};
 ghost use Rattle.spitfire_app.specs.Promises.{first_sizes, Replies, Survives, Formatted, Causes, RunCauses, FormatCauses, NoFaultCame};
 ghost use Rattle.spitfire_app.specs.declared.words.Task.TheVariants.{Format, Run};
@@ -108,8 +111,14 @@ fn run<W: World>(alloc: Global, world: &mut W) -> u8
     }
 }
 
-/// Tells of damage that the opening found. Statuses: 5, and 9 a fault of the output.
-fn show_damage<W: World>(world: &mut W, evidence: &Evidence) -> u8 {
+/// Tells of damage that the opening found, whose evidence is of no page. Statuses: 5, and 9 a fault of the output.
+fn show_damage<W: World>(world: &mut W, evidence: &Evidence) -> u8
+    ensures call { WorldCall (W.Devices.standing world.old) (W.Devices.standing world.new) }
+    ensures rest { OnlyChanges false false true (W.Devices.standing world.old) (W.Devices.standing world.new) }
+    ensures known { IsOneOf result (5 ∷ 9 ∷ []) }
+    ensures sink { result ≡ 9 → Rose (W.Devices.standing world.old).outside.sink_faults (W.Devices.standing world.new).outside.sink_faults }
+    ensures ends { IsTrue (W.Devices.standing world.old).told → result ≡ 5 → sent (W.Devices.standing world.new) ≡ sent (W.Devices.standing world.old) ++ damage_text evidence.now zero_page }
+{
     match tell_damage(world, evidence, &PageBuf::zero()) {
         Ok(()) => 5,
         Err(_) => 9,
