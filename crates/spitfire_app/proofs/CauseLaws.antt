@@ -6,6 +6,8 @@ use Rattle.std.specs.Prelude.{IfErr, OnOk}
 use Rattle.ssd_model.specs.Page.{zero_page}
 use Rattle.devices.specs.State.{State as Devices, current}
 use Rattle.devices.specs.World.{Standing, Outside, Goes, GoesOn, Stays, WorldCall, OnlyChanges, NoFault, Rose, now, sent}
+use Rattle.devices.proofs.MomentLaws.{Goes-on}
+use Rattle.devices.proofs.JoinLaws.{Stays-trans}
 use Rattle.line_pages.specs.declared.stop.Evidence.{Evidence}
 use Rattle.line_pages.specs.declared.stop.Evidence.TheVariants as evidence
 use Rattle.nvm_layout.specs.Opening.{Finding, finding, super_from, words_of, NoFault as NoneCame}
@@ -52,6 +54,7 @@ record Ran (old new : Standing) (found : Result Parts OpenError) (status : ℕ) 
   small : old.lines < 4 → found ≡ Err TooSmall
   finds : FindsInLog old found
   done : status ≡ 0 → NoFault old new
+  read : IsTrue old.told → status ≡ 0 → new.outside.input ≡ []
   damage : status ≡ 5 → IsDamaged old new
   refused : IsOneOf status (3 ∷ 4 ∷ 11 ∷ 13 ∷ []) → Untouched old new
   nvm : status ≡ 6 → Rose old.nvm_faults new.nvm_faults
@@ -137,10 +140,20 @@ module _ (old new : Standing) (found : Result Parts OpenError) (status : ℕ) (r
         refused : IsOneOf status (3 ∷ 4 ∷ 5 ∷ 6 ∷ 7 ∷ 9 ∷ 11 ∷ 13 ∷ [])
         refused = refusal_of status why (subst (λ (r : Result Parts OpenError). IsOneOf status (codes_of r)) same ran.is_one)
 
+    opened_by : (r : Result Parts OpenError) → found ≡ r → IsOneOf status (0 ∷ 8 ∷ 12 ∷ []) → Opens old
+    opened_by (Ok parts) same among = elim (cases_lt old.lines 4) [
+      | inl few ↦ not_one status 4 (0 ∷ 8 ∷ 12 ∷ []) refl among (few_is few)
+      | inr some ↦ opens_by parts same some
+    ]
+    opened_by (Err why) same among =
+        none_of status (3 ∷ 4 ∷ 5 ∷ 6 ∷ 7 ∷ 9 ∷ 11 ∷ 13 ∷ []) (0 ∷ 8 ∷ 12 ∷ []) refl (refusal_of status why (subst (λ (r : Result Parts OpenError). IsOneOf status (codes_of r)) same ran.is_one)) among
+
   causes_of : RunCauses old new status
   causes_of = record {
     known = one_of status (codes_of found) (0 ∷ 3 ∷ 4 ∷ 5 ∷ 6 ∷ 7 ∷ 8 ∷ 9 ∷ 11 ∷ 12 ∷ 13 ∷ []) (known_of found) ran.is_one;
     done = ran.done;
+    read = ran.read;
+    opened = λ told among. opened_by told found refl among;
     few = few_is;
     size = λ told. size_is told;
     magic = λ told. magic_is told;
@@ -205,6 +218,7 @@ module _ (old mid : Standing) (goes : Goes old mid) (why : OpenError) (opening :
       small = opening.small;
       finds = opening.finds;
       done = λ e. absurd (omega arith);
+      read = λ told e. absurd (omega arith);
       damage = λ e. absurd (omega arith);
       refused = λ e. not_one status 6 (3 ∷ 4 ∷ 11 ∷ 13 ∷ []) refl e is;
       nvm = λ e. subst (λ (x : OpenError). OpenStops x old mid) nvm stops;
@@ -222,6 +236,7 @@ module _ (old mid : Standing) (goes : Goes old mid) (why : OpenError) (opening :
       small = opening.small;
       finds = opening.finds;
       done = λ e. not_one status 0 (3 ∷ 4 ∷ 11 ∷ 13 ∷ []) refl among e;
+      read = λ told e. not_one status 0 (3 ∷ 4 ∷ 11 ∷ 13 ∷ []) refl among e;
       damage = λ e. not_one status 5 (3 ∷ 4 ∷ 11 ∷ 13 ∷ []) refl among e;
       refused = λ e. untouched other;
       nvm = λ e. not_one status 6 (3 ∷ 4 ∷ 11 ∷ 13 ∷ []) refl among e;
@@ -321,14 +336,18 @@ module _ (old mid : Standing) (goes : Goes old mid) (kept : Evidence) (opening :
   damage_finds : FindsInLog old (Err (Damaged kept))
   damage_finds = subst (λ (r : Result Parts OpenError). FindsInLog old r) damage_is opening.finds
 
-  opening_damage : IsOpeningDamage old kept
-  opening_damage = record {
+  stays_mid : Stays old mid
+  stays_mid told = IfErr-at_err (λ (x : OpenError). x ≢ Nvm → Stays old mid) damage_is (opening.nothing told) (λ same. absurd (cc)) told
+
+  opening_damage : (new : Standing) → WorldCall mid new → IsOpeningDamage old new kept
+  opening_damage new call = record {
     name = damage_answers.name;
     words = damage_answers.words;
     held_name = damage_answers.held_name;
     held = damage_answers.held;
     fails = damage_answers.answer;
     first = damage_finds;
+    stays = Stays-trans (Goes-on goes) call.goes stays_mid call.stays;
   }
 
   -- it is none over devices that hold tables
@@ -349,10 +368,11 @@ module _ (old mid : Standing) (goes : Goes old mid) (kept : Evidence) (opening :
       small = opening.small;
       finds = opening.finds;
       done = λ is. not_one status 0 (5 ∷ 9 ∷ []) refl tells.known is;
+      read = λ told is. not_one status 0 (5 ∷ 9 ∷ []) refl tells.known is;
       damage = λ is. record {
         kept = kept;
         page = zero_page;
-        shows = inl opening_damage;
+        shows = inl (opening_damage new tells.call);
         ends = λ told. (sent mid, tells.ends (subst IsTrue tells.call.goes.told told) is);
       };
       refused = λ among. none_of status (5 ∷ 9 ∷ []) (3 ∷ 4 ∷ 11 ∷ 13 ∷ []) refl tells.known among;
@@ -371,7 +391,8 @@ module _ (old mid : Standing) (goes : Goes old mid) (kept : Evidence) (opening :
 
 module _ (old mid : Standing) (goes : Goes old mid) (engine : Engine) (opening : IsOpening old mid (Ok engine))
     (shows : IsTrue old.told → (g : Sizes) (T : List Table) → Holds g T (now old) → ShowsHeld g T mid engine)
-    (behind : Engine) (new : Standing) (next : GoesOn mid new) (status : ℕ) (script : ScriptCauses (2 ^ 32) engine mid behind new status) where
+    (behind : Engine) (new : Standing) (next : GoesOn mid new) (status : ℕ) (script : ScriptCauses (2 ^ 32) engine mid behind new status)
+    (read_all : IsTrue mid.told → status ≡ 0 → new.outside.input ≡ []) where
   found_parts : (parts : Parts) × (opening.found ≡ Ok parts)
   found_parts = found_ok opening.found engine opening.follows
 
@@ -406,6 +427,7 @@ module _ (old mid : Standing) (goes : Goes old mid) (engine : Engine) (opening :
           source = later.source ∙ ap (λ (o : Outside). o.source_faults) same_outside;
           sink = later.sink ∙ ap (λ (o : Outside). o.sink_faults) same_outside;
         };
+    read = λ told is. read_all (told_mid told) is;
     damage = λ is. let told : Told behind new = script.damage is in record { kept = told.kept; page = told.page; shows = inr (behind, told.shown); ends = told.ends };
     refused = λ among. none_of status (0 ∷ 5 ∷ 6 ∷ 7 ∷ 8 ∷ 9 ∷ 12 ∷ []) (3 ∷ 4 ∷ 11 ∷ 13 ∷ []) refl script.known among;
     nvm = λ is. rose_before old.nvm_faults mid.nvm_faults new.nvm_faults goes.nvm_faults (script.nvm is);

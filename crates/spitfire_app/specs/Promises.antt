@@ -84,6 +84,9 @@ pub record Opens (old : Standing) : Type 0 where
 pub record RunCauses (old new : Standing) (status : ℕ) : Type 0 where
   pub known : IsOneOf status (0 ∷ 3 ∷ 4 ∷ 5 ∷ 6 ∷ 7 ∷ 8 ∷ 9 ∷ 11 ∷ 12 ∷ 13 ∷ [])
   pub done : status ≡ 0 → NoFault old new
+  -- done is a script that was read to its end, and none is read before a store is open
+  pub read : IsTrue old.told → status ≡ 0 → new.outside.input ≡ []
+  pub opened : IsTrue old.told → IsOneOf status (0 ∷ 8 ∷ 12 ∷ []) → Opens old
   pub few : old.lines < 4 → status ≡ 4
   pub size : IsTrue old.told → Exactly status 4 ((old.lines < 4) ⊎ ((4 ≤ old.lines) × (found_in old ≡ too_small))) (6 ∷ [])
   pub magic : IsTrue old.told → Exactly status 3 ((4 ≤ old.lines) × (found_in old ≡ another)) (6 ∷ [])
