@@ -36,12 +36,12 @@ use Rattle.engine.specs.declared.engine.Engine.{Engine}
 use Rattle.engine.specs.declared.scan.Scan.{Scan}
 use Rattle.engine.specs.Commands.{shown}
 use Rattle.engine.specs.Causes.{Stops}
-use Rattle.engine.specs.Engine.{StandsFor}
-use Rattle.engine.specs.Holds.{HoldsTables}
+use Rattle.engine.specs.Engine.{engine_sizes}
+use Rattle.engine.specs.Holds.{HoldsTables, bounds_in}
 use Rattle.engine.specs.Scanning.{behind, ended, Gives}
-use Rattle.engine.specs.Steps.{Does, rows_left, scan_replies}
+use Rattle.engine.specs.Steps.{Does, rows_left, scan_replies, after_line}
 use Rattle.script_run.specs.Run.{Aim, Owes, AreSafe, Proceeds, IsFew}
-use Rattle.script_run.proofs.RunLaws.{does_safe, does_owes, safe_then}
+use Rattle.script_run.proofs.RunLaws.{does_safe, does_owes, safe_then, answered}
 
 -- ---- few rows
 
@@ -233,3 +233,20 @@ scan_still bounds s line scan rows still is = by_silence (is_silent line) (sym (
     by_silence : (b : Bool) → list_any is_end (run.replies (machine bounds) s (cond b [] (command_of line ∷ []))) ≡ true → run.state_after (machine bounds) s (cond b [] (command_of line ∷ [])) ≡ s
     by_silence true h = no_end h
     by_silence false h = leaves_step bounds s (command_of line) (sym (ap (list_any is_end) (append-nil (step bounds s (command_of line)).1)) ∙ h)
+
+-- A line that leads to a scan: its replies are owed over the tables that stand behind it, and there are few.
+module _ (aim : Aim) (engine after : Engine) (s : State) (line : List ℕ) (commands : List (Option Command)) (old : Standing) (owes : Owes aim engine s [] (command_in line ++ commands) old)
+    (new : Standing) (scan : Scan) (timed : IsTimed old) (told : IsTrue old.told) where
+  abbrev behind_line : State
+  behind_line = after_line engine (command_in line) s
+
+  pub scan_owed : {T : Type 0} (x : T) → Does (after_line engine (command_in line)) engine old after new (Ok x) → scan.over ≡ false
+      → scan_replies scan (rows_or_none scan.name (current s)) ≡ run.replies (machine (bounds_in (engine_sizes engine))) s (command_in line)
+      → Owes aim after (after_line engine (command_in line) s) (text (scan_replies scan (rows_or_none scan.name (current (after_line engine (command_in line) s))))) commands new
+  scan_owed x does still is =
+      let same = scan_still (bounds_in (engine_sizes engine)) s line scan (rows_or_none scan.name (current s)) still is in
+      answered aim engine after s line commands old owes new x (text (scan_replies scan (rows_or_none scan.name (current behind_line)))) timed told does
+      (ap text (sym is) ∙ ap (λ (t : State). text (scan_replies scan (rows_or_none scan.name (current t)))) (sym same))
+
+  pub scan_few : {bytes : List ℕ} → Owes aim after (after_line engine (command_in line) s) bytes commands new → scan.count ≡ 0 → IsFew scan (rows_or_none scan.name (current (after_line engine (command_in line) s)))
+  scan_few owed none = few_begun scan (rows_or_none scan.name (current behind_line)) none (few_held _ _ (current behind_line) scan.name owed.shows.seen)
