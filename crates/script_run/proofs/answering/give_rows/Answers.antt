@@ -112,7 +112,7 @@ pub returns-in_err-say-clause-proceeds : goal.returns-in_err-say-clause-proceeds
 returns-in_err-say-clause-proceeds g c = λ aim s commands told few owes.
     let at = (goal.at.returns-in_err-say-clause-proceeds g c).After-say in
     let rows = rows_or_none c.args.scan.now.name (current s) in
-    proceeds_err c.from_residual-in_err-say.result c.in_err-say.field-0.0 c.from_residual-in_err-say.ensures
+    proceeds_err {engine = c.next_row.new.self} {after = c.next_row.new.self} {s = s} {t = s} {bytes = text (scan_replies c.next_row.new.scan rows)} {more = []} {xs = commands} {ys = commands} c.from_residual-in_err-say.result c.in_err-say.field-0.0 c.from_residual-in_err-say.ensures
     (proceeds_then (asked_safe aim c.loop-scan.engine s c.loop-scan.scan rows commands _ _ (so_far g at aim s commands told few owes) (g.met.W.World.timed c.loop-scan.world) (told_mid g at aim s commands told few owes) c.next_row.new.self _ c.next_row.result c.next_row.ensures.does)
     c.say.ensures.call.goes (subst (λ r. Proceeds aim c.next_row.new.self s (text (scan_replies c.next_row.new.scan rows)) commands (g.W.Devices.standing c.next_row.new.world) (g.W.Devices.standing c.say.new.world) r) c.in_err-say.was (says g at aim s commands told few owes)))
 
