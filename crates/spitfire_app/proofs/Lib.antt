@@ -4,3 +4,6 @@ pub mod FormatLaws
 pub mod PromiseLaws
 pub mod StatusLaws
 pub mod CauseLaws
+pub mod RefusalLaws
+pub mod DamageLaws
+pub mod ScriptLaws

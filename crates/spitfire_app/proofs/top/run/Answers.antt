@@ -6,7 +6,9 @@ use Rattle.engine.specs.Opening.{Opens}
 use Rattle.spitfire_app.proofs.GivenLaws.{holds_are_tables}
 use Rattle.spitfire_app.proofs.OrderLaws.{order_holds}
 use Rattle.spitfire_app.proofs.PromiseLaws.{Runs, refused_replies, refused_survives, run_replies, run_survives}
-use Rattle.spitfire_app.proofs.CauseLaws.{Tells, refused_as, complete_as, damaged_causes, damaged_complete, unsound, script_causes, script_complete}
+use Rattle.spitfire_app.proofs.RefusalLaws.{refused_as, complete_as}
+use Rattle.spitfire_app.proofs.DamageLaws.{damaged_causes, damaged_complete, unsound}
+use Rattle.spitfire_app.proofs.ScriptLaws.{script_causes, script_complete}
 use Rattle.spitfire_app.proofs.top.run.Given.{Over}
 use Rattle.spitfire_app.proofs.top.run.Goals as goal
 use Rattle.spitfire_app.proofs.top.run.Goals.{After-drop-engine, After-show_damage}
@@ -69,73 +71,73 @@ returns-in-Err-Damaged-clause-complete g c = λ sizes T store holds few none. da
 -- ---- a refusal of another kind
 
 pub returns-in-Err-TooSmall-clause-causes : goal.returns-in-Err-TooSmall-clause-causes
-returns-in-Err-TooSmall-clause-causes g c = refused_as _ _ c.open.ensures.goes c.in-Err-TooSmall.field-0 TooSmall c.in-Err-TooSmall.field-0-is c.in-Err-TooSmall.ensures.opens 4 refl tt
+returns-in-Err-TooSmall-clause-causes g c = refused_as _ _ c.open.ensures.goes c.in-Err-TooSmall.field-0 TooSmall c.in-Err-TooSmall.field-0-is c.in-Err-TooSmall.ensures.opens _ refl tt
 
 pub returns-in-Err-TooSmall-clause-replies : goal.returns-in-Err-TooSmall-clause-replies
-returns-in-Err-TooSmall-clause-replies g c = λ sizes T told holds. refused_replies sizes T _ _ (g.met.W.World.timed c.args.world.now) c.open.ensures.goes 4 (λ is. omega arith)
+returns-in-Err-TooSmall-clause-replies g c = λ sizes T told holds. refused_replies sizes T _ _ (g.met.W.World.timed c.args.world.now) c.open.ensures.goes _ (λ is. omega arith)
 
 pub returns-in-Err-TooSmall-clause-survives : goal.returns-in-Err-TooSmall-clause-survives
-returns-in-Err-TooSmall-clause-survives g c = λ sizes T told order. refused_survives sizes T _ _ (g.met.W.World.timed c.args.world.now) c.open.ensures.goes 4 (λ is. omega arith) (c.open.ensures.order told sizes T order).moments
+returns-in-Err-TooSmall-clause-survives g c = λ sizes T told order. refused_survives sizes T _ _ (g.met.W.World.timed c.args.world.now) c.open.ensures.goes _ (λ is. omega arith) (c.open.ensures.order told sizes T order).moments
 
 pub returns-in-Err-TooSmall-clause-complete : goal.returns-in-Err-TooSmall-clause-complete
-returns-in-Err-TooSmall-clause-complete g c = λ sizes T store holds few none. complete_as _ _ c.open.ensures.goes c.in-Err-TooSmall.field-0 TooSmall c.in-Err-TooSmall.field-0-is c.in-Err-TooSmall.ensures.opens 4 refl store none
+returns-in-Err-TooSmall-clause-complete g c = λ sizes T store holds few none. complete_as _ _ c.open.ensures.goes c.in-Err-TooSmall.field-0 TooSmall c.in-Err-TooSmall.field-0-is c.in-Err-TooSmall.ensures.opens _ refl store none
 
 pub returns-in-Err-Nvm-clause-causes : goal.returns-in-Err-Nvm-clause-causes
-returns-in-Err-Nvm-clause-causes g c = refused_as _ _ c.open.ensures.goes c.in-Err-Nvm.field-0 Nvm c.in-Err-Nvm.field-0-is c.in-Err-Nvm.ensures.opens 6 refl tt
+returns-in-Err-Nvm-clause-causes g c = refused_as _ _ c.open.ensures.goes c.in-Err-Nvm.field-0 Nvm c.in-Err-Nvm.field-0-is c.in-Err-Nvm.ensures.opens _ refl tt
 
 pub returns-in-Err-Nvm-clause-replies : goal.returns-in-Err-Nvm-clause-replies
-returns-in-Err-Nvm-clause-replies g c = λ sizes T told holds. refused_replies sizes T _ _ (g.met.W.World.timed c.args.world.now) c.open.ensures.goes 6 (λ is. omega arith)
+returns-in-Err-Nvm-clause-replies g c = λ sizes T told holds. refused_replies sizes T _ _ (g.met.W.World.timed c.args.world.now) c.open.ensures.goes _ (λ is. omega arith)
 
 pub returns-in-Err-Nvm-clause-survives : goal.returns-in-Err-Nvm-clause-survives
-returns-in-Err-Nvm-clause-survives g c = λ sizes T told order. refused_survives sizes T _ _ (g.met.W.World.timed c.args.world.now) c.open.ensures.goes 6 (λ is. omega arith) (c.open.ensures.order told sizes T order).moments
+returns-in-Err-Nvm-clause-survives g c = λ sizes T told order. refused_survives sizes T _ _ (g.met.W.World.timed c.args.world.now) c.open.ensures.goes _ (λ is. omega arith) (c.open.ensures.order told sizes T order).moments
 
 pub returns-in-Err-Nvm-clause-complete : goal.returns-in-Err-Nvm-clause-complete
-returns-in-Err-Nvm-clause-complete g c = λ sizes T store holds few none. complete_as _ _ c.open.ensures.goes c.in-Err-Nvm.field-0 Nvm c.in-Err-Nvm.field-0-is c.in-Err-Nvm.ensures.opens 6 refl store none
+returns-in-Err-Nvm-clause-complete g c = λ sizes T store holds few none. complete_as _ _ c.open.ensures.goes c.in-Err-Nvm.field-0 Nvm c.in-Err-Nvm.field-0-is c.in-Err-Nvm.ensures.opens _ refl store none
 
 pub returns-in-Err-Ssd-clause-causes : goal.returns-in-Err-Ssd-clause-causes
-returns-in-Err-Ssd-clause-causes g c = refused_as _ _ c.open.ensures.goes c.in-Err-Ssd.field-0 Ssd c.in-Err-Ssd.field-0-is c.in-Err-Ssd.ensures.opens 7 refl tt
+returns-in-Err-Ssd-clause-causes g c = refused_as _ _ c.open.ensures.goes c.in-Err-Ssd.field-0 Ssd c.in-Err-Ssd.field-0-is c.in-Err-Ssd.ensures.opens _ refl tt
 
 pub returns-in-Err-Ssd-clause-replies : goal.returns-in-Err-Ssd-clause-replies
-returns-in-Err-Ssd-clause-replies g c = λ sizes T told holds. refused_replies sizes T _ _ (g.met.W.World.timed c.args.world.now) c.open.ensures.goes 7 (λ is. omega arith)
+returns-in-Err-Ssd-clause-replies g c = λ sizes T told holds. refused_replies sizes T _ _ (g.met.W.World.timed c.args.world.now) c.open.ensures.goes _ (λ is. omega arith)
 
 pub returns-in-Err-Ssd-clause-survives : goal.returns-in-Err-Ssd-clause-survives
-returns-in-Err-Ssd-clause-survives g c = λ sizes T told order. refused_survives sizes T _ _ (g.met.W.World.timed c.args.world.now) c.open.ensures.goes 7 (λ is. omega arith) (c.open.ensures.order told sizes T order).moments
+returns-in-Err-Ssd-clause-survives g c = λ sizes T told order. refused_survives sizes T _ _ (g.met.W.World.timed c.args.world.now) c.open.ensures.goes _ (λ is. omega arith) (c.open.ensures.order told sizes T order).moments
 
 pub returns-in-Err-Ssd-clause-complete : goal.returns-in-Err-Ssd-clause-complete
-returns-in-Err-Ssd-clause-complete g c = λ sizes T store holds few none. complete_as _ _ c.open.ensures.goes c.in-Err-Ssd.field-0 Ssd c.in-Err-Ssd.field-0-is c.in-Err-Ssd.ensures.opens 7 refl store none
+returns-in-Err-Ssd-clause-complete g c = λ sizes T store holds few none. complete_as _ _ c.open.ensures.goes c.in-Err-Ssd.field-0 Ssd c.in-Err-Ssd.field-0-is c.in-Err-Ssd.ensures.opens _ refl store none
 
 pub returns-in-Err-NotAStore-clause-causes : goal.returns-in-Err-NotAStore-clause-causes
-returns-in-Err-NotAStore-clause-causes g c = refused_as _ _ c.open.ensures.goes c.in-Err-NotAStore.field-0 NotAStore c.in-Err-NotAStore.field-0-is c.in-Err-NotAStore.ensures.opens 3 refl tt
+returns-in-Err-NotAStore-clause-causes g c = refused_as _ _ c.open.ensures.goes c.in-Err-NotAStore.field-0 NotAStore c.in-Err-NotAStore.field-0-is c.in-Err-NotAStore.ensures.opens _ refl tt
 
 pub returns-in-Err-NotAStore-clause-replies : goal.returns-in-Err-NotAStore-clause-replies
-returns-in-Err-NotAStore-clause-replies g c = λ sizes T told holds. refused_replies sizes T _ _ (g.met.W.World.timed c.args.world.now) c.open.ensures.goes 3 (λ is. omega arith)
+returns-in-Err-NotAStore-clause-replies g c = λ sizes T told holds. refused_replies sizes T _ _ (g.met.W.World.timed c.args.world.now) c.open.ensures.goes _ (λ is. omega arith)
 
 pub returns-in-Err-NotAStore-clause-survives : goal.returns-in-Err-NotAStore-clause-survives
-returns-in-Err-NotAStore-clause-survives g c = λ sizes T told order. refused_survives sizes T _ _ (g.met.W.World.timed c.args.world.now) c.open.ensures.goes 3 (λ is. omega arith) (c.open.ensures.order told sizes T order).moments
+returns-in-Err-NotAStore-clause-survives g c = λ sizes T told order. refused_survives sizes T _ _ (g.met.W.World.timed c.args.world.now) c.open.ensures.goes _ (λ is. omega arith) (c.open.ensures.order told sizes T order).moments
 
 pub returns-in-Err-NotAStore-clause-complete : goal.returns-in-Err-NotAStore-clause-complete
-returns-in-Err-NotAStore-clause-complete g c = λ sizes T store holds few none. complete_as _ _ c.open.ensures.goes c.in-Err-NotAStore.field-0 NotAStore c.in-Err-NotAStore.field-0-is c.in-Err-NotAStore.ensures.opens 3 refl store none
+returns-in-Err-NotAStore-clause-complete g c = λ sizes T store holds few none. complete_as _ _ c.open.ensures.goes c.in-Err-NotAStore.field-0 NotAStore c.in-Err-NotAStore.field-0-is c.in-Err-NotAStore.ensures.opens _ refl store none
 
 pub returns-in-Err-LogEnded-clause-causes : goal.returns-in-Err-LogEnded-clause-causes
-returns-in-Err-LogEnded-clause-causes g c = refused_as _ _ c.open.ensures.goes c.in-Err-LogEnded.field-0 LogEnded c.in-Err-LogEnded.field-0-is c.in-Err-LogEnded.ensures.opens 13 refl tt
+returns-in-Err-LogEnded-clause-causes g c = refused_as _ _ c.open.ensures.goes c.in-Err-LogEnded.field-0 LogEnded c.in-Err-LogEnded.field-0-is c.in-Err-LogEnded.ensures.opens _ refl tt
 
 pub returns-in-Err-LogEnded-clause-replies : goal.returns-in-Err-LogEnded-clause-replies
-returns-in-Err-LogEnded-clause-replies g c = λ sizes T told holds. refused_replies sizes T _ _ (g.met.W.World.timed c.args.world.now) c.open.ensures.goes 13 (λ is. omega arith)
+returns-in-Err-LogEnded-clause-replies g c = λ sizes T told holds. refused_replies sizes T _ _ (g.met.W.World.timed c.args.world.now) c.open.ensures.goes _ (λ is. omega arith)
 
 pub returns-in-Err-LogEnded-clause-survives : goal.returns-in-Err-LogEnded-clause-survives
-returns-in-Err-LogEnded-clause-survives g c = λ sizes T told order. refused_survives sizes T _ _ (g.met.W.World.timed c.args.world.now) c.open.ensures.goes 13 (λ is. omega arith) (c.open.ensures.order told sizes T order).moments
+returns-in-Err-LogEnded-clause-survives g c = λ sizes T told order. refused_survives sizes T _ _ (g.met.W.World.timed c.args.world.now) c.open.ensures.goes _ (λ is. omega arith) (c.open.ensures.order told sizes T order).moments
 
 pub returns-in-Err-LogEnded-clause-complete : goal.returns-in-Err-LogEnded-clause-complete
-returns-in-Err-LogEnded-clause-complete g c = λ sizes T store holds few none. complete_as _ _ c.open.ensures.goes c.in-Err-LogEnded.field-0 LogEnded c.in-Err-LogEnded.field-0-is c.in-Err-LogEnded.ensures.opens 13 refl store none
+returns-in-Err-LogEnded-clause-complete g c = λ sizes T store holds few none. complete_as _ _ c.open.ensures.goes c.in-Err-LogEnded.field-0 LogEnded c.in-Err-LogEnded.field-0-is c.in-Err-LogEnded.ensures.opens _ refl store none
 
 pub returns-in-Err-NoMemory-clause-causes : goal.returns-in-Err-NoMemory-clause-causes
-returns-in-Err-NoMemory-clause-causes g c = refused_as _ _ c.open.ensures.goes c.in-Err-NoMemory.field-0 NoMemory c.in-Err-NoMemory.field-0-is c.in-Err-NoMemory.ensures.opens 11 refl tt
+returns-in-Err-NoMemory-clause-causes g c = refused_as _ _ c.open.ensures.goes c.in-Err-NoMemory.field-0 NoMemory c.in-Err-NoMemory.field-0-is c.in-Err-NoMemory.ensures.opens _ refl tt
 
 pub returns-in-Err-NoMemory-clause-replies : goal.returns-in-Err-NoMemory-clause-replies
-returns-in-Err-NoMemory-clause-replies g c = λ sizes T told holds. refused_replies sizes T _ _ (g.met.W.World.timed c.args.world.now) c.open.ensures.goes 11 (λ is. omega arith)
+returns-in-Err-NoMemory-clause-replies g c = λ sizes T told holds. refused_replies sizes T _ _ (g.met.W.World.timed c.args.world.now) c.open.ensures.goes _ (λ is. omega arith)
 
 pub returns-in-Err-NoMemory-clause-survives : goal.returns-in-Err-NoMemory-clause-survives
-returns-in-Err-NoMemory-clause-survives g c = λ sizes T told order. refused_survives sizes T _ _ (g.met.W.World.timed c.args.world.now) c.open.ensures.goes 11 (λ is. omega arith) (c.open.ensures.order told sizes T order).moments
+returns-in-Err-NoMemory-clause-survives g c = λ sizes T told order. refused_survives sizes T _ _ (g.met.W.World.timed c.args.world.now) c.open.ensures.goes _ (λ is. omega arith) (c.open.ensures.order told sizes T order).moments
 
 pub returns-in-Err-NoMemory-clause-complete : goal.returns-in-Err-NoMemory-clause-complete
-returns-in-Err-NoMemory-clause-complete g c = λ sizes T store holds few none. complete_as _ _ c.open.ensures.goes c.in-Err-NoMemory.field-0 NoMemory c.in-Err-NoMemory.field-0-is c.in-Err-NoMemory.ensures.opens 11 refl store none
+returns-in-Err-NoMemory-clause-complete g c = λ sizes T store holds few none. complete_as _ _ c.open.ensures.goes c.in-Err-NoMemory.field-0 NoMemory c.in-Err-NoMemory.field-0-is c.in-Err-NoMemory.ensures.opens _ refl store none
