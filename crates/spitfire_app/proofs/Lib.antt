@@ -1,6 +1,9 @@
-pub mod WriteLaws
-pub mod EngineLaws
-pub mod RunLaws
-pub mod ByteLaws
-pub mod PromiseLaws
+pub mod GivenLaws
+pub mod OrderLaws
 pub mod FormatLaws
+pub mod PromiseLaws
+pub mod StatusLaws
+pub mod CauseLaws
+pub mod RefusalLaws
+pub mod DamageLaws
+pub mod ScriptLaws

@@ -1,145 +1,195 @@
 -- From the way of a run to what is promised of it.
-use Rattle.std.proofs.Common.{◌≡◌, ℕ, ◌+◌, Bool, true, false, List, [], ◌∷◌, ◌++◌, length, Some, refl, sym, ◌∙◌, ap, subst, arith, length-append, get_or, IsTrue}
+use Rattle.std.proofs.Common.{◌≡◌, ℕ, ◌+◌, ◌≤◌, Bool, true, false, List, [], ◌∷◌, ◌++◌, length, refl, sym, ◌∙◌, ap, subst, arith, length-append, get_or, Option, IsTrue}
 use Rattle.std.proofs.lemmas.List.{append-nil}
 use Rattle.std.proofs.Math.Seq.{get_or-append_seam}
-use Rattle.devices.specs.State.{Image, fresh, current}
-use Rattle.devices.specs.World.{Standing, Outside, Goes, GoesOn, Stays, IsTimed, now, sent}
+use Rattle.devices.specs.State.{Image, Leaves, fresh}
+use Rattle.devices.specs.World.{Standing, Outside, Goes, GoesOn, IsTimed, Moments, now, sent}
 use Rattle.devices.proofs.MomentLaws.{Goes-sent}
-use Rattle.row_script.specs.Grammar.{commands}
-use Rattle.row_script.specs.Machine.{Rows, AreRows, State, machine, opening}
-use Rattle.row_script.specs.Replies.{text}
+use Rattle.store_meaning.specs.Layout.{Sizes}
+use Rattle.table_store.specs.Catalog.{Table}
+use Rattle.script.specs.declared.command.Command.{Command}
+use Rattle.script.specs.Grammar.{commands}
+use Rattle.script.specs.Tables.{AreTables}
+use Rattle.script.specs.Machine.{State, opening}
+use Rattle.script.specs.Script.{machine, replies, commits, after}
+use Rattle.script.specs.Replies.{text}
 use Rattle.texts.specs.Runs as run
 use Rattle.texts.proofs.OutputLaws.{IsWhole-empty}
-use Rattle.row_log.specs.Layout.{Words, rows_of}
-use Rattle.row_log.specs.InOrder.{Holds, InOrder}
-use Rattle.row_log.proofs.OrderLaws.{holds_of}
-use Rattle.row_log.proofs.LayoutLaws.{rows_of-are}
-use Rattle.spitfire_app.specs.Run.{Aim, Owes, IsKept, AreSafe}
+use Rattle.engine.specs.declared.engine.Engine.{Engine}
+use Rattle.engine.specs.Holds.{bounds_in, Holds, HasOnly, InOrder}
+use Rattle.engine.specs.Engine.{engine_sizes, StandsFor, IsSteadyFor}
+use Rattle.engine.specs.Opening.{ShowsHeld}
+use Rattle.engine.proofs.DoesLaws.{engine_in_order, engine_holds}
+use Rattle.script_run.specs.Run.{Aim, Owes, IsKept, AreSafe, IsDone}
+use Rattle.spitfire_app.proofs.GivenLaws.{safe_then}
 use Rattle.spitfire_app.specs.Promises.{Replies, Recovers, Survives}
-use Rattle.spitfire_app.proofs.RunLaws.{still_safe, owes_still, safe_then}
 
-module _ (s : State) (old : Standing) where
-  -- what a run from this state is to do
+module _ (g : Sizes) (T : List Table) (old : Standing) where
+  -- what a run over these tables is to do
   abbrev pub aim_of : Bool → Aim
   aim_of sure = record {
     before = sent old;
-    replies = text (run.replies machine s (commands old.outside.input));
-    versions = s.rows ∷ run.versions machine s (commands old.outside.input);
+    replies = text (replies (bounds_in g) T old.outside.input);
+    versions = T ∷ run.versions (machine (bounds_in g)) (opening T) (commands old.outside.input);
+    sizes = g;
+    lines = old.lines;
+    blocks = old.blocks;
     in_order = sure;
   }
 
-  pub begun : (sure : Bool) → AreRows s.rows → Holds (now old) s.rows → (IsTrue sure → InOrder (now old) s.rows) → Owes (aim_of sure) s [] (commands old.outside.input) old
-  begun sure rows holds in_order = record {
-    said = [];
-    is_said = sym (append-nil (sent old));
-    to_send = refl;
-    past = [];
-    to_commit = refl;
-    counted = refl;
-    at_most = omega arith;
-    said_whole = IsWhole-empty;
-    bytes_whole = IsWhole-empty;
-    rows = rows;
-    holds = holds;
-    in_order = in_order;
-  }
+  -- while the store is opened nothing is sent
+  module _ (mid : Standing) (timed : IsTimed old) (goes : Goes old mid) (sure : Bool) where
+    pub opening_safe : (IsTrue sure → Moments old mid (HasOnly g T old.lines old.blocks)) → AreSafe (aim_of sure) old mid
+    opening_safe moments = record {
+      each = λ m low high. record {
+        said = [];
+        is_said = Goes-sent timed goes m low ∙ sym (append-nil (sent old));
+        begins = (text (replies (bounds_in g) T old.outside.input), refl);
+        images = λ in_order i left. record {
+          tables = T;
+          past = [];
+          later = run.versions (machine (bounds_in g)) (opening T) (commands old.outside.input);
+          version = refl;
+          in_order = (moments in_order).each m low high i left;
+          acknowledged = omega arith;
+          one_more = omega arith;
+        };
+      };
+    }
 
-  -- the rows after so many commits are those that stand behind so many
-  after_past : (past later : List Rows) (rows : Rows) → past ++ (rows ∷ later) ≡ s.rows ∷ run.versions machine s (commands old.outside.input)
-      → run.after machine s (commands old.outside.input) (length past) ≡ rows
-  after_past past later rows version = ap (λ (l : List Rows). get_or l (length past) s.rows) (sym version) ∙ get_or-append_seam past rows later s.rows
+    -- and then the whole script is owed
+    pub begun : (engine : Engine) → AreTables T → ShowsHeld g T mid engine → (IsTrue sure → IsSteadyFor engine mid)
+        → Owes (aim_of sure) engine (opening T) [] (commands mid.outside.input) mid
+    begun engine tables held steady =
+        subst (λ (o : Outside). Owes (aim_of sure) engine (opening T) [] (commands o.input) mid) (sym goes.outside) (record {
+          said = [];
+          is_said = Goes-sent timed goes mid.clock goes.clock ∙ sym (append-nil (sent old));
+          to_send = refl;
+          past = [];
+          to_commit = refl;
+          counted = refl;
+          at_most = omega arith;
+          said_whole = IsWhole-empty;
+          bytes_whole = IsWhole-empty;
+          tables = tables;
+          copy = tt;
+          shows = held.shows;
+          sizes = held.sizes;
+          lines = goes.lines;
+          blocks = goes.blocks;
+          steady = steady;
+        })
 
-  within_past : (past later : List Rows) (rows : Rows) → past ++ (rows ∷ later) ≡ s.rows ∷ run.versions machine s (commands old.outside.input)
-      → length past + length later ≡ run.commits machine s (commands old.outside.input)
-  within_past past later rows version =
-      let sizes : length past + length (rows ∷ later) ≡ length (s.rows ∷ run.versions machine s (commands old.outside.input)) = sym (length-append past (rows ∷ later)) ∙ ap length version in
+  -- the tables after so many commits are those that stand behind so many
+  after_past : (past later : List (List Table)) (tables : List Table) → past ++ (tables ∷ later) ≡ T ∷ run.versions (machine (bounds_in g)) (opening T) (commands old.outside.input)
+      → after (bounds_in g) T old.outside.input (length past) ≡ tables
+  after_past past later tables version = ap (λ (l : List (List Table)). get_or l (length past) T) (sym version) ∙ get_or-append_seam past tables later T
+
+  within_past : (past later : List (List Table)) (tables : List Table) → past ++ (tables ∷ later) ≡ T ∷ run.versions (machine (bounds_in g)) (opening T) (commands old.outside.input)
+      → length past + length later ≡ commits (bounds_in g) T old.outside.input
+  within_past past later tables version =
+      let counts : length past + length (tables ∷ later) ≡ length (T ∷ run.versions (machine (bounds_in g)) (opening T) (commands old.outside.input)) = sym (length-append past (tables ∷ later)) ∙ ap length version in
       omega arith
 
-  pub recovers : (said : List ℕ) (i : Image) → IsKept (aim_of true) said i → Recovers s old.outside.input said i
+  recovers : (said : List ℕ) (i : Image) → IsKept (aim_of true) said i → Recovers g T old.outside.input old.lines old.blocks said i
   recovers said i kept = record {
     kept = length kept.past;
-    within = let all : length kept.past + length kept.later ≡ run.commits machine s (commands old.outside.input) = within_past kept.past kept.later kept.rows kept.version in omega arith;
-    in_order = subst (λ (x : Rows). InOrder (fresh i) x) (sym (after_past kept.past kept.later kept.rows kept.version)) kept.in_order;
+    within = let all : length kept.past + length kept.later ≡ commits (bounds_in g) T old.outside.input = within_past kept.past kept.later kept.tables kept.version in omega arith;
+    in_order = subst (λ (x : List Table). InOrder g x old.lines old.blocks (fresh i)) (sym (after_past kept.past kept.later kept.tables kept.version)) kept.in_order;
     acknowledged = kept.acknowledged;
     one_more = kept.one_more;
   }
 
   -- at the end
-  module _ (sure : Bool) (t : State) (new : Standing) (owes : Owes (aim_of sure) t [] [] new) where
-    last : (run.commits machine s (commands old.outside.input) ≡ length owes.past) × (run.after machine s (commands old.outside.input) (run.commits machine s (commands old.outside.input)) ≡ t.rows)
-    last =
-        let all : length owes.past + 0 ≡ run.commits machine s (commands old.outside.input) = within_past owes.past [] t.rows owes.to_commit in
-        let count : run.commits machine s (commands old.outside.input) ≡ length owes.past = omega arith in
-        (count, ap (λ k. run.after machine s (commands old.outside.input) k) count ∙ after_past owes.past [] t.rows owes.to_commit)
+  module _ (sure : Bool) (engine : Engine) (new : Standing) (done : IsDone (aim_of sure) engine new) where
+    abbrev owes : Owes (aim_of sure) engine done.s [] [] new
+    owes = done.owes
 
-    pub end_sent : sent new ≡ sent old ++ text (run.replies machine s (commands old.outside.input))
+    last : (commits (bounds_in g) T old.outside.input ≡ length owes.past) × (after (bounds_in g) T old.outside.input (commits (bounds_in g) T old.outside.input) ≡ (done.s).tables)
+    last =
+        let all : length owes.past + 0 ≡ commits (bounds_in g) T old.outside.input = within_past owes.past [] (done.s).tables owes.to_commit in
+        let count : commits (bounds_in g) T old.outside.input ≡ length owes.past = omega arith in
+        (count, ap (λ k. after (bounds_in g) T old.outside.input k) count ∙ after_past owes.past [] (done.s).tables owes.to_commit)
+
+    end_sent : sent new ≡ sent old ++ text (replies (bounds_in g) T old.outside.input)
     end_sent = owes.is_said ∙ ap (λ (l : List ℕ). sent old ++ l) (sym (append-nil owes.said) ∙ owes.to_send)
 
-    pub end_holds : Holds (now new) (run.after machine s (commands old.outside.input) (run.commits machine s (commands old.outside.input)))
-    end_holds = subst (λ (x : Rows). Holds (now new) x) (sym last.1) owes.holds
+    module _ (stands : StandsFor engine new) (told : IsTrue new.told) where
+      end_holds : Holds g (after (bounds_in g) T old.outside.input (commits (bounds_in g) T old.outside.input)) (now new)
+      end_holds =
+          subst (λ (x : List Table). Holds g x (now new)) (sym last.1)
+          (subst (λ (x : Sizes). Holds x (done.s).tables (now new)) owes.sizes (engine_holds engine new stands told done.s owes.shows))
 
-    pub end_in_order : IsTrue sure → InOrder (now new) (run.after machine s (commands old.outside.input) (run.commits machine s (commands old.outside.input)))
-    end_in_order in_order = subst (λ (x : Rows). InOrder (now new) x) (sym last.1) (owes.in_order in_order)
+      end_in_order : IsTrue sure → InOrder g (after (bounds_in g) T old.outside.input (commits (bounds_in g) T old.outside.input)) old.lines old.blocks (now new)
+      end_in_order in_order =
+          subst (λ (x : List Table). InOrder g x old.lines old.blocks (now new)) (sym last.1)
+          (subst (λ (x : Sizes). InOrder x (done.s).tables old.lines old.blocks (now new)) owes.sizes
+          (subst (λ n. InOrder (engine_sizes engine) (done.s).tables n old.blocks (now new)) owes.lines
+          (subst (λ n. InOrder (engine_sizes engine) (done.s).tables new.lines n (now new)) owes.blocks
+          (engine_in_order engine new stands told done.s owes.shows (owes.steady in_order)))))
 
-  -- where a run with this status stands, if it came to its end
-  abbrev pub Ended : Bool → Standing → ℕ → Type 0
-  Ended sure new status = status ≡ 0 → (t : State) × Owes (aim_of sure) t [] [] new
+  -- Where a run stands that came to its end.
+  pub record Ended (sure : Bool) (new : Standing) : Type 0 where
+    pub engine : Engine
+    pub done : IsDone (aim_of sure) engine new
+    pub stands : StandsFor engine new
+    pub told : IsTrue new.told
 
-  pub replied : (new : Standing) (status : ℕ) → AreSafe (aim_of false) old new → Ended false new status → (status ≡ 0 → new.outside.input ≡ []) → Replies s old new status
+  pub replied : (new : Standing) (status : ℕ) → AreSafe (aim_of false) old new → (status ≡ 0 → Ended false new) → (status ≡ 0 → new.outside.input ≡ []) → Replies g T old new status
   replied new status safe ended read = record {
     begin = λ m low high. let at = safe.each m low high in (at.said, at.is_said, at.begins);
-    whole = λ zero_status. let at = ended zero_status in end_sent false at.0 new at.1;
+    whole = λ is. let at = ended is in end_sent false at.engine new at.done;
     read = read;
-    holds = λ zero_status. let at = ended zero_status in end_holds false at.0 new at.1;
+    holds = λ is. let at = ended is in end_holds false at.engine new at.done at.stands at.told;
   }
 
-  pub survived : (new : Standing) (status : ℕ) → AreSafe (aim_of true) old new → Ended true new status → Survives s old new status
+  pub survived : (new : Standing) (status : ℕ) → AreSafe (aim_of true) old new → (status ≡ 0 → Ended true new) → Survives g T old new status
   survived new status safe ended = record {
-    crash = λ m low high. let at = safe.each m low high in (at.said, at.is_said, (λ i leaves. recovers at.said i (at.images refl i leaves)));
-    in_order = λ zero_status. let at = ended zero_status in end_in_order true at.0 new at.1 refl;
+    crash = λ m low high. let at = safe.each m low high in (at.said, at.is_said, (λ i left. recovers at.said i (at.images refl i left)));
+    in_order = λ is. let at = ended is in end_in_order true at.engine new at.done at.stands at.told refl;
   }
 
 -- ---- an opening
 
--- the rows that loads give are rows, and no others
-pub same_rows : (words : Words) {xs ys : Rows} → rows_of words ≡ Some xs → rows_of words ≡ Some ys → xs ≡ ys
-same_rows words one other = let e = sym one ∙ other in cc
+-- What a script's run does behind an opening.
+pub record Runs (engine : Engine) (mid : Standing) (behind : Engine) (new : Standing) (status : ℕ) : Type 0 where
+  pub goes : GoesOn mid new
+  pub safe : (aim : Aim) (s : State) → Owes aim engine s [] (commands mid.outside.input) mid → AreSafe aim mid new
+  pub ends : (aim : Aim) (s : State) → Owes aim engine s [] (commands mid.outside.input) mid → status ≡ 0 → IsDone aim behind new
+  pub stands : status ≡ 0 → StandsFor behind new
+  pub read : status ≡ 0 → new.outside.input ≡ []
 
-module _ (rows : Rows) (old mid : Standing) (timed : IsTimed old) (goes : Goes old mid) (stays : Stays old mid) (told : IsTrue old.told) where
-  begun_read : Holds (now old) rows → Owes (aim_of (opening rows) old false) (opening rows) [] (commands old.outside.input) old
-  begun_read holds = begun (opening rows) old false (rows_of-are (current (now old)).nvm rows holds.stands).0 holds (λ e. absurd (let f : false ≡ true = e in cc))
+never : {A : Type 0} → IsTrue false → A
+never none = let clash : false ≡ true = none in absurd (cc)
 
-  begun_sure : InOrder (now old) rows → Owes (aim_of (opening rows) old true) (opening rows) [] (commands old.outside.input) old
-  begun_sure in_order = begun (opening rows) old true (rows_of-are (current (now old)).nvm rows in_order.stands).0 (holds_of (now old) rows in_order) (λ e. in_order)
+module _ (g : Sizes) (T : List Table) (old mid : Standing) (timed : IsTimed old) (goes : Goes old mid) where
+  -- that was refused
+  pub refused_replies : (status : ℕ) → (status ≡ 0 → ⊥) → Replies g T old mid status
+  refused_replies status other = replied g T old mid status (opening_safe g T old mid timed goes false (λ none. never none)) (λ is. absurd (other is)) (λ is. absurd (other is))
 
-  module _ (sure : Bool) (owes : Owes (aim_of (opening rows) old sure) (opening rows) [] (commands old.outside.input) old) where
-    opened_safe : AreSafe (aim_of (opening rows) old sure) old mid
-    opened_safe = still_safe (aim_of (opening rows) old sure) (opening rows) [] (commands old.outside.input) old owes mid (λ m low high. (stays told).each m low high) (λ m low high. Goes-sent timed goes m low)
+  pub refused_survives : (status : ℕ) → (status ≡ 0 → ⊥) → Moments old mid (HasOnly g T old.lines old.blocks) → Survives g T old mid status
+  refused_survives status other moments = survived g T old mid status (opening_safe g T old mid timed goes true (λ in_order. moments)) (λ is. absurd (other is))
 
-    opened_owes : (s : State) → s ≡ opening rows → Owes (aim_of (opening rows) old sure) s [] (commands mid.outside.input) mid
-    opened_owes s is =
-        let still = owes_still (aim_of (opening rows) old sure) (opening rows) [] (commands old.outside.input) old owes mid ((stays told).each mid.clock goes.clock (omega arith)) (Goes-sent timed goes mid.clock goes.clock) in
-        subst (λ (x : State). Owes (aim_of (opening rows) old sure) x [] (commands mid.outside.input) mid) (sym is)
-        (subst (λ (o : Outside). Owes (aim_of (opening rows) old sure) (opening rows) [] (commands o.input) mid) (sym goes.outside) still)
+  -- and one behind which a script was run
+  module _ (engine behind : Engine) (new : Standing) (status : ℕ) (runs : Runs engine mid behind new status) (told : IsTrue old.told) (tables : AreTables T) (held : ShowsHeld g T mid engine) where
+    told_new : IsTrue new.told
+    told_new = subst IsTrue (sym (runs.goes.told ∙ goes.told)) told
 
-  -- an opening that was refused
-  pub refused_replies : (status : ℕ) → (status ≡ 0 → ⊥) → Holds (now old) rows → Replies (opening rows) old mid status
-  refused_replies status other holds = replied (opening rows) old mid status (opened_safe false (begun_read holds)) (λ is. absurd (other is)) (λ is. absurd (other is))
+    ended : (sure : Bool) → (IsTrue sure → IsSteadyFor engine mid) → status ≡ 0 → Ended g T old sure new
+    ended sure steady is = record {
+      engine = behind;
+      done = runs.ends (aim_of g T old sure) (opening T) (begun g T old mid timed goes sure engine tables held steady) is;
+      stands = runs.stands is;
+      told = told_new;
+    }
 
-  pub refused_survives : (status : ℕ) → (status ≡ 0 → ⊥) → InOrder (now old) rows → Survives (opening rows) old mid status
-  refused_survives status other in_order = survived (opening rows) old mid status (opened_safe true (begun_sure in_order)) (λ is. absurd (other is))
+    safe : (sure : Bool) → (IsTrue sure → IsSteadyFor engine mid) → (IsTrue sure → Moments old mid (HasOnly g T old.lines old.blocks)) → AreSafe (aim_of g T old sure) old new
+    safe sure steady moments =
+        safe_then (opening_safe g T old mid timed goes sure moments) runs.goes
+        (runs.safe (aim_of g T old sure) (opening T) (begun g T old mid timed goes sure engine tables held steady))
 
-  -- an opening, and a run behind it
-  module _ (s t : State) (new : Standing) (status : ℕ) (is : s ≡ opening rows) (next : GoesOn mid new)
-      (safe : (aim : Aim) → Owes aim s [] (commands mid.outside.input) mid → AreSafe aim mid new) (ends : (aim : Aim) → Owes aim s [] (commands mid.outside.input) mid → status ≡ 0 → Owes aim t [] [] new) where
-    pub run_replies : Holds (now old) rows → (status ≡ 0 → new.outside.input ≡ []) → Replies (opening rows) old new status
-    run_replies holds read =
-        let owes = begun_read holds in
-        let left = opened_owes false owes s is in
-        replied (opening rows) old new status (safe_then (opened_safe false owes) next (safe (aim_of (opening rows) old false) left)) (λ done. (t, ends (aim_of (opening rows) old false) left done)) read
+    pub run_replies : Replies g T old new status
+    run_replies = replied g T old new status (safe false (λ none. never none) (λ none. never none)) (ended false (λ none. never none)) runs.read
 
-    pub run_survives : InOrder (now old) rows → Survives (opening rows) old new status
-    run_survives in_order =
-        let owes = begun_sure in_order in
-        let left = opened_owes true owes s is in
-        survived (opening rows) old new status (safe_then (opened_safe true owes) next (safe (aim_of (opening rows) old true) left)) (λ done. (t, ends (aim_of (opening rows) old true) left done))
+    pub run_survives : IsSteadyFor engine mid → Moments old mid (HasOnly g T old.lines old.blocks) → Survives g T old new status
+    run_survives steady moments = survived g T old new status (safe true (λ in_order. steady) (λ in_order. moments)) (ended true (λ in_order. steady))

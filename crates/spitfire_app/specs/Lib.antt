@@ -1,6 +1,3 @@
 pub mod CommandLine
-pub mod Cause
-pub mod Sent
-pub mod Engine
-pub mod Run
+pub mod Damage
 pub mod Promises

@@ -1,17 +1,9 @@
-//! The program: a script is run over a store of rows, each put one acknowledged commit.
+//! The program: a script is run over a store of tables.
 #![tactic(auto)]
 
-mod answering;
-mod engine;
-mod running;
-mod scripts;
-mod sending;
-mod stop;
 mod top;
 mod words;
 
+pub use script_run::run_script;
 pub use top::spitfire;
 pub use words::Words;
-
-#[cfg(test)]
-mod tests;

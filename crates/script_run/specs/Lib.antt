@@ -1,0 +1,4 @@
+pub mod Cause
+pub mod Sent
+pub mod Run
+pub mod Statuses

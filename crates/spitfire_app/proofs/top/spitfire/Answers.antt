@@ -1,0 +1,5 @@
+-- A run without a fault.
+use Rattle.spitfire_app.proofs.top.spitfire.Goals as goal
+
+pub returns-in-Some-Run-clause-complete : goal.returns-in-Some-Run-clause-complete
+returns-in-Some-Run-clause-complete g c = λ sizes T is store holds few none. c.run.ensures.complete sizes T store holds few none

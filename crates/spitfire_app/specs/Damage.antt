@@ -1,0 +1,35 @@
+-- The damage that a run tells of.
+use Rattle.std.specs.Prelude.{◌≡◌, ◌⊎◌, ℕ, List, ◌++◌, slice_index, IsTrue}
+use Rattle.devices.specs.State.{current}
+use Rattle.devices.specs.World.{Standing, Stays, now, sent}
+use Rattle.line_pages.specs.declared.stop.Evidence.{Evidence}
+use Rattle.nvm_layout.specs.Opening.{Finding, finding, super_from, sizes_from, words_of, IsEvidence}
+use Rattle.nvm_layout.specs.Opening.Finding.{sound}
+use Rattle.recovery.specs.Heads.{IsLogEvidence}
+use Rattle.recovery.specs.Opening.{IsSuper, IsFirstIn}
+use Rattle.engine.specs.declared.engine.Engine.{Engine}
+use Rattle.app_texts.specs.DamageText.{damage_text}
+use Rattle.script_run.specs.Cause.{Shown}
+
+-- what the words of the superblock are found to be, on a device that holds these
+abbrev pub found_in : Standing → Finding
+found_in old = finding old.lines old.blocks (super_from ((current (now old)).nvm 0 0) (words_of (current (now old))))
+
+-- The damage that an opening finds, by the words of the superblock that it loaded: they fail a check, or the head of a record
+-- in the log does. A told device holds those words, that head is the first in its log that fails, and no device was changed.
+pub record IsOpeningDamage (old new : Standing) (kept : Evidence) : Type 0 where
+  pub name : ℕ
+  pub words : List ℕ
+  pub held_name : IsTrue old.told → name ≡ (current (now old)).nvm 0 0
+  pub held : IsTrue old.told → words ≡ words_of (current (now old))
+  pub fails : IsEvidence words (finding old.lines old.blocks (super_from name words)) kept
+      ⊎ ((finding old.lines old.blocks (super_from name words) ≡ sound) × IsLogEvidence (sizes_from words) (slice_index words 7) kept)
+  pub first : IsTrue old.told → IsSuper kept ⊎ IsFirstIn (current (now old)) kept
+  pub stays : Stays old new
+
+-- Damage was found by the opening, or by the engine, and what was sent ends with its text.
+pub record IsDamaged (old new : Standing) : Type 0 where
+  pub kept : Evidence
+  pub page : List ℕ
+  pub shows : IsOpeningDamage old new kept ⊎ ((engine : Engine) × Shown page kept engine new)
+  pub ends : IsTrue new.told → (front : List ℕ) × (sent new ≡ front ++ damage_text kept page)
