@@ -1,10 +1,11 @@
 -- A scan, row by row, over the rows of a table in order.
 use Rattle.std.proofs.Common.{◌≡◌, ℕ, ◌+◌, ◌-◌, ◌<◌, ◌≤◌, min, Bool, true, false, cond, List, [], ◌∷◌, ◌++◌, map, length, refl, sym, ap, subst, ◌∙◌, arith, inl, inr, Some, None, Option, IsTrue, Result, Ok, Err}
-use Rattle.std.specs.Prelude.{IsErr, IsErrAnd, IfErr, ◌&&◌, ◌==◌, nat_le, bytes_eq, unwrap_or}
+use Rattle.std.specs.Prelude.{◌&&◌, ◌==◌, nat_le, bytes_eq, unwrap_or}
 use Rattle.std.proofs.lemmas.Bool.{cases_Bool, cases_lt, cases_eq, le-leb, lt-leb, eq-eqb, ne_eqb}
 use Rattle.devices.specs.World.{Standing as Device}
 use Rattle.line_pages.specs.Lines.{Lines}
-use Rattle.line_pages.specs.Standing.{IsCause}
+use Rattle.line_pages.specs.Standing.{HasCause}
+use Rattle.line_pages.specs.declared.stop.Evidence.{Evidence}
 use Rattle.line_pages.specs.declared.stop.Stop.{Stop}
 use Rattle.line_pages.specs.declared.stop.Stop.TheVariants.{Nvm, Ssd, Damaged}
 use Rattle.line_pages.specs.declared.touches.Accesses.{Accesses}
@@ -27,7 +28,7 @@ use Rattle.engine.specs.Commands.{shown}
 use Rattle.engine.specs.Engine.{StandsFor, Shows, IsTransaction}
 use Rattle.engine.specs.Scanning.{behind, ended, reply_by, scan_by, Gives}
 use Rattle.engine.specs.Steps.{Does, scan_replies, rows_left, calls_left}
-use Rattle.engine.proofs.CommandLaws.{transaction_by, handed_on}
+use Rattle.engine.proofs.CommandLaws.{transaction_by}
 
 -- the rows of each table of a store ascend
 ascend_in : {E : Type 0} (table : E → Table) (Has : E → Type 0) (name : List ℕ) → ((e : E) → Has e → Ascends 0 last_key (keys (table e).1)) → (es : List E) → Each Has es → (rows : List Row)
@@ -208,16 +209,23 @@ pub shows_between : (old between : Engine) (a : Device) (s : State) → between 
 shows_between old between a s is it = subst (λ (e : Engine). Shows e a s) (sym is) (shows_rested old between.book.accesses a s it)
 
 -- why it stopped, by the pages of either
-abbrev LookupCause : Engine → Device → List ℕ → Engine → Device → Stop → Type 0
-LookupCause old a buffer new b why = IsCause (λ e. IsTrue a.told → IsLookupDamage old.limits (shown old a).count (shown old a).current buffer e) (shown old a) (shown new b) why
+abbrev LookupDamage : Engine → Device → List ℕ → Evidence → Type 0
+LookupDamage old a buffer e = IsTrue a.told → IsLookupDamage old.limits (shown old a).count (shown old a).current buffer e
 
-cause_rested : (old : Engine) (accesses : Accesses) (a : Device) (buffer : List ℕ) (new : Engine) (b : Device) (why : Stop) → LookupCause (rested old accesses) a buffer new b why → LookupCause old a buffer new b why
-cause_rested old accesses a buffer new b Nvm h = h
-cause_rested old accesses a buffer new b Ssd h = h
-cause_rested old accesses a buffer new b (Damaged e) h = h
+abbrev LookupCause : {T : Type 0} → Engine → Device → List ℕ → Engine → Device → Result T Stop → Type 0
+LookupCause old a buffer new b r = HasCause (LookupDamage old a buffer) (shown old a) (shown new b) r
 
-pub cause_before : {T : Type 0} (old between : Engine) (a : Device) (buffer : List ℕ) (new : Engine) (b : Device) (r : Result T Stop) (why : Stop) → IsErr r × IsErrAnd r (λ found. found ≡ why) → between ≡ rested old between.book.accesses
-    → LookupCause between a buffer new b why → IfErr r (LookupCause old a buffer new b)
-cause_before {T} old between a buffer new b r why stopped is it =
-    subst (λ (x : Result T Stop). IfErr x (LookupCause old a buffer new b)) (sym (handed_on r why stopped))
-    (cause_rested old between.book.accesses a buffer new b why (subst (λ (e : Engine). LookupCause e a buffer new b why) is it))
+cause_rested : {T : Type 0} (old : Engine) (accesses : Accesses) (a : Device) (buffer : List ℕ) (new : Engine) (b : Device) (r : Result T Stop) → LookupCause (rested old accesses) a buffer new b r → LookupCause old a buffer new b r
+cause_rested old accesses a buffer new b (Ok v) it = record { failed = tt; kept = it.kept }
+cause_rested old accesses a buffer new b (Err Nvm) it = record { failed = it.failed; kept = tt }
+cause_rested old accesses a buffer new b (Err Ssd) it = record { failed = it.failed; kept = tt }
+cause_rested old accesses a buffer new b (Err (Damaged e)) it = record { failed = it.failed; kept = tt }
+
+pub cause_before : {T : Type 0} (old between : Engine) (a : Device) (buffer : List ℕ) (new : Engine) (b : Device) (r : Result T Stop) → between ≡ rested old between.book.accesses
+    → LookupCause between a buffer new b r → LookupCause old a buffer new b r
+cause_before {T} old between a buffer new b r is it =
+    cause_rested old between.book.accesses a buffer new b r (subst (λ (e : Engine). LookupCause {T = T} e a buffer new b r) is it)
+
+-- the same with another answer
+pub cause_ok : {T U : Type 0} (old : Engine) (a : Device) (buffer : List ℕ) (new : Engine) (b : Device) (v : T) (w : U) → LookupCause {T = T} old a buffer new b (Ok v) → LookupCause {T = U} old a buffer new b (Ok w)
+cause_ok old a buffer new b v w it = record { failed = tt; kept = it.kept }

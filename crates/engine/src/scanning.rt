@@ -1,8 +1,9 @@
 //! The rows of a scan, one by one.
-ghost use Rattle.std.specs.Prelude.{◌≡◌, ◌∷◌, ◌<◌, ◌≤◌, false, IsTrue, IfOk, IfErr, OnOk, OnErr};
-ghost use Rattle.line_pages.specs.Standing.{IsCause, last_count};
+ghost use Rattle.std.specs.Prelude.{◌≡◌, ◌∷◌, ◌<◌, ◌≤◌, false, IsTrue, IfOk, OnOk, OnErr};
+ghost use Rattle.line_pages.specs.Standing.{HasCause, last_count};
 ghost use Rattle.table_store.specs.Stored.{rows_of, IsLookupDamage};
 ghost use Rattle.table_store.specs.Scanning.{next_of};
+ghost use Rattle.transactions.specs.StoreStanding.{reach};
 ghost use Rattle.script.specs.Tables.{rows_or_none};
 ghost use Rattle.script.specs.Machine.{State, current as seen_tables};
 ghost use Rattle.engine.specs.Commands.{shown};
@@ -77,10 +78,11 @@ impl Engine {
         ensures gives { IfOk result (λ reply. Gives scan.old reply scan.new) }
         ensures fewer { OnOk result (calls_left scan.new < calls_left scan.old) }
         // why it stops
-        ensures cause { IfErr result (IsCause (λ e. IsTrue (W.Devices.standing world.old).told → IsLookupDamage self.old.limits (shown self.old (W.Devices.standing world.old)).count (shown self.old (W.Devices.standing world.old)).current self.new.work.page e) (shown self.old (W.Devices.standing world.old)) (shown self.new (W.Devices.standing world.new))) }
+        ensures cause { HasCause (λ e. IsTrue (W.Devices.standing world.old).told → IsLookupDamage self.old.limits (shown self.old (W.Devices.standing world.old)).count (shown self.old (W.Devices.standing world.old)).current self.new.work.page e) (shown self.old (W.Devices.standing world.old)) (shown self.new (W.Devices.standing world.new)) result }
         ensures same { OnErr result (scan.new ≡ scan.old) }
         // what it does
         ensures does { Does (λ s. s) self.old (W.Devices.standing world.old) self.new (W.Devices.standing world.new) result }
+        ensures same_reach { OnOk result (reach self.new.book ≡ reach self.old.book) }
     {
         self.rest_after(scan.count);
         let next = self.seek(world, scan)?;
@@ -101,8 +103,9 @@ impl Engine {
         requires { StandsFor self.old (W.Devices.standing world.old) }
         ensures reply { IsTrue (W.Devices.standing world.old).told → (s : State) → Shows self.old (W.Devices.standing world.old) s → IfOk result (λ next. reply_by scan.now next ≡ reply_by scan.now (next_of scan.now.from scan.now.to (rows_of scan.now.name (seen_tables s)))) }
         ensures left { IsTrue (W.Devices.standing world.old).told → (s : State) → Shows self.old (W.Devices.standing world.old) s → IfOk result (λ next. scan_by scan.now next ≡ scan_by scan.now (next_of scan.now.from scan.now.to (rows_of scan.now.name (seen_tables s)))) }
-        ensures cause { IfErr result (IsCause (λ e. IsTrue (W.Devices.standing world.old).told → IsLookupDamage self.old.limits (shown self.old (W.Devices.standing world.old)).count (shown self.old (W.Devices.standing world.old)).current self.new.work.page e) (shown self.old (W.Devices.standing world.old)) (shown self.new (W.Devices.standing world.new))) }
+        ensures cause { HasCause (λ e. IsTrue (W.Devices.standing world.old).told → IsLookupDamage self.old.limits (shown self.old (W.Devices.standing world.old)).count (shown self.old (W.Devices.standing world.old)).current self.new.work.page e) (shown self.old (W.Devices.standing world.old)) (shown self.new (W.Devices.standing world.new)) result }
         ensures does { Does (λ s. s) self.old (W.Devices.standing world.old) self.new (W.Devices.standing world.new) result }
+        ensures same_reach { OnOk result (reach self.new.book ≡ reach self.old.book) }
     {
         if scan.from > scan.to {
             return Ok(Next::End);

@@ -1,0 +1,4 @@
+pub mod RunLaws
+pub mod CauseLaws
+pub mod WriteLaws
+pub mod RowsLaws

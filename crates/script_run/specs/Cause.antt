@@ -5,21 +5,22 @@ use Rattle.line_pages.specs.declared.stop.Evidence.{Evidence}
 use Rattle.line_pages.specs.declared.stop.Stop.{Stop}
 use Rattle.line_pages.specs.declared.stop.Stop.TheVariants.{Nvm, Ssd, Damaged}
 use Rattle.engine.specs.declared.engine.Engine.{Engine}
-use Rattle.engine.specs.Engine.{engine_sizes}
+use Rattle.engine.specs.Engine.{engine_sizes, StandsFor}
 use Rattle.engine.specs.Causes.{IsDamage}
 use Rattle.script_run.specs.declared.stop.Halt.{Halt}
 use Rattle.script_run.specs.declared.stop.Halt.TheVariants.{Store, Source, Sink}
 
--- The engine stopped for damage: the evidence shows it of the engine and of the world as they stood when that call began, at a
--- moment whose state is still known. A page of the evidence stands in this buffer.
+-- The engine stopped for damage: at a moment of the world an engine of these sizes stood for the devices as they were then, and
+-- the evidence shows damage of them; a page of the evidence stands in this buffer.
 pub record Shown (page : List ℕ) (kept : Evidence) (engine : Engine) (new : Standing) : Type 0 where
   pub before : Engine
   pub at : Standing
   pub sizes : engine_sizes before ≡ engine_sizes engine
+  pub stands : StandsFor before at
   pub damage : IsDamage before at page kept
   pub told : at.told ≡ new.told
-  pub clock : at.clock ≤ new.clock
-  pub same : new.at at.clock ≡ now at
+  pub past : at.clock ≤ new.clock
+  pub same : now at ≡ new.at at.clock
 
 -- the count of the device or the stream rose, or there is damage, whose page is that of the engine
 abbrev pub StoreCaused : Stop → Standing → Engine → Standing → Type 0

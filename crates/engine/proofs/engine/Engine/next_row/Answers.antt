@@ -5,9 +5,11 @@ use Rattle.store_meaning.specs.Layout.{pages}
 use Rattle.store_laws.specs.ShownPages.{pages_in}
 use Rattle.devices.specs.World.{now}
 use Rattle.script.specs.Machine.{State, current}
+use Rattle.transactions.specs.StoreStanding.{reach}
+use Rattle.engine.specs.declared.engine.Engine.{Engine}
 use Rattle.engine.specs.Engine.{engine_sizes}
-use Rattle.engine.proofs.CommandLaws.{does_ok, does_err, store_shown}
-use Rattle.engine.proofs.ScanningLaws.{rows_ascend, goes_on, gives_by, fewer_by, does_before, stands_between, shows_between, cause_before}
+use Rattle.engine.proofs.CommandLaws.{does_ok, does_err, cause_err, store_shown}
+use Rattle.engine.proofs.ScanningLaws.{rows_ascend, goes_on, gives_by, fewer_by, does_before, stands_between, shows_between, cause_before, cause_ok}
 use Rattle.engine.proofs.engine.Engine.next_row.Goals as goal
 
 pub seek-requires : goal.seek-requires
@@ -21,8 +23,16 @@ returns-in_err-next-clause-does g c =
 
 pub returns-in_err-next-clause-cause : goal.returns-in_err-next-clause-cause
 returns-in_err-next-clause-cause g c =
-    cause_before c.args.self.now c.rest_after.new.self (g.W.Devices.standing c.args.world.now) _ c.seek.new.self (g.W.Devices.standing c.seek.new.world) c.from_residual.result c.in_err-next.field-0.0 c.from_residual.ensures c.rest_after.ensures
-    c.in_err-next.ensures.cause
+    cause_before c.args.self.now c.rest_after.new.self (g.W.Devices.standing c.args.world.now) _ c.seek.new.self (g.W.Devices.standing c.seek.new.world) c.from_residual.result c.rest_after.ensures
+    (cause_err _ _ _ c.from_residual.result c.in_err-next.field-0.0 c.from_residual.ensures c.in_err-next.ensures.cause)
+
+pub returns-clause-cause : goal.returns-clause-cause
+returns-clause-cause g c =
+    cause_before c.args.self.now c.rest_after.new.self (g.W.Devices.standing c.args.world.now) _ c.seek.new.self (g.W.Devices.standing c.seek.new.world) _ c.rest_after.ensures
+    (cause_ok c.rest_after.new.self (g.W.Devices.standing c.args.world.now) _ c.seek.new.self (g.W.Devices.standing c.seek.new.world) c.in_ok-next.next c.take.result c.in_ok-next.ensures.cause)
+
+pub returns-clause-same_reach : goal.returns-clause-same_reach
+returns-clause-same_reach g c = c.in_ok-next.ensures.same_reach ∙ ap (λ (e : Engine). reach e.book) c.rest_after.ensures
 
 pub returns-clause-does : goal.returns-clause-does
 returns-clause-does g c =

@@ -6,6 +6,7 @@ use Rattle.table_store.specs.declared.answer.Next.{Next}
 use Rattle.table_store.specs.declared.answer.Next.TheVariants as next
 use Rattle.script.specs.Machine.{State, current}
 use Rattle.engine.specs.Scanning.{reply_by, scan_by}
+use Rattle.engine.proofs.DoesLaws.{pages_reach}
 use Rattle.engine.proofs.TransactionLaws.{does_still}
 use Rattle.engine.proofs.CommandLaws.{on_device, does_fails, does_stays, cause_fails, fault_is, store_shown}
 use Rattle.engine.proofs.ScanningLaws.{ends_empty}
@@ -33,8 +34,8 @@ returns-in_err-next-clause-does g c =
 
 pub returns-in_err-next-clause-cause : goal.returns-in_err-next-clause-cause
 returns-in_err-next-clause-cause g c =
-    (cause_fails g.W.Devices.standing _ c.args.self.now.book c.scan_next.new.pages.book.now (g.W.Devices.standing c.args.world.now) _ c.scan_next.new.pages.dev.now _ _ _ _ _ _ c.from_residual.result c.in_err-next.field-0.0 (search rules) c.from_residual.ensures
-    (rw (c.over-store.ensures.same.0, c.over-store.ensures.same.1) at c.in_err-next.ensures.cause)).failed
+    cause_fails g.W.Devices.standing _ c.args.self.now.book c.scan_next.new.pages.book.now (g.W.Devices.standing c.args.world.now) _ c.scan_next.new.pages.dev.now _ _ _ _ _ _ c.from_residual.result c.in_err-next.field-0.0 (search rules) c.from_residual.ensures
+    (rw (c.over-store.ensures.same.0, c.over-store.ensures.same.1) at c.in_err-next.ensures.cause)
 
 pub returns-clause-does : goal.returns-clause-does
 returns-clause-does g c =
@@ -44,6 +45,11 @@ returns-clause-does g c =
     (rw (c.over-store.ensures.same.0, c.over-store.ensures.same.1) at c.scan_next.ensures.continues) (ap (λ x. (g.W.Devices.standing x).clock) c.over-store.ensures.before)
     c.in_ok-next.ensures.ready.0 (rw (c.over-store.ensures.same.0, c.over-store.ensures.same.1) at c.in_ok-next.ensures.keeps) (λ (s : State). s) c.in_ok-next.next
     (rw (c.over-store.ensures.same.0, c.over-store.ensures.same.1) at c.in_ok-next.ensures.steady) (λ told s shows. refl))
+
+pub returns-clause-same_reach : goal.returns-clause-same_reach
+returns-clause-same_reach g c =
+    pages_reach c.args.self.now.book c.scan_next.new.pages.book.now (g.W.Devices.standing c.args.world.now) (g.W.Devices.standing c.scan_next.new.pages.dev.now) _ _ _ _ _ _
+    (rw (c.over-store.ensures.same.0, c.over-store.ensures.same.1) at c.scan_next.ensures.continues) (ap (λ x. (g.W.Devices.standing x).clock) c.over-store.ensures.before)
 
 pub returns-clause-reply : goal.returns-clause-reply
 returns-clause-reply g c = λ told s shows.

@@ -1,0 +1,96 @@
+-- Why a run stops, by why its calls do.
+use Rattle.std.proofs.Common.{◌≡◌, ◌≤◌, ℕ, List, false, true, refl, sym, ap, ◌∙◌, subst, arith, IsTrue, Result, Ok, Err}
+use Rattle.std.specs.Prelude.{OnOk, IfErr, IsErr, IsErrAnd}
+use Rattle.std.proofs.lemmas.Result.{IfErr-weaker, on_ok_weaker}
+use Rattle.devices.specs.World.{Standing, Outside, Goes, GoesOn, WorldCall, OnlyChanges, NoFault, Rose, now}
+use Rattle.devices.proofs.JoinLaws.{NoFault-trans}
+use Rattle.line_pages.specs.declared.stop.Evidence.{Evidence}
+use Rattle.line_pages.specs.declared.stop.Stop.{Stop}
+use Rattle.line_pages.specs.declared.stop.Stop.TheVariants.{Nvm, Ssd, Damaged}
+use Rattle.line_pages.specs.Standing.{IsCause}
+use Rattle.engine.specs.declared.engine.Engine.{Engine}
+use Rattle.engine.specs.Commands.{shown}
+use Rattle.engine.specs.Causes.{IsDamage, Stops}
+use Rattle.engine.specs.Engine.{engine_sizes, StandsFor}
+use Rattle.script_run.specs.declared.stop.Halt.{Halt}
+use Rattle.script_run.specs.declared.stop.Halt.TheVariants.{Store, Source, Sink}
+use Rattle.script_run.specs.Cause.{Shown, StoreCaused, Caused, HasCause}
+
+-- ---- one call after another
+
+-- a count that rose later rose in all
+rose_then : (first middle last : ℕ) → middle ≡ first → Rose middle last → Rose first last
+rose_then first middle last same rose = subst (λ (n : ℕ). Rose n last) same rose
+
+caused_then : (a b c : Standing) (engine : Engine) (why : Halt) → NoFault a b → Caused why b engine c → Caused why a engine c
+caused_then a b c engine (Store Nvm) quiet it = rose_then a.nvm_faults b.nvm_faults c.nvm_faults quiet.nvm it
+caused_then a b c engine (Store Ssd) quiet it = rose_then a.ssd_faults b.ssd_faults c.ssd_faults quiet.ssd it
+caused_then a b c engine (Store (Damaged kept)) quiet it = it
+caused_then a b c engine Source quiet it = rose_then a.outside.source_faults b.outside.source_faults c.outside.source_faults quiet.source it
+caused_then a b c engine Sink quiet it = rose_then a.outside.sink_faults b.outside.sink_faults c.outside.sink_faults quiet.sink it
+
+-- calls that answered ok, and one more
+pub cause_then : {T : Type 0} {a b c : Standing} {engine : Engine} (r : Result T Halt) → NoFault a b → HasCause b engine c r → HasCause a engine c r
+cause_then {T} {a} {b} {c} {engine} r quiet it = record {
+  failed = IfErr-weaker r (λ why. Caused why b engine c) (λ why. Caused why a engine c) (λ why h. caused_then a b c engine why quiet h) it.failed;
+  ok = on_ok_weaker r (λ (later : NoFault b c). NoFault-trans quiet later) it.ok;
+}
+
+-- an error that `?` hands on
+pub cause_err : {T U : Type 0} {a b : Standing} {engine : Engine} (q : Result U Halt) (why : Halt) → IsErr q × IsErrAnd q (λ found. found ≡ why) → HasCause {T = T} a engine b (Err why) → HasCause {T = U} a engine b q
+cause_err (Ok v) why is it = let none : false ≡ true = is.0 in absurd (cc)
+cause_err {a = a} {b = b} {engine = engine} (Err found) why is it = record { failed = subst (λ (x : Halt). Caused x a engine b) (sym is.1) it.failed; ok = tt }
+
+-- ---- calls of an engine
+
+-- damage that was shown is shown later too
+pub shown_later : (page : List ℕ) (kept : Evidence) (engine : Engine) (a b : Standing) → GoesOn a b → Shown page kept engine a → Shown page kept engine b
+shown_later page kept engine a b goes it =
+    let early : it.at.clock ≤ a.clock = it.past in
+    let on : a.clock ≤ b.clock = goes.clock in
+    record {
+      before = it.before;
+      at = it.at;
+      sizes = it.sizes;
+      stands = it.stands;
+      damage = it.damage;
+      told = it.told ∙ sym goes.told;
+      past = omega arith;
+      same = it.same ∙ sym (goes.earlier it.at.clock early);
+    }
+
+stop_caused : (old : Engine) (a : Standing) (new : Engine) (b : Standing) (why : Stop) → StandsFor old a → Goes a b → engine_sizes new ≡ engine_sizes old
+    → IsCause (IsDamage old a new.work.page) (shown old a) (shown new b) why → StoreCaused why a new b
+stop_caused old a new b Nvm stands goes sizes it = it
+stop_caused old a new b Ssd stands goes sizes it = it
+stop_caused old a new b (Damaged kept) stands goes sizes it = record {
+  before = old;
+  at = a;
+  sizes = sym sizes;
+  stands = stands;
+  damage = it;
+  told = sym goes.told;
+  past = goes.clock;
+  same = sym (goes.earlier a.clock (omega arith));
+}
+
+module _ (old : Engine) (a : Standing) (new : Engine) (b : Standing) (stands : StandsFor old a) (goes : Goes a b) (sizes : engine_sizes new ≡ engine_sizes old) where
+  -- one that stopped
+  pub cause_stopped : {T U : Type 0} (q : Result U Halt) (why : Stop) → IsErr q × IsErrAnd q (λ found. found ≡ Store why) → Stops {T = T} old a new b (Err why) → HasCause {T = U} a new b q
+  cause_stopped {T} {U} q why is it =
+      cause_err {T = U} q (Store why) is (record { failed = stop_caused old a new b why stands goes sizes it.failed; ok = tt })
+
+  -- one that answered ok
+  pub quiet_step : {T : Type 0} (v : T) → Stops {T = T} old a new b (Ok v) → NoFault a b
+  quiet_step v it = record {
+    nvm = it.kept.0;
+    ssd = it.kept.1;
+    settings = ap (λ (o : Outside). o.settings_faults) goes.outside;
+    source = ap (λ (o : Outside). o.source_faults) goes.outside;
+    sink = ap (λ (o : Outside). o.sink_faults) goes.outside;
+  }
+
+-- ---- a write
+
+pub quiet_write : (a b : Standing) → WorldCall a b → OnlyChanges false false true a b → b.outside.sink_faults ≡ a.outside.sink_faults → NoFault a b
+quiet_write a b call rest same = record { nvm = call.nvm_faults; ssd = call.ssd_faults; settings = (rest.settings refl).1; source = (rest.input refl).1; sink = same }

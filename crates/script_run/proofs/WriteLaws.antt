@@ -1,0 +1,60 @@
+-- A whole write as it goes on.
+use Rattle.std.proofs.Common.{◌≡◌, ℕ, ◌+◌, ◌≤◌, List, ◌++◌, length, take, drop, Result, Ok, Err, IsErr, refl, sym, ◌∙◌, ap, arith, append_assoc, inl, inr, IsTrue}
+use Rattle.std.proofs.lemmas.List.{append-nil, take_all, drop-drop, length-drop}
+use Rattle.std.proofs.lemmas.Bool.{cases_lt}
+use Rattle.std.proofs.lemmas.Result.{IfOk-from_err}
+use Rattle.std.proofs.Math.Seq.{take-add}
+use Rattle.devices.specs.World.{Standing, GoesOn, Sends, sent, sent_at}
+use Rattle.script_run.specs.Sent.{Writes}
+
+-- some first part of the bytes was sent, and these are left
+pub record Far (bytes rest : List ℕ) (old mid : Standing) : Type 0 where
+  pub count : ℕ
+  pub left : rest ≡ drop count bytes
+  pub sent_now : sent mid ≡ sent old ++ take count bytes
+  pub part : (m : ℕ) → old.clock ≤ m → m ≤ mid.clock → (k : ℕ) × (sent_at mid m ≡ sent old ++ take k bytes)
+
+-- what a write of some of the bytes sent at a moment of it
+pub record Step (rest : List ℕ) (mid new : Standing) : Type 0 where
+  pub part : (m : ℕ) → mid.clock ≤ m → m ≤ new.clock → (k : ℕ) × (sent_at new m ≡ sent mid ++ take k rest)
+
+step_ok : {E : Type 0} (rest : List ℕ) (mid new : Standing) (result : Result ℕ E) → IsTrue mid.told → Sends mid new rest result → Step rest mid new
+step_ok rest mid new (Ok n) told sends = record { part = λ m low high. let at = (sends.within told).each m low high in (at.0, at.2) }
+step_ok rest mid new (Err e) told sends = record { part = λ m low high. (0, (sends.err told).each m low high ∙ sym (append-nil (sent mid))) }
+
+module _ (bytes : List ℕ) (old : Standing) where
+  pub far_start : Far bytes bytes old old
+  far_start = record {
+    count = 0;
+    left = refl;
+    sent_now = sym (append-nil (sent old));
+    part = λ m low high. let same : m ≡ old.clock = omega arith in (0, rw same (sym (append-nil (sent old))));
+  }
+
+  added : (k n : ℕ) → (sent old ++ take k bytes) ++ take n (drop k bytes) ≡ sent old ++ take (k + n) bytes
+  added k n = append_assoc (sent old) (take k bytes) (take n (drop k bytes)) ∙ ap (λ (l : List ℕ). sent old ++ l) (sym (take-add k n bytes))
+
+  module _ {E : Type 0} (rest : List ℕ) (mid new : Standing) (result : Result ℕ E) (far : Far bytes rest old mid) (goes : GoesOn mid new) (told : IsTrue mid.told) (sends : Sends mid new rest result) where
+    part_on : (m : ℕ) → old.clock ≤ m → m ≤ new.clock → (k : ℕ) × (sent_at new m ≡ sent old ++ take k bytes)
+    part_on m low high = elim (cases_lt mid.clock m) [
+      | inr before ↦ let was = far.part m low before in (was.0, goes.earlier_sent m before ∙ was.1)
+      | inl after ↦
+          let here = (step_ok rest mid new result told sends).part m (omega (arith, after)) high in
+          (far.count + here.0, here.1 ∙ ap (λ (l : List ℕ). l ++ take here.0 rest) far.sent_now ∙ ap (λ (l : List ℕ). (sent old ++ take far.count bytes) ++ take here.0 l) far.left ∙ added far.count here.0)
+    ]
+
+    pub far_ok : (n : ℕ) (next : List ℕ) → next ≡ drop n rest → sent new ≡ sent mid ++ take n rest → Far bytes next old new
+    far_ok n next is_next is = record {
+      count = far.count + n;
+      left = is_next ∙ ap (λ (l : List ℕ). drop n l) far.left ∙ drop-drop n far.count bytes;
+      sent_now = is ∙ ap (λ (l : List ℕ). l ++ take n rest) far.sent_now ∙ ap (λ (l : List ℕ). (sent old ++ take far.count bytes) ++ take n l) far.left ∙ added far.count n;
+      part = part_on;
+    }
+
+    pub far_err : {T F : Type 0} (r : Result T F) → IsErr r → Writes bytes old new r
+    far_err r is = record { ok = IfOk-from_err r _ is; part = part_on }
+
+  pub far_end : {T E : Type 0} (mid : Standing) (rest : List ℕ) → Far bytes rest old mid → length rest ≡ 0 → (value : T) → Writes {E = E} bytes old mid (Ok value)
+  far_end mid rest far none value =
+      let whole : take far.count bytes ≡ bytes = take_all far.count bytes (omega (arith, length-drop far.count bytes, ap length far.left, none)) in
+      record { ok = far.sent_now ∙ ap (λ (l : List ℕ). sent old ++ l) whole; part = far.part }
