@@ -1,9 +1,9 @@
--- A whole write as it goes on.
+-- A whole write as it goes on, and two of them.
 use Rattle.std.proofs.Common.{◌≡◌, ℕ, ◌+◌, ◌≤◌, List, ◌++◌, length, take, drop, Result, Ok, Err, IsErr, refl, sym, ◌∙◌, ap, arith, append_assoc, inl, inr, IsTrue}
-use Rattle.std.proofs.lemmas.List.{append-nil, take_all, drop-drop, length-drop}
+use Rattle.std.proofs.lemmas.List.{append-nil, take_all, take-append-le, drop-drop, length-drop}
 use Rattle.std.proofs.lemmas.Bool.{cases_lt}
-use Rattle.std.proofs.lemmas.Result.{IfOk-from_err}
-use Rattle.std.proofs.Math.Seq.{take-add}
+use Rattle.std.proofs.lemmas.Result.{IfOk-from_err, on_ok_weaker}
+use Rattle.std.proofs.Math.Seq.{take-add, take-append-add}
 use Rattle.devices.specs.World.{Standing, GoesOn, Sends, sent, sent_at}
 use Rattle.script_run.specs.Sent.{Writes}
 
@@ -58,3 +58,41 @@ module _ (bytes : List ℕ) (old : Standing) where
   far_end mid rest far none value =
       let whole : take far.count bytes ≡ bytes = take_all far.count bytes (omega (arith, length-drop far.count bytes, ap length far.left, none)) in
       record { ok = far.sent_now ∙ ap (λ (l : List ℕ). sent old ++ l) whole; part = far.part }
+
+-- ---- two writes
+
+-- a first part of the first bytes is one of all
+part_of_all : (xs ys : List ℕ) (k : ℕ) → (j : ℕ) × (take k xs ≡ take j (xs ++ ys))
+part_of_all xs ys k = elim (cases_lt (length xs) k) [
+  | inl past ↦ (length xs, take_all k xs (omega (arith, past)) ∙ sym (take-append-le (length xs) xs ys (omega arith) ∙ take_all (length xs) xs (omega arith)))
+  | inr within ↦ (k, sym (take-append-le k xs ys within))
+]
+
+-- a write that fails is one of more bytes
+pub writes_more : {T E U F : Type 0} {r : Result T E} (xs ys all : List ℕ) (old new : Standing) (q : Result U F) → IsErr q → xs ++ ys ≡ all → Writes xs old new r → Writes all old new q
+writes_more xs ys all old new q is same writes = record {
+  ok = IfOk-from_err q _ is;
+  part = λ m low high.
+      let part = writes.part m low high in
+      let more = part_of_all xs ys part.0 in
+      (more.0, part.1 ∙ ap (λ (l : List ℕ). sent old ++ l) (more.1 ∙ ap (take more.0) same));
+}
+
+-- one write after another
+pub writes_then : {T E U F : Type 0} {r : Result T E} (xs ys all : List ℕ) (old mid new : Standing) (q : Result U F) → sent mid ≡ sent old ++ xs → GoesOn mid new → xs ++ ys ≡ all → Writes xs old mid r → Writes ys mid new q → Writes all old new q
+writes_then xs ys all old mid new q first goes same writes later = record {
+  ok = on_ok_weaker q (λ (is : sent new ≡ sent mid ++ ys). is ∙ ap (λ (l : List ℕ). l ++ ys) first ∙ append_assoc (sent old) xs ys ∙ ap (λ (l : List ℕ). sent old ++ l) same) later.ok;
+  part = λ m low high. elim (cases_lt mid.clock m) [
+    | inr before ↦
+        let part = writes.part m low before in
+        let more = part_of_all xs ys part.0 in
+        (more.0, goes.earlier_sent m before ∙ part.1 ∙ ap (λ (l : List ℕ). sent old ++ l) (more.1 ∙ ap (take more.0) same))
+    | inl after ↦
+        let part = later.part m (omega (arith, after)) high in
+        (
+          length xs + part.0,
+          part.1 ∙ ap (λ (l : List ℕ). l ++ take part.0 ys) first ∙ append_assoc (sent old) xs (take part.0 ys)
+            ∙ ap (λ (l : List ℕ). sent old ++ l) (sym (take-append-add xs ys part.0) ∙ ap (take (length xs + part.0)) same),
+        )
+  ];
+}
