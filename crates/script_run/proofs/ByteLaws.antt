@@ -17,7 +17,7 @@ use Rattle.script_run.specs.declared.stop.Halt.{Halt}
 use Rattle.script_run.specs.declared.stop.Halt.TheVariants.{Store}
 use Rattle.script_run.specs.Cause.{IsFault}
 use Rattle.script_run.specs.Run.{Aim, Owes, AreSafe, Comes}
-use Rattle.script_run.proofs.RunLaws.{stands_still, still_safe, owes_still, idle_safe, comes_then, comes_ok, handed_on}
+use Rattle.script_run.proofs.RunLaws.{still_safe, owes_still, idle_safe, comes_then, comes_ok, comes_err, handed_on}
 
 -- ---- lines
 
@@ -62,6 +62,11 @@ comes_on first goes next = comes_then first.proceeds.safe goes (next first.s fir
 pub comes_well : {T U : Type 0} {aim : Aim} {engine : Engine} {xs : List (Option Command)} {old new : Standing} {r : Result T Halt} {v : T} (u : U) → r ≡ Ok v → Comes aim engine [] xs old new r → Comes aim engine [] xs old new (Ok u)
 comes_well u is comes = record { s = comes.s; proceeds = record { safe = comes.proceeds.safe; sound = tt; ok = comes_ok comes is } }
 
+-- a call that fails as another one did
+pub comes_stopped : {T U : Type 0} {aim : Aim} {engine after : Engine} {xs ys : List (Option Command)} {old new : Standing} {r : Result T Halt} (q : Result U Halt) (why : Halt) → IsErr q × IsErrAnd q (λ found. found ≡ why) → r ≡ Err why
+    → Comes aim engine [] xs old new r → Comes aim after [] ys old new q
+comes_stopped {T} {U} {aim} {engine} {after} {xs} {ys} {old} {new} q why is was comes = comes_err q why is (subst (λ (x : Result T Halt). Comes aim engine [] xs old new x) was comes)
+
 -- ---- a read of the script
 
 module _ (aim : Aim) (engine : Engine) (s : State) (cs : List (Option Command)) (old new : Standing) (stands : StandsFor engine old) (told : IsTrue old.told) (timed : IsTimed old)
@@ -80,9 +85,9 @@ module _ (aim : Aim) (engine : Engine) (s : State) (cs : List (Option Command)) 
   }
 
 -- one that fails
-pub read_fails : {T U : Type 0} {aim : Aim} {engine after : Engine} {xs ys : List (Option Command)} {old new : Standing} {v : U} {why : Halt} (q : Result T Halt) → IsErr q × IsErrAnd q (λ found. found ≡ why) → IsFault why
+pub read_fails : {T U : Type 0} {aim : Aim} {engine after : Engine} {xs ys : List (Option Command)} {old new : Standing} {v : U} (q : Result T Halt) (why : Halt) → IsErr q × IsErrAnd q (λ found. found ≡ why) → IsFault why
     → Comes aim engine [] xs old new (Ok v) → Comes aim after [] ys old new q
-read_fails {T} {U} {aim} {engine} {after} {xs} {ys} {old} {new} {v} {why} q is fault comes =
+read_fails {T} {U} {aim} {engine} {after} {xs} {ys} {old} {new} {v} q why is fault comes =
     subst (λ (r : Result T Halt). Comes aim after [] ys old new r) (sym (handed_on q why is)) (record { s = comes.s; proceeds = record { safe = comes.proceeds.safe; sound = fault; ok = tt } })
 
 pub quiet_read : (a b : Standing) → WorldCall a b → OnlyChanges false true false a b → b.outside.source_faults ≡ a.outside.source_faults → NoFault a b
@@ -91,8 +96,8 @@ quiet_read a b call rest same = record { nvm = call.nvm_faults; ssd = call.ssd_f
 -- ---- faults
 
 -- a fault that `?` hands on
-pub fault_err : {T : Type 0} {why : Halt} (q : Result T Halt) → IsErr q × IsErrAnd q (λ found. found ≡ why) → IsFault why → IfErr q IsFault
-fault_err {T} {why} q is fault = subst (λ (r : Result T Halt). IfErr r IsFault) (sym (handed_on q why is)) fault
+pub fault_err : {T : Type 0} (q : Result T Halt) (why : Halt) → IsErr q × IsErrAnd q (λ found. found ≡ why) → IsFault why → IfErr q IsFault
+fault_err {T} q why is fault = subst (λ (r : Result T Halt). IfErr r IsFault) (sym (handed_on q why is)) fault
 
 -- a fault of the engine is one of the run
 pub store_fault : (why : Stop) → IsStoreFault why → IsFault (Store why)

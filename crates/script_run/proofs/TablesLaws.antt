@@ -17,8 +17,7 @@ use Rattle.slotted_page.proofs.SlotLemmas.{in_heap_one}
 use Rattle.bplus_tree.specs.Tree.{IsTree, tree_rows}
 use Rattle.bplus_tree.proofs.TreeLaws.{Each-map}
 use Rattle.bplus_tree.proofs.OrderLaws.{tree_rows-ascend}
-use Rattle.table_store.specs.declared.entry.Entry.{Entry}
-use Rattle.table_store.specs.Catalog.{Table, entries, entry_rows, table_of}
+use Rattle.table_store.specs.Catalog.{Table, entries, table_of}
 use Rattle.table_store.specs.Stored.{HasTree}
 use Rattle.script.specs.Tables.{AreRows, AreTables}
 use Rattle.script.specs.Machine.{Open, State, tables_of_open}
@@ -67,16 +66,16 @@ ascending_are : (low : ℕ) (rows : List Row) → Ascends low last_key (keys row
 ascending_are low [] up values = tt
 ascending_are low (row ∷ rows) up values = ((omega (arith, up.1), values.0), ascending_are (row.0 + 1) rows up.2 values.1)
 
-entries_are : (count : ℕ) (lines : Lines) (all : List Entry) → Each (HasTree count lines) all → AreTables (map (table_of lines) all)
-entries_are count lines [] trees = tt
-entries_are count lines (entry ∷ rest) trees =
-    (
-      ascending_are 0 (entry_rows lines entry) (tree_rows-ascend count lines (entry.levels - 1) entry.root 0 last_key true trees.0.0) (tree_values count lines (entry.levels - 1) entry.root 0 last_key true trees.0.0),
-      entries_are count lines rest trees.1,
-    )
+tree_are : (count : ℕ) (lines : Lines) (levels root : ℕ) → IsTree count lines levels root 0 last_key true → AreRows (tree_rows lines levels root)
+tree_are count lines levels root is = ascending_are 0 (tree_rows lines levels root) (tree_rows-ascend count lines levels root 0 last_key true is) (tree_values count lines levels root 0 last_key true is)
+
+each_are : {E : Type 0} (table : E → Table) (Has : E → Type 0) → ((e : E) → Has e → AreRows (table e).1) → (es : List E) → Each Has es → AreTables (map table es)
+each_are table Has rows [] all = tt
+each_are table Has rows (e ∷ es) all = (rows e all.0, each_are table Has rows es all.1)
 
 pub holds_are_tables : {g : Sizes} {lines : Lines} {T : List Table} → HoldsTables g lines T → AreTables T
-holds_are_tables {g} {lines} {T} holds = subst AreTables holds.tables_are (entries_are (pages g) lines (entries lines) holds.store.trees)
+holds_are_tables {g} {lines} {T} holds =
+    subst AreTables holds.tables_are (each_are (table_of lines) (HasTree (pages g) lines) (λ e it. tree_are (pages g) lines (e.levels - 1) e.root it.0) (entries lines) holds.store.trees)
 
 copy_are : (tables : List Table) (t : Option Open) → AreTables (tables_of_open tables t) → IfSome t (λ (o : Open). AreTables o.tables)
 copy_are tables None are = tt

@@ -25,7 +25,7 @@ returns-in_err-answer-clause-safe g c = λ aim s told owes. (last g (goal.at.ret
 
 pub returns-in_err-answer-clause-sound : goal.returns-in_err-answer-clause-sound
 returns-in_err-answer-clause-sound g c = λ aim s told owes.
-    fault_err c.from_residual.result c.from_residual.ensures (c.in_err-answer.ensures.proceeds aim s [] told (owes_same (line_whole c.args.line.now c.requires.one) owes)).sound
+    fault_err c.from_residual.result _ c.from_residual.ensures (c.in_err-answer.ensures.proceeds aim s [] told (owes_same (line_whole c.args.line.now c.requires.one) owes)).sound
 
 -- and the end behind it
 ended : (g : given.Over) (c : After-finish g) (aim : Aim) (s : State) → IsTrue (g.W.Devices.standing c.args.world.now).told
@@ -51,11 +51,11 @@ returns-in_err-finish-clause-sound g c = λ aim s told owes.
     let at = goal.at.returns-in_err-finish-clause-sound g c in
     let told_mid : IsTrue (g.W.Devices.standing c.answer.new.world).told = subst IsTrue (sym c.answer.ensures.goes.told) told in
     let owed = proceeds_ok (last g at.After-answer aim s told owes) c.in_ok-answer.was in
-    fault_err c.from_residual-in_err-finish.result c.from_residual-in_err-finish.ensures (store_fault _ (c.in_err-finish.ensures.does.sound told_mid _ owed.shows))
+    fault_err c.from_residual-in_err-finish.result _ c.from_residual-in_err-finish.ensures (store_fault _ (c.in_err-finish.ensures.does.sound told_mid _ owed.shows))
 
 pub returns-clause-cause : goal.returns-clause-cause
 returns-clause-cause g c =
-    cause_then _ c.in_ok-answer.ensures.cause.ok (record { failed = tt; ok = quiet_step _ _ _ _ c.in_ok-answer.ensures.ready c.finish.ensures.does.goes c.finish.ensures.does.sizes tt c.in_ok-finish.ensures.cause })
+    cause_then _ c.in_ok-answer.ensures.cause.ok (record { failed = tt; ok = quiet_step c.answer.new.engine (g.W.Devices.standing c.answer.new.world) c.finish.new.self (g.W.Devices.standing c.finish.new.world) c.in_ok-answer.ensures.ready c.finish.ensures.does.goes c.finish.ensures.does.sizes tt c.in_ok-finish.ensures.cause })
 
 pub returns-clause-safe : goal.returns-clause-safe
 returns-clause-safe g c = λ aim s told owes.

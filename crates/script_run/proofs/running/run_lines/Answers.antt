@@ -11,9 +11,9 @@ use Rattle.script_run.specs.Run.{Aim, Owes, AreSafe, Comes}
 use Rattle.devices.proofs.JoinLaws.{Stays-now}
 use Rattle.std.specs.Prelude.{IfErr}
 use Rattle.script_run.specs.Cause.{IsFault}
-use Rattle.script_run.proofs.RunLaws.{stands_still, safe_then, comes_err}
+use Rattle.script_run.proofs.RunLaws.{stands_still, safe_then}
 use Rattle.script_run.proofs.CauseLaws.{cause_then, cause_err}
-use Rattle.script_run.proofs.ByteLaws.{owes_same, line_last, comes_same, comes_on, comes_well, idle, fault_err, read_comes}
+use Rattle.script_run.proofs.ByteLaws.{owes_same, line_last, comes_same, comes_on, comes_well, comes_stopped, idle, fault_err, read_comes}
 use Rattle.script_run.proofs.running.run_lines.Given as given
 use Rattle.script_run.proofs.running.run_lines.Goals.{After-take_some, After-end_run, After-read_script, After-end_run-2}
 use Rattle.script_run.proofs.running.run_lines.Goals as goal
@@ -63,7 +63,7 @@ returns-in_err-count-clause-safe g c = λ aim s told owes. (took g (goal.at.retu
 
 pub returns-in_err-count-clause-sound : goal.returns-in_err-count-clause-sound
 returns-in_err-count-clause-sound g c = λ aim s told owes.
-    (comes_err {after = c.take_some.new.engine} {ys = []} c.from_residual.result _ c.from_residual.ensures (took g (goal.at.returns-in_err-count-clause-sound g c).After-take_some aim s told owes)).proceeds.sound
+    (comes_stopped {after = c.take_some.new.engine} {ys = []} c.from_residual.result _ c.from_residual.ensures c.in_err-count.was (took g (goal.at.returns-in_err-count-clause-sound g c).After-take_some aim s told owes)).proceeds.sound
 
 pub returns-in_err-count-clause-cause : goal.returns-in_err-count-clause-cause
 returns-in_err-count-clause-cause g c = cause_then _ c.loop-left.invariant.no_fault (cause_err c.from_residual.result _ c.from_residual.ensures c.in_err-count.ensures.cause)
@@ -116,7 +116,7 @@ pub returns-in_err-read_script-clause-safe : goal.returns-in_err-read_script-cla
 returns-in_err-read_script-clause-safe g c = λ aim s told owes. (read g (goal.at.returns-in_err-read_script-clause-safe g c).After-read_script aim s told owes).proceeds.safe
 
 pub returns-in_err-read_script-clause-sound : goal.returns-in_err-read_script-clause-sound
-returns-in_err-read_script-clause-sound g c = λ aim s told owes. fault_err c.from_residual-in_err-read_script.result c.from_residual-in_err-read_script.ensures c.in_err-read_script.ensures.fault
+returns-in_err-read_script-clause-sound g c = λ aim s told owes. fault_err c.from_residual-in_err-read_script.result _ c.from_residual-in_err-read_script.ensures c.in_err-read_script.ensures.fault
 
 pub returns-then-branch-gt0-clause-cause : goal.returns-then-branch-gt0-clause-cause
 returns-then-branch-gt0-clause-cause g c = record { failed = tt; ok = NoFault-trans c.loop-left.invariant.no_fault (c.in_ok-read_script.ensures.cause c.loop-left.engine).ok }
@@ -124,8 +124,8 @@ returns-then-branch-gt0-clause-cause g c = record { failed = tt; ok = NoFault-tr
 pub returns-then-branch-gt0-clause-safe : goal.returns-then-branch-gt0-clause-safe
 returns-then-branch-gt0-clause-safe g c = λ aim s told owes. (read g (goal.at.returns-then-branch-gt0-clause-safe g c).After-read_script aim s told owes).proceeds.safe
 
-pub end_run-2-requires-clause-ready : goal.end_run-2-requires-clause-ready
-end_run-2-requires-clause-ready g c = stands_still c.loop-left.engine _ _ c.read_script.ensures.call.goes (Stays-now c.read_script.ensures.call.goes c.read_script.ensures.call.stays) c.loop-left.invariant.ready
+pub end_run-requires-2-clause-ready : goal.end_run-requires-2-clause-ready
+end_run-requires-2-clause-ready g c = stands_still c.loop-left.engine _ _ c.read_script.ensures.call.goes (Stays-now c.read_script.ensures.call.goes c.read_script.ensures.call.stays) c.loop-left.invariant.ready
 
 -- and the last line behind it
 last_read : (g : given.Over) (c : After-end_run-2 g) (aim : Aim) (s : State) → IsTrue (g.W.Devices.standing c.args.world.now).told

@@ -1,5 +1,5 @@
 -- A line feed has the line answered; another byte is kept where there is room.
-use Rattle.std.proofs.Common.{rules, arith, ◌≡◌, ◌≤◌, [], ◌++◌, length, subst, sym, ◌∙◌, ap}
+use Rattle.std.proofs.Common.{rules, arith, ◌≡◌, ◌≤◌, [], ◌++◌, length, Ok, subst, sym, ◌∙◌, ap}
 use Rattle.std.proofs.lemmas.Bool.Decides.{nat_tests}
 use Rattle.script.specs.Grammar.{command_in, commands}
 use Rattle.texts.specs.Lines.{IsOneLine}
@@ -16,7 +16,7 @@ returns-in_ok-answer-clause-comes g c = λ aim s more told owes.
     let line : c.args.kept.now.items ≡ c.as_slice.result.now = search rules in
     let empty : [] ≡ c.clear.new.self.items = search rules in
     let first = line_ends c.args.kept.now.items more c.args.byte c.requires.one c.if-byte-eq-LINE_FEED.true ∙ ap (λ l. command_in l ++ commands more) line in
-    comes_same (ap (λ l. commands (l ++ more)) empty) (comes_of (c.in_ok-answer.ensures.proceeds aim s (commands more) told (owes_same first owes)))
+    comes_same {r = Ok tt} (ap (λ l. commands (l ++ more)) empty) (comes_of {r = Ok tt} (c.in_ok-answer.ensures.proceeds aim s (commands more) told (owes_same first owes)))
 
 pub returns-then-not-is_full-clause-one : goal.returns-then-not-is_full-clause-one
 returns-then-not-is_full-clause-one g c = subst IsOneLine (sym c.push.ensures.items) (IsOneLine-push c.requires.one c.if-byte-eq-LINE_FEED.false)

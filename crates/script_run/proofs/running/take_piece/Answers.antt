@@ -7,9 +7,8 @@ use Rattle.devices.proofs.JoinLaws.{GoesOn-refl, NoFault-refl, NoFault-trans}
 use Rattle.script.specs.Grammar.{commands}
 use Rattle.script.specs.Machine.{State}
 use Rattle.script_run.specs.Run.{Aim, Owes, Comes}
-use Rattle.script_run.proofs.RunLaws.{comes_err}
 use Rattle.script_run.proofs.CauseLaws.{cause_then, cause_err}
-use Rattle.script_run.proofs.ByteLaws.{owes_same, comes_same, comes_on, comes_well, idle}
+use Rattle.script_run.proofs.ByteLaws.{owes_same, comes_same, comes_on, comes_well, comes_stopped, idle}
 use Rattle.script_run.proofs.running.take_piece.Given as given
 use Rattle.script_run.proofs.running.take_piece.Goals.{After-take_byte}
 use Rattle.script_run.proofs.running.take_piece.Goals as goal
@@ -41,7 +40,7 @@ returns-in_err-take_byte-clause-cause g c = cause_then _ c.loop-byte.invariant.n
 
 pub returns-in_err-take_byte-clause-comes : goal.returns-in_err-take_byte-clause-comes
 returns-in_err-take_byte-clause-comes g c = λ aim s more told owes.
-    comes_err c.from_residual.result _ c.from_residual.ensures (comes g (goal.at.returns-in_err-take_byte-clause-comes g c).After-take_byte aim s more told owes)
+    comes_stopped c.from_residual.result _ c.from_residual.ensures c.in_err-take_byte.was (comes g (goal.at.returns-in_err-take_byte-clause-comes g c).After-take_byte aim s more told owes)
 
 pub loop-byte-preserved : goal.loop-byte-preserved
 loop-byte-preserved g c =

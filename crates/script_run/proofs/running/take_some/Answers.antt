@@ -4,10 +4,10 @@ use Rattle.devices.proofs.MomentLaws.{GoesOn-trans}
 use Rattle.script.specs.Grammar.{commands}
 use Rattle.script.specs.Machine.{State}
 use Rattle.script_run.specs.Run.{Aim, Owes, Comes}
-use Rattle.devices.proofs.JoinLaws.{Stays-now}
-use Rattle.script_run.proofs.RunLaws.{stands_still, comes_err}
+use Rattle.devices.proofs.JoinLaws.{Stays-now, NoFault-trans}
+use Rattle.script_run.proofs.RunLaws.{stands_still}
 use Rattle.script_run.proofs.CauseLaws.{cause_then, cause_err}
-use Rattle.script_run.proofs.ByteLaws.{owes_same, comes_on, comes_well, read_comes, read_fails}
+use Rattle.script_run.proofs.ByteLaws.{owes_same, comes_on, comes_well, comes_stopped, read_comes, read_fails}
 use Rattle.script_run.proofs.running.take_some.Given as given
 use Rattle.script_run.proofs.running.take_some.Goals.{After-read_script, After-take_piece}
 use Rattle.script_run.proofs.running.take_some.Goals as goal
@@ -23,7 +23,7 @@ read g c aim s told owes = read_comes aim _ s _ _ _ c.requires.ready told (g.met
 
 pub returns-in_err-count-clause-comes : goal.returns-in_err-count-clause-comes
 returns-in_err-count-clause-comes g c = λ aim s told owes.
-    read_fails c.from_residual.result c.from_residual.ensures c.in_err-count.ensures.fault (read g (goal.at.returns-in_err-count-clause-comes g c).After-read_script aim s told owes)
+    read_fails c.from_residual.result _ c.from_residual.ensures c.in_err-count.ensures.fault (read g (goal.at.returns-in_err-count-clause-comes g c).After-read_script aim s told owes)
 
 -- and then the piece is taken
 took : (g : given.Over) (c : After-take_piece g) (aim : Aim) → IsTrue (g.W.Devices.standing c.args.world.now).told
@@ -43,7 +43,10 @@ returns-in_err-take_piece-clause-cause g c =
 pub returns-in_err-take_piece-clause-comes : goal.returns-in_err-take_piece-clause-comes
 returns-in_err-take_piece-clause-comes g c = λ aim s told owes.
     let at = goal.at.returns-in_err-take_piece-clause-comes g c in
-    comes_err c.from_residual-in_err-take_piece.result _ c.from_residual-in_err-take_piece.ensures (took g at.After-take_piece aim told (read g at.After-read_script aim s told owes))
+    comes_stopped c.from_residual-in_err-take_piece.result _ c.from_residual-in_err-take_piece.ensures c.in_err-take_piece.was (took g at.After-take_piece aim told (read g at.After-read_script aim s told owes))
+
+pub returns-clause-cause : goal.returns-clause-cause
+returns-clause-cause g c = record { failed = tt; ok = NoFault-trans (c.in_ok-count.ensures.cause c.args.engine.now).ok c.in_ok-take_piece.ensures.cause.ok }
 
 pub returns-clause-comes : goal.returns-clause-comes
 returns-clause-comes g c = λ aim s told owes.
