@@ -1,1 +1,2 @@
 pub mod DamageText
+pub mod Laws

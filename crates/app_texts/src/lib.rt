@@ -1,14 +1,12 @@
-//! The text of damage.
+//! The text of damage: what was kept of a failed check, line by line, for a reader who makes the check again.
 #![tactic(auto)]
 
-use arrayvec::ArrayVec;
-use line_pages::Evidence;
-use ssd_model::PageBuf;
+mod content;
+mod damage;
+mod laws;
+#[cfg(test)]
+mod tests;
+mod writing;
 
-pub fn damage_lines(_evidence: &Evidence) -> usize {
-    0
-}
-
-pub fn damage_line(_evidence: &Evidence, _page: &PageBuf, _at: usize) -> ArrayVec<u8, 160> {
-    ArrayVec::new()
-}
+pub use damage::{damage_line, damage_lines};
+pub use laws::damage_stands_aside;

@@ -1,9 +1,9 @@
 -- The rows of a scan, as they are sent one by one.
-use Rattle.std.proofs.Common.{◌≡◌, inl, inr, ⊎_elim, ℕ, ◌+◌, ◌<◌, ◌≤◌, min, Bool, true, false, cond, List, [], ◌∷◌, ◌++◌, length, map, filter, Result, Ok, Err, Option, Some, None, refl, sym, ◌∙◌, ap, subst, arith, length-append, length-map, IsTrue}
+use Rattle.std.proofs.Common.{◌≡◌, inl, inr, ⊎_elim, ℕ, ◌+◌, ◌<◌, ◌≤◌, min, Bool, true, false, cond, List, [], ◌∷◌, ◌++◌, length, map, filter, Result, Ok, Err, Option, Some, None, refl, sym, ◌∙◌, ap, subst, arith, length-append, IsTrue}
 use Rattle.std.specs.Prelude.{not, ◌&&◌, ◌||◌, nat_le, bytes_eq, unwrap_or}
 use Rattle.std.specs.List.{list_all, list_any}
 use Rattle.std.proofs.lemmas.Bool.{cases_Bool, and_parts}
-use Rattle.std.proofs.lemmas.List.{append-nil}
+use Rattle.std.proofs.lemmas.List.{append-nil, length-map}
 use Rattle.std.proofs.lemmas.List.Filters.{length-filter_both}
 use Rattle.std.proofs.lemmas.List.Folds.{list_any-append}
 use Rattle.devices.specs.World.{Standing, GoesOn, IsTimed, last_count}
@@ -16,7 +16,6 @@ use Rattle.line_pages.specs.Standing.{HasCause as HasStopCause}
 use Rattle.slotted_page.specs.Rows.{Row, Each}
 use Rattle.store_meaning.specs.Layout.{Sizes, pages}
 use Rattle.table_store.specs.declared.limits.Limits.{Limits}
-use Rattle.table_store.specs.declared.entry.Entry.{Entry}
 use Rattle.table_store.specs.Catalog.{Table, entries, tables, table_of, name_of, entry_rows, is_entry, names_differ, catalog_checks}
 use Rattle.table_store.specs.Stored.{IsStore, HasTree, rows_of, IsLookupDamage}
 use Rattle.table_store.proofs.CatalogLaws.{AllHold, all_hold, fits_entry}
@@ -37,34 +36,37 @@ use Rattle.engine.specs.declared.engine.Engine.{Engine}
 use Rattle.engine.specs.declared.scan.Scan.{Scan}
 use Rattle.engine.specs.Commands.{shown}
 use Rattle.engine.specs.Causes.{Stops}
-use Rattle.engine.specs.Engine.{StandsFor}
-use Rattle.engine.specs.Holds.{HoldsTables}
+use Rattle.engine.specs.Engine.{engine_sizes}
+use Rattle.engine.specs.Holds.{HoldsTables, bounds_in}
 use Rattle.engine.specs.Scanning.{behind, ended, Gives}
-use Rattle.engine.specs.Steps.{Does, rows_left, scan_replies}
+use Rattle.engine.specs.Steps.{Does, rows_left, scan_replies, after_line}
 use Rattle.script_run.specs.Run.{Aim, Owes, AreSafe, Proceeds, IsFew}
-use Rattle.script_run.proofs.RunLaws.{does_safe, does_owes, safe_then}
+use Rattle.script_run.proofs.RunLaws.{does_safe, does_owes, safe_then, answered}
 
 -- ---- few rows
 
--- a table of a store has at most 1,000,000 rows
-few_in : (limits : Limits) (count : ℕ) (lines : Lines) (name : List ℕ) (es : List Entry) → list_all (is_entry limits lines) es ≡ true → Each (HasTree count lines) es
-    → length (unwrap_or (rows_of name (map (table_of lines) es)) []) ≤ limits.rows
-few_in limits count lines name [] ok trees = omega arith
-few_in limits count lines name (e ∷ es) ok trees =
-    let parts = and_parts (is_entry limits lines e) (list_all (is_entry limits lines) es) ok in
-    elim (cases_Bool (bytes_eq (name_of e) name)) [
-      | inl y ↦
-          let counted : length (entry_rows lines e) ≡ e.rows = trees.0.1 in
-          let few : e.rows ≤ limits.rows = (fits_entry limits (high_of lines) e parts.0).rows in
-          rw y (omega (arith, counted, few))
-      | inr n ↦ rw n (few_in limits count lines name es parts.1 trees.1)
+-- of a list of tables each has few
+few_in : {E : Type 0} (table : E → Table) (ok : E → Bool) (Has : E → Type 0) (most : ℕ) (name : List ℕ) → ((e : E) → ok e ≡ true → Has e → length (table e).1 ≤ most) → (es : List E) → list_all ok es ≡ true → Each Has es
+    → length (unwrap_or (rows_of name (map table es)) []) ≤ most
+few_in table ok Has most name few [] all each = omega arith
+few_in table ok Has most name few (e ∷ es) all each =
+    let parts = and_parts (ok e) (list_all ok es) all in
+    elim (cases_Bool (bytes_eq (table e).0 name)) [
+      | inl y ↦ rw y (few e parts.0 each.0)
+      | inr n ↦ rw n (few_in table ok Has most name few es parts.1 each.1)
     ]
 
+-- a table of a store has at most 1,000,000 rows
 few_stored : (limits : Limits) (count : ℕ) (lines : Lines) (name : List ℕ) → IsStore limits count lines → length (rows_or_none name (tables lines)) ≤ limits.rows
 few_stored limits count lines name store =
     let held : AllHold (catalog_checks limits count lines) = all_hold (catalog_checks limits count lines) store.catalog in
     let ok = and_parts (list_all (is_entry limits lines) (entries lines)) (names_differ (map name_of (entries lines))) held.1.1.1.1.0 in
-    few_in limits count lines name (entries lines) ok.0 store.trees
+    few_in (table_of lines) (is_entry limits lines) (HasTree count lines) limits.rows name
+    (λ e is tree.
+    let few : e.rows ≤ limits.rows = (fits_entry limits (high_of lines) e is).rows in
+    let counted : length (entry_rows lines e) ≡ e.rows = tree.1 in
+    omega (arith, few, counted))
+    (entries lines) ok.0 store.trees
 
 pub few_held : (g : Sizes) (lines : Lines) (T : List Table) (name : List ℕ) → HoldsTables g lines T → length (rows_or_none name T) ≤ 1000000
 few_held g lines T name holds =
@@ -81,6 +83,9 @@ few_left scan rows =
 -- so a scan that begins has few
 pub few_begun : (scan : Scan) (rows : List Row) → scan.count ≡ 0 → length rows ≤ 1000000 → IsFew scan rows
 few_begun scan rows none few = let left : length (rows_left scan rows) ≤ length rows = few_left scan rows in omega (arith, none, few, left)
+
+pub few_count : (scan : Scan) (rows : List Row) → IsFew scan rows → scan.count < last_count
+few_count scan rows few = let less : scan.count + length (rows_left scan rows) < last_count = few in omega (arith, less)
 
 -- ---- one row more
 
@@ -119,6 +124,10 @@ few_next scan next rows (reply.Committed n) still few gives is = absurd gives
 few_next scan next rows reply.Aborted still few gives is = absurd gives
 few_next scan next rows (reply.Refused r) still few gives is = absurd gives
 
+-- at the end nothing is left
+pub none_left : (scan : Scan) (rows : List Row) → scan.over ≡ true → text (scan_replies scan rows) ≡ []
+none_left scan rows over = ap (λ (b : Bool). text (cond b [] (given (rows_left scan rows) ++ reply.Finish (scan.count + length (rows_left scan rows)) ∷ []))) over
+
 pub same_name : (scan next : Scan) (r : Reply) → Gives scan r next → next.name ≡ scan.name
 same_name scan next (reply.Row key value) gives = ap (λ (x : Scan). x.name) gives.2
 same_name scan next (reply.Finish n) gives = ap (λ (x : Scan). x.name) gives.1
@@ -144,9 +153,11 @@ module _ (aim : Aim) (engine : Engine) (s : State) (scan : Scan) (rows : List Ro
   asked_safe r does = safe_then gave.safe (Goes-on does.goes) (does_safe aim engine after s (text (scan_replies scan rows)) commands mid gave.owes (λ (x : State). x) new r refl timed told does)
 
   -- and given
-  pub asked_owes : (r : Reply) (next : Scan) → Does (λ (x : State). x) engine mid after new (Ok r) → scan_replies scan rows ≡ r ∷ scan_replies next rows → Owes aim after s (reply_text r ++ text (scan_replies next rows)) commands new
-  asked_owes r next does is =
-      subst (λ (l : List Reply). Owes aim after s (text l) commands new) is (does_owes aim engine after s (text (scan_replies scan rows)) commands mid gave.owes new r timed told does)
+  pub asked_owes : (r : Reply) (next : Scan) (bytes : List ℕ) → Does (λ (x : State). x) engine mid after new (Ok r) → scan_replies scan rows ≡ r ∷ scan_replies next rows → reply_text r ≡ bytes
+      → Owes aim after s (bytes ++ text (scan_replies next rows)) commands new
+  asked_owes r next bytes does is said =
+      subst (λ (l : List ℕ). Owes aim after s (l ++ text (scan_replies next rows)) commands new) said
+      (subst (λ (l : List Reply). Owes aim after s (text l) commands new) is (does_owes aim engine after s (text (scan_replies scan rows)) commands mid gave.owes new r timed told does))
 
   -- and sent
   pub sent_row : {T : Type 0} (r : Reply) (next : Scan) (last : Standing) (v : T) → scan.over ≡ false → Gives scan r next → Does (λ (x : State). x) engine mid after new (Ok r) → scan_replies scan rows ≡ r ∷ scan_replies next rows
@@ -222,3 +233,20 @@ scan_still bounds s line scan rows still is = by_silence (is_silent line) (sym (
     by_silence : (b : Bool) → list_any is_end (run.replies (machine bounds) s (cond b [] (command_of line ∷ []))) ≡ true → run.state_after (machine bounds) s (cond b [] (command_of line ∷ [])) ≡ s
     by_silence true h = no_end h
     by_silence false h = leaves_step bounds s (command_of line) (sym (ap (list_any is_end) (append-nil (step bounds s (command_of line)).1)) ∙ h)
+
+-- A line that leads to a scan: its replies are owed over the tables that stand behind it, and there are few.
+module _ (aim : Aim) (engine after : Engine) (s : State) (line : List ℕ) (commands : List (Option Command)) (old : Standing) (owes : Owes aim engine s [] (command_in line ++ commands) old)
+    (new : Standing) (scan : Scan) (timed : IsTimed old) (told : IsTrue old.told) where
+  abbrev behind_line : State
+  behind_line = after_line engine (command_in line) s
+
+  pub scan_owed : {T : Type 0} (x : T) → Does (after_line engine (command_in line)) engine old after new (Ok x) → scan.over ≡ false
+      → scan_replies scan (rows_or_none scan.name (current s)) ≡ run.replies (machine (bounds_in (engine_sizes engine))) s (command_in line)
+      → Owes aim after (after_line engine (command_in line) s) (text (scan_replies scan (rows_or_none scan.name (current (after_line engine (command_in line) s))))) commands new
+  scan_owed x does still is =
+      let same = scan_still (bounds_in (engine_sizes engine)) s line scan (rows_or_none scan.name (current s)) still is in
+      answered aim engine after s line commands old owes new x (text (scan_replies scan (rows_or_none scan.name (current behind_line)))) timed told does
+      (ap text (sym is) ∙ ap (λ (t : State). text (scan_replies scan (rows_or_none scan.name (current t)))) (sym same))
+
+  pub scan_few : {bytes : List ℕ} → Owes aim after (after_line engine (command_in line) s) bytes commands new → scan.count ≡ 0 → IsFew scan (rows_or_none scan.name (current (after_line engine (command_in line) s)))
+  scan_few owed none = few_begun scan (rows_or_none scan.name (current behind_line)) none (few_held _ _ (current behind_line) scan.name owed.shows.seen)

@@ -9,6 +9,7 @@ use Rattle.devices.specs.State.{State as Devices, Image, Leaves, current as cont
 use Rattle.devices.specs.World.{Standing, GoesOn, WorldCall, IsTimed, now, sent, sent_at}
 use Rattle.devices.proofs.MomentLaws.{Goes-sent}
 use Rattle.line_pages.specs.declared.stop.Stop.{Stop}
+use Rattle.line_pages.specs.declared.stop.Stop.TheVariants.{Nvm, Ssd, Damaged}
 use Rattle.store_meaning.specs.Layout.{Sizes, nvm_lines, ssd_blocks}
 use Rattle.store_laws.specs.ShownPages.{pages_in, committed_in}
 use Rattle.transactions.specs.StoreStanding.{Stands, book_sizes}
@@ -29,12 +30,13 @@ use Rattle.script.proofs.MachineLaws.{tells, step_keeps}
 use Rattle.script.proofs.ScriptLaws.{IsState-line, acked-step}
 use Rattle.script.proofs.ValuesLaws.{IsState}
 use Rattle.engine.specs.declared.engine.Engine.{Engine}
-use Rattle.engine.specs.Engine.{engine_sizes, StandsFor, IsSteadyFor, Shows}
+use Rattle.engine.specs.Engine.{engine_sizes, StandsFor, IsSteadyFor, Shows, IsFault as IsStopFault}
 use Rattle.engine.specs.Holds.{bounds_in, HoldsTables, InOrder}
 use Rattle.engine.specs.Answers.{closed}
 use Rattle.engine.specs.Steps.{Does, after_line}
 use Rattle.engine.proofs.HoldsLaws.{image_in_order, open_image}
 use Rattle.script_run.specs.declared.stop.Halt.{Halt}
+use Rattle.script_run.specs.declared.stop.Halt.TheVariants.{Store}
 use Rattle.script_run.specs.Cause.{IsFault}
 use Rattle.script_run.specs.Sent.{Writes}
 use Rattle.script_run.specs.Run.{Aim, Owes, IsSafe, AreSafe, Proceeds, Comes, IsDone}
@@ -228,6 +230,18 @@ pub proceeds_err : {T U : Type 0} {aim : Aim} {engine after : Engine} {s t : Sta
     → Proceeds {T = T} aim engine s bytes xs old new (Err why) → Proceeds {T = U} aim after t more ys old new q
 proceeds_err {T} {U} {aim} {engine} {after} {s} {t} {bytes} {more} {xs} {ys} {old} {new} q why is proceeds =
     subst (λ (x : Result U Halt). Proceeds {T = U} aim after t more ys old new x) (sym (handed_on q why is)) (record { safe = proceeds.safe; sound = proceeds.sound; ok = tt })
+
+-- a fault of an engine is one of the run
+fault_halt : (why : Stop) → IsStopFault why → IsFault (Store why)
+fault_halt Nvm h = tt
+fault_halt Ssd h = tt
+fault_halt (Damaged kept) h = h
+
+-- a call of an engine that stops, of which the stop is handed on
+pub proceeds_stop : {T : Type 0} {aim : Aim} {engine : Engine} {s : State} {bytes : List ℕ} {commands : List (Option Command)} {old new : Standing} (q : Result T Halt) (why : Stop) → IsErr q × IsErrAnd q (λ found. found ≡ Store why)
+    → AreSafe aim old new → IsStopFault why → Proceeds {T = T} aim engine s bytes commands old new q
+proceeds_stop {T} {aim} {engine} {s} {bytes} {commands} {old} {new} q why is safe fault =
+    subst (λ (x : Result T Halt). Proceeds {T = T} aim engine s bytes commands old new x) (sym (handed_on q (Store why) is)) (record { safe = safe; sound = fault_halt why fault; ok = tt })
 
 -- ---- the same with the state left open
 

@@ -88,11 +88,10 @@ writes_then xs ys all old mid new q first goes same writes later = record {
         let more = part_of_all xs ys part.0 in
         (more.0, goes.earlier_sent m before ∙ part.1 ∙ ap (λ (l : List ℕ). sent old ++ l) (more.1 ∙ ap (take more.0) same))
     | inl after ↦
-        let part = later.part m (omega (arith, after)) high in
-        (
+        let part = later.part m (omega (arith, after)) high in (
           length xs + part.0,
           part.1 ∙ ap (λ (l : List ℕ). l ++ take part.0 ys) first ∙ append_assoc (sent old) xs (take part.0 ys)
-            ∙ ap (λ (l : List ℕ). sent old ++ l) (sym (take-append-add xs ys part.0) ∙ ap (take (length xs + part.0)) same),
+              ∙ ap (λ (l : List ℕ). sent old ++ l) (sym (take-append-add xs ys part.0) ∙ ap (take (length xs + part.0)) same),
         )
   ];
 }

@@ -19,11 +19,7 @@ use engine::{Engine, Scan, Step};
 use script::reply_text;
 
 /// Answers one line: what a commit leaves is durable before its reply is sent.
-pub(crate) fn answer<W: World>(
-    engine: &mut Engine,
-    world: &mut W,
-    line: &[u8],
-) -> Result<(), Halt>
+pub(crate) fn answer<W: World>(engine: &mut Engine, world: &mut W, line: &[u8]) -> Result<(), Halt>
     requires ready { StandsFor engine.old (W.Devices.standing world.old) }
     requires low { reach engine.old.book ≤ 2 ^ 61 + 2 ^ 46 }
     ensures goes { GoesOn (W.Devices.standing world.old) (W.Devices.standing world.new) }

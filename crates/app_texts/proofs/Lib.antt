@@ -1,0 +1,3 @@
+pub mod DigitsLaws
+pub mod MarkedLaws
+pub mod DamageLaws

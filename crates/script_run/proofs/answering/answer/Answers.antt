@@ -1,0 +1,99 @@
+-- The step, and then its replies.
+use Rattle.std.proofs.Common.{◌≡◌, ◌∙◌, ◌++◌, [], ◌∷◌, ℕ, List, Option, Ok, Err, IsTrue, refl, sym, ap, subst}
+use Rattle.std.proofs.lemmas.List.{append-nil}
+use Rattle.devices.specs.World.{NoFault}
+use Rattle.devices.proofs.MomentLaws.{Goes-on, GoesOn-trans}
+use Rattle.texts.specs.Output.{IsWhole, no_line}
+use Rattle.texts.specs.Runs as run
+use Rattle.texts.proofs.OutputLaws.{IsWhole-line}
+use Rattle.texts.proofs.TextLaws.{text_one}
+use Rattle.script.specs.declared.command.Command.{Command}
+use Rattle.script.specs.Grammar.{command_in}
+use Rattle.script.specs.Machine.{State, current}
+use Rattle.script.specs.Replies.{reply_line, reply_text, text}
+use Rattle.script.specs.Script.{machine}
+use Rattle.engine.specs.declared.scan.Step.{Step}
+use Rattle.engine.specs.Holds.{bounds_in}
+use Rattle.engine.specs.Engine.{engine_sizes}
+use Rattle.engine.specs.Steps.{after_line, step_replies, IsBegun}
+use Rattle.script_run.specs.Run.{Aim, Owes, AreSafe}
+use Rattle.script_run.proofs.RunLaws.{step_safe, answered, proceeds_then, proceeds_stop}
+use Rattle.script_run.proofs.CauseLaws.{cause_then, cause_stopped, quiet_step}
+use Rattle.script_run.proofs.RowsLaws.{scan_owed, scan_few}
+use Rattle.script_run.proofs.answering.answer.Goals as goal
+use Rattle.script_run.proofs.answering.answer.Goals.{After-step, In_ok-step}
+use Rattle.script_run.proofs.answering.answer.Given as given
+
+-- each moment of the step is safe
+safe : (g : given.Over) (c : After-step g) (aim : Aim) (s : State) (commands : List (Option Command)) → IsTrue (g.W.Devices.standing c.args.world.now).told
+    → Owes aim c.args.engine.now s [] (command_in c.args.line.now ++ commands) (g.W.Devices.standing c.args.world.now) → AreSafe aim (g.W.Devices.standing c.args.world.now) (g.W.Devices.standing c.step.new.world)
+safe g c aim s commands told owes = step_safe aim c.args.engine.now c.step.new.self s c.args.line.now commands _ owes _ c.step.result (g.met.W.World.timed c.args.world.now) told c.step.ensures.does
+
+-- no fault came
+quiet : (g : given.Over) (c : In_ok-step g) → NoFault (g.W.Devices.standing c.args.world.now) (g.W.Devices.standing c.step.new.world)
+quiet g c =
+    let does = c.step.ensures.does in
+    quiet_step c.args.engine.now (g.W.Devices.standing c.args.world.now) c.step.new.self (g.W.Devices.standing c.step.new.world) c.requires.ready does.goes does.sizes c.in_ok-step.field-0 c.in_ok-step.ensures.cause
+
+-- what the step leads to gives the replies
+replies_are : (g : given.Over) (c : In_ok-step g) (s : State) (step : Step) → IsTrue (g.W.Devices.standing c.args.world.now).told → (aim : Aim) (commands : List (Option Command))
+    → Owes aim c.args.engine.now s [] (command_in c.args.line.now ++ commands) (g.W.Devices.standing c.args.world.now) → c.in_ok-step.field-0 ≡ step
+    → step_replies step (current s) ≡ run.replies (machine (bounds_in (engine_sizes c.args.engine.now))) s (command_in c.args.line.now)
+replies_are g c s step told aim commands owes is = ap (λ (x : Step). step_replies x (current s)) (sym is) ∙ c.in_ok-step.ensures.replies told s owes.shows
+
+-- and they are owed
+owed : (g : given.Over) (c : In_ok-step g) (aim : Aim) (s : State) (commands : List (Option Command)) (bytes : List ℕ) → IsTrue (g.W.Devices.standing c.args.world.now).told
+    → Owes aim c.args.engine.now s [] (command_in c.args.line.now ++ commands) (g.W.Devices.standing c.args.world.now)
+    → text (run.replies (machine (bounds_in (engine_sizes c.args.engine.now))) s (command_in c.args.line.now)) ≡ bytes
+    → Owes aim c.step.new.self (after_line c.args.engine.now (command_in c.args.line.now) s) bytes commands (g.W.Devices.standing c.step.new.world)
+owed g c aim s commands bytes told owes said =
+    answered aim c.args.engine.now c.step.new.self s c.args.line.now commands _ owes _ c.in_ok-step.field-0 bytes (g.met.W.World.timed c.args.world.now) told c.in_ok-step.ensures.does said
+
+pub returns-in_err-step-clause-cause : goal.returns-in_err-step-clause-cause
+returns-in_err-step-clause-cause g c =
+    let does = c.step.ensures.does in
+    cause_stopped c.args.engine.now (g.W.Devices.standing c.args.world.now) c.step.new.self (g.W.Devices.standing c.step.new.world) c.requires.ready does.goes does.sizes
+    c.from_residual.result c.in_err-step.field-0.0 c.from_residual.ensures c.in_err-step.ensures.cause
+
+pub returns-in_err-step-clause-proceeds : goal.returns-in_err-step-clause-proceeds
+returns-in_err-step-clause-proceeds g c = λ aim s commands told owes.
+    proceeds_stop {engine = c.step.new.self} {s = after_line c.args.engine.now (command_in c.args.line.now) s} {bytes = []} {commands = commands} c.from_residual.result c.in_err-step.field-0.0 c.from_residual.ensures
+    (safe g (goal.at.returns-in_err-step-clause-proceeds g c).After-step aim s commands told owes) (c.in_err-step.ensures.does.sound told s owes.shows)
+
+pub returns-in-Silent-clause-proceeds : goal.returns-in-Silent-clause-proceeds
+returns-in-Silent-clause-proceeds g c = λ aim s commands told owes.
+    let at = (goal.at.returns-in-Silent-clause-proceeds g c).In_ok-step in
+    record {
+      safe = safe g (goal.at.returns-in-Silent-clause-proceeds g c).After-step aim s commands told owes;
+      sound = tt;
+      ok = owed g at aim s commands [] told owes (ap text (sym (replies_are g at s _ told aim commands owes c.in-Silent.is)));
+    }
+
+pub returns-in-Said-clause-cause : goal.returns-in-Said-clause-cause
+returns-in-Said-clause-cause g c = cause_then c.say.result (quiet g (goal.at.returns-in-Said-clause-cause g c).In_ok-step) (c.say.ensures.cause c.step.new.self)
+
+pub returns-in-Said-clause-proceeds : goal.returns-in-Said-clause-proceeds
+returns-in-Said-clause-proceeds g c = λ aim s commands told owes.
+    let at = (goal.at.returns-in-Said-clause-proceeds g c).In_ok-step in
+    let does = c.in_ok-step.ensures.does in
+    let after = after_line c.args.engine.now (command_in c.args.line.now) s in
+    let said : text (c.in-Said.reply ∷ []) ≡ c.as_slice.result.now = text_one reply_line c.in-Said.reply ∙ sym c.reply_text.ensures ∙ sym c.as_slice.ensures.value in
+    let is_owed = owed g at aim s commands c.as_slice.result.now told owes (ap text (sym (replies_are g at s _ told aim commands owes c.in-Said.is)) ∙ said) in
+    let told_new = subst IsTrue (sym does.goes.told) told in
+    proceeds_then (safe g (goal.at.returns-in-Said-clause-proceeds g c).After-step aim s commands told owes) c.say.ensures.call.goes
+    (c.say.ensures.proceeds aim c.step.new.self after [] commands told_new does.ready is_owed.bytes_whole no_line
+    (subst (λ (l : List ℕ). Owes aim c.step.new.self after l commands (g.W.Devices.standing c.step.new.world)) (sym (append-nil c.as_slice.result.now)) is_owed))
+
+pub returns-in-Scanning-clause-cause : goal.returns-in-Scanning-clause-cause
+returns-in-Scanning-clause-cause g c = cause_then c.give_rows.result (quiet g (goal.at.returns-in-Scanning-clause-cause g c).In_ok-step) c.give_rows.ensures.cause
+
+pub returns-in-Scanning-clause-proceeds : goal.returns-in-Scanning-clause-proceeds
+returns-in-Scanning-clause-proceeds g c = λ aim s commands told owes.
+    let at = (goal.at.returns-in-Scanning-clause-proceeds g c).In_ok-step in
+    let does = c.in_ok-step.ensures.does in
+    let begun : IsBegun (Rattle.engine.specs.declared.scan.Step.TheVariants.Scanning c.in-Scanning.scan) = subst IsBegun c.in-Scanning.is c.in_ok-step.ensures.begun in
+    let is_owed = scan_owed aim c.args.engine.now c.step.new.self s c.args.line.now commands _ owes (g.W.Devices.standing c.step.new.world) c.in-Scanning.scan (g.met.W.World.timed c.args.world.now) told
+    c.in_ok-step.field-0 does begun.0 (replies_are g at s _ told aim commands owes c.in-Scanning.is) in
+    let few = scan_few aim c.args.engine.now c.step.new.self s c.args.line.now commands _ owes (g.W.Devices.standing c.step.new.world) c.in-Scanning.scan (g.met.W.World.timed c.args.world.now) told is_owed begun.1 in
+    proceeds_then (safe g (goal.at.returns-in-Scanning-clause-proceeds g c).After-step aim s commands told owes) c.give_rows.ensures.goes
+    (c.give_rows.ensures.proceeds aim (after_line c.args.engine.now (command_in c.args.line.now) s) commands (subst IsTrue (sym does.goes.told) told) few is_owed)
