@@ -15,11 +15,12 @@ use Rattle.line_pages.specs.declared.stop.Stop.TheVariants.{Nvm, Ssd, Damaged}
 use Rattle.line_pages.specs.Standing.{HasCause as HasStopCause}
 use Rattle.slotted_page.specs.Rows.{Row, Each}
 use Rattle.store_meaning.specs.Layout.{Sizes, pages}
-use Rattle.table_store.specs.declared.limits.Limits.{Limits}
-use Rattle.table_store.specs.Catalog.{Table, entries, tables, table_of, name_of, entry_rows, is_entry, names_differ, catalog_checks}
-use Rattle.table_store.specs.Stored.{IsStore, HasTree, rows_of, IsLookupDamage}
-use Rattle.table_store.proofs.CatalogLaws.{AllHold, all_hold, fits_entry}
-use Rattle.bplus_tree.specs.Space.{high_of}
+use Rattle.table_catalog.specs.declared.limits.Limits.{Limits}
+use Rattle.table_catalog.specs.Catalog.{Table, entries, tables, table_of, name_of, entry_rows, is_entry, names_differ, catalog_checks}
+use Rattle.table_catalog.specs.Stored.{IsStore, HasTree, rows_of}
+use Rattle.table_store.specs.Getting.{IsLookupDamage}
+use Rattle.table_catalog.proofs.CatalogLaws.{AllHold, all_hold, fits_entry}
+use Rattle.page_space.specs.Space.{high_of}
 use Rattle.texts.specs.Runs as run
 use Rattle.script.specs.declared.command.Command.{Command}
 use Rattle.script.specs.declared.command.Command.TheVariants as command

@@ -13,7 +13,7 @@ use Rattle.line_pages.specs.declared.stop.Stop.TheVariants.{Nvm, Ssd, Damaged}
 use Rattle.store_meaning.specs.Layout.{Sizes, nvm_lines, ssd_blocks}
 use Rattle.store_laws.specs.ShownPages.{pages_in, committed_in}
 use Rattle.transactions.specs.StoreStanding.{Stands, book_sizes}
-use Rattle.table_store.specs.Catalog.{Table}
+use Rattle.table_catalog.specs.Catalog.{Table}
 use Rattle.texts.specs.Lines.{is_silent}
 use Rattle.texts.specs.Runs as run
 use Rattle.texts.specs.Output.{acked, IsWhole}

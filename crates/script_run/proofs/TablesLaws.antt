@@ -14,11 +14,11 @@ use Rattle.slotted_page.specs.Spans.{Span, spans}
 use Rattle.slotted_page.specs.Value.{IsValue}
 use Rattle.slotted_page.proofs.PageFacts.{leaf_facts}
 use Rattle.slotted_page.proofs.SlotLemmas.{in_heap_one}
-use Rattle.bplus_tree.specs.Tree.{IsTree, tree_rows}
-use Rattle.bplus_tree.proofs.TreeLaws.{Each-map}
-use Rattle.bplus_tree.proofs.OrderLaws.{tree_rows-ascend}
-use Rattle.table_store.specs.Catalog.{Table, entries, table_of}
-use Rattle.table_store.specs.Stored.{HasTree}
+use Rattle.tree_search.specs.Tree.{IsTree, tree_rows}
+use Rattle.tree_search.proofs.TreeLaws.{Each-map}
+use Rattle.tree_search.proofs.OrderLaws.{tree_rows-ascend}
+use Rattle.table_catalog.specs.Catalog.{Table, entries, table_of}
+use Rattle.table_catalog.specs.Stored.{HasTree}
 use Rattle.script.specs.Tables.{AreRows, AreTables}
 use Rattle.script.specs.Machine.{Open, State, tables_of_open}
 use Rattle.engine.specs.declared.engine.Engine.{Engine}

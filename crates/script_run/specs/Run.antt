@@ -4,7 +4,7 @@ use Rattle.devices.specs.State.{State as Devices, Image, Leaves, fresh}
 use Rattle.devices.specs.World.{Standing, last_count, sent, sent_at}
 use Rattle.store_meaning.specs.Layout.{Sizes}
 use Rattle.slotted_page.specs.Rows.{Row}
-use Rattle.table_store.specs.Catalog.{Table}
+use Rattle.table_catalog.specs.Catalog.{Table}
 use Rattle.script.specs.declared.command.Command.{Command}
 use Rattle.script.specs.Tables.{AreTables}
 use Rattle.script.specs.Machine.{Open, State}

@@ -7,7 +7,7 @@ use Rattle.nvm_layout.specs.Opening.{Finding, finding, super_from}
 use Rattle.nvm_layout.specs.Opening.Finding.{another, too_small, ended, sound}
 use Rattle.store_meaning.specs.Layout.{Sizes}
 use Rattle.store_meaning.specs.Format.{magic}
-use Rattle.table_store.specs.Catalog.{Table}
+use Rattle.table_catalog.specs.Catalog.{Table}
 use Rattle.recovery.specs.Opening.{Answers, IsAnswer, IsFound, FindsInLog}
 use Rattle.recovery.specs.declared.opening.Parts.{Parts}
 use Rattle.recovery.specs.declared.errors.OpenError.{OpenError}

@@ -17,7 +17,7 @@ use Rattle.store_meaning.specs.Format.Format.{whole_lines}
 use Rattle.store_meaning.specs.Recovered.{Super, super_of, image_log_check}
 use Rattle.store_meaning.specs.Checked.{SuperPasses}
 use Rattle.store_meaning.proofs.CheckLaws.{checks_none, store_passes}
-use Rattle.table_store.specs.Catalog.{Table}
+use Rattle.table_catalog.specs.Catalog.{Table}
 use Rattle.recovery.specs.Opening.{Answers, FindsInLog, HoldsStore}
 use Rattle.recovery.specs.declared.opening.Parts.{Parts}
 use Rattle.recovery.specs.declared.errors.OpenError.{OpenError}

@@ -5,7 +5,7 @@ use Rattle.devices.specs.State.{State as Devices}
 use Rattle.devices.specs.World.{Standing, GoesOn, sent_at}
 use Rattle.line_pages.specs.Lines.{Lines}
 use Rattle.store_meaning.specs.Layout.{Sizes}
-use Rattle.table_store.specs.Catalog.{Table}
+use Rattle.table_catalog.specs.Catalog.{Table}
 use Rattle.script.specs.Tables.{AreTables}
 use Rattle.engine.specs.Holds.{HoldsTables}
 use Rattle.script_run.specs.Run.{Aim, IsSafe, AreSafe}

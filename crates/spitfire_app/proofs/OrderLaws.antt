@@ -14,12 +14,12 @@ use Rattle.store_meaning.proofs.FactsLaws.{current_leaves}
 use Rattle.store_laws.specs.OpenFacts.{keeping}
 use Rattle.store_laws.specs.Steps.{IsStoreOf}
 use Rattle.slotted_page.specs.Checks.{first_failure}
-use Rattle.bplus_tree.specs.Space.{word, high_of}
-use Rattle.bplus_tree.specs.Moves.{below}
-use Rattle.bplus_tree.specs.Tree.{times}
-use Rattle.table_store.specs.declared.limits.Limits.{Limits}
-use Rattle.table_store.specs.Catalog.{Table, tables, table_of, table_count, entries, entries_from, catalog_checks, header_checks, is_entry, names_differ, name_of}
-use Rattle.table_store.specs.Stored.{IsStore, HasTree, all_pages}
+use Rattle.page_space.specs.Space.{word, high_of}
+use Rattle.page_space.specs.Moves.{below}
+use Rattle.page_space.specs.Counted.{times}
+use Rattle.table_catalog.specs.declared.limits.Limits.{Limits}
+use Rattle.table_catalog.specs.Catalog.{Table, tables, table_of, table_count, entries, entries_from, catalog_checks, header_checks, is_entry, names_differ, name_of}
+use Rattle.table_catalog.specs.Stored.{IsStore, HasTree, all_pages}
 use Rattle.slotted_page.specs.Rows.{Each}
 use Rattle.recovery.specs.Empty.{catalog_line, IsEmptyStore}
 use Rattle.recovery.proofs.StandsLaws.{stands_facts}

@@ -6,7 +6,7 @@ use Rattle.devices.specs.State.{Image, Leaves, fresh}
 use Rattle.devices.specs.World.{Standing, Outside, Goes, GoesOn, IsTimed, Moments, now, sent}
 use Rattle.devices.proofs.MomentLaws.{Goes-sent}
 use Rattle.store_meaning.specs.Layout.{Sizes}
-use Rattle.table_store.specs.Catalog.{Table}
+use Rattle.table_catalog.specs.Catalog.{Table}
 use Rattle.script.specs.declared.command.Command.{Command}
 use Rattle.script.specs.Grammar.{commands}
 use Rattle.script.specs.Tables.{AreTables}

@@ -5,7 +5,7 @@ use Rattle.devices.specs.World.{Standing, Outside, Goes, GoesOn, NoFault, Rose, 
 use Rattle.nvm_layout.specs.Opening.{NoFault as NoneCame}
 use Rattle.nvm_layout.specs.Opening.Finding.{sound}
 use Rattle.store_meaning.specs.Layout.{Sizes}
-use Rattle.table_store.specs.Catalog.{Table}
+use Rattle.table_catalog.specs.Catalog.{Table}
 use Rattle.script.specs.Machine.{opening as at_start}
 use Rattle.recovery.specs.declared.opening.Parts.{Parts}
 use Rattle.recovery.specs.declared.errors.OpenError.{OpenError}

@@ -8,7 +8,7 @@ use Rattle.store_meaning.specs.Recovered.{image_log_check}
 use Rattle.nvm_layout.specs.Opening.Finding.{another, too_small, ended as log_ended, sound}
 use Rattle.recovery.specs.Empty.{HasNoMagic}
 use Rattle.recovery.specs.Causes.{IsTooSmall}
-use Rattle.table_store.specs.Catalog.{Table}
+use Rattle.table_catalog.specs.Catalog.{Table}
 use Rattle.texts.specs.Lines.{ended}
 use Rattle.texts.specs.Output.{acked, IsPrefix}
 use Rattle.script.specs.Replies.{text}

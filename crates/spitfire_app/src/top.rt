@@ -4,7 +4,7 @@ ghost use Rattle.ssd_model.specs.Page.{zero_page};
 ghost use Rattle.devices.specs.World.{GoesOn, WorldCall, OnlyChanges, IsHonest, Rose, now, sent};
 ghost use Rattle.store_meaning.specs.Layout.{Sizes, nvm_lines, ssd_blocks};
 ghost use Rattle.recovery.specs.Opening.{HoldsStore};
-ghost use Rattle.table_store.specs.Catalog.{Table};
+ghost use Rattle.table_catalog.specs.Catalog.{Table};
 ghost use Rattle.engine.specs.Holds.{Holds, InOrder};
 ghost use Rattle.nvm_layout.specs.Sizes.{sizes_of};
 ghost use Rattle.app_texts.specs.DamageText.{damage_text};
