@@ -11,3 +11,6 @@ mod stop;
 pub use damage::tell_damage;
 pub use scripts::run_script;
 pub use sending::write_all;
+
+#[cfg(test)]
+mod tests;
