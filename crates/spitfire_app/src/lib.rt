@@ -7,3 +7,6 @@ mod words;
 pub use script_run::run_script;
 pub use top::spitfire;
 pub use words::Words;
+
+#[cfg(test)]
+mod tests;
