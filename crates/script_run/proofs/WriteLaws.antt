@@ -94,11 +94,10 @@ module _ (xs ys all : List ℕ) (old mid new : Standing) (wrote : Wrote xs old m
         let more = part_of_all xs ys part.0 in
         (more.0, goes.earlier_sent m before ∙ part.1 ∙ ap (λ (l : List ℕ). sent old ++ l) (more.1 ∙ ap (λ (l : List ℕ). take more.0 l) is))
     | inl after ↦
-        let part = writes.part m (omega (arith, after)) high in
-        (
+        let part = writes.part m (omega (arith, after)) high in (
           length xs + part.0,
           part.1 ∙ ap (λ (l : List ℕ). l ++ take part.0 ys) wrote.whole ∙ append_assoc (sent old) xs (take part.0 ys)
-            ∙ ap (λ (l : List ℕ). sent old ++ l) (sym (take-append-add xs ys part.0) ∙ ap (λ (l : List ℕ). take (length xs + part.0) l) is),
+              ∙ ap (λ (l : List ℕ). sent old ++ l) (sym (take-append-add xs ys part.0) ∙ ap (λ (l : List ℕ). take (length xs + part.0) l) is),
         )
   ]
 
