@@ -1,8 +1,8 @@
 -- Why a run stops, by why its calls do.
-use Rattle.std.proofs.Common.{◌≡◌, ◌≤◌, ℕ, List, false, true, refl, sym, ap, ◌∙◌, subst, arith, IsTrue, Result, Ok, Err}
-use Rattle.std.specs.Prelude.{OnOk, IfErr, IsErr, IsErrAnd}
+use Rattle.std.proofs.Common.{◌≡◌, ◌≤◌, ℕ, List, false, true, refl, sym, ap, ◌∙◌, subst, arith, Result, Ok, Err}
+use Rattle.std.specs.Prelude.{IsErr, IsErrAnd}
 use Rattle.std.proofs.lemmas.Result.{IfErr-weaker, on_ok_weaker}
-use Rattle.devices.specs.World.{Standing, Outside, Goes, GoesOn, WorldCall, OnlyChanges, NoFault, Rose, now}
+use Rattle.devices.specs.World.{Standing, Outside, Goes, GoesOn, WorldCall, OnlyChanges, NoFault, Rose}
 use Rattle.devices.proofs.JoinLaws.{NoFault-trans}
 use Rattle.line_pages.specs.declared.stop.Evidence.{Evidence}
 use Rattle.line_pages.specs.declared.stop.Stop.{Stop}

@@ -1,16 +1,14 @@
 -- The step, and then its replies.
-use Rattle.std.proofs.Common.{◌≡◌, ◌∙◌, ◌++◌, [], ◌∷◌, ℕ, List, Option, Ok, Err, IsTrue, refl, sym, ap, subst}
+use Rattle.std.proofs.Common.{◌≡◌, ◌∙◌, ◌++◌, [], ◌∷◌, ℕ, List, Option, IsTrue, sym, ap, subst}
 use Rattle.std.proofs.lemmas.List.{append-nil}
 use Rattle.devices.specs.World.{NoFault}
-use Rattle.devices.proofs.MomentLaws.{Goes-on, GoesOn-trans}
-use Rattle.texts.specs.Output.{IsWhole, no_line}
+use Rattle.texts.specs.Output.{no_line}
 use Rattle.texts.specs.Runs as run
-use Rattle.texts.proofs.OutputLaws.{IsWhole-line}
 use Rattle.texts.proofs.TextLaws.{text_one}
 use Rattle.script.specs.declared.command.Command.{Command}
 use Rattle.script.specs.Grammar.{command_in}
 use Rattle.script.specs.Machine.{State, current}
-use Rattle.script.specs.Replies.{reply_line, reply_text, text}
+use Rattle.script.specs.Replies.{reply_line, text}
 use Rattle.script.specs.Script.{machine}
 use Rattle.engine.specs.declared.scan.Step.{Step}
 use Rattle.engine.specs.Holds.{bounds_in}
