@@ -213,7 +213,10 @@ fn a_transaction_that_is_open_at_the_end(rt: HostRuntime) -> Result<(), Fail> {
     )?;
     let mut again = reopened(rt.alloc(), &world, b"get a 1\nbegin\ncheckpoint\n")?;
     assert_eq!(rt; run(rt.alloc(), &mut again, LIMIT)?, 0);
-    assert_eq!(rt; again.output(), b"refused table\nok\nrefused transaction\n".as_slice());
+    assert_eq!(rt;
+        again.output(),
+        b"refused table\nok\nrefused transaction\n".as_slice()
+    );
     Ok(())
 }
 
@@ -237,7 +240,9 @@ fn nine_rows(script: &mut Vec<u8>) -> Result<(), Fail> {
 fn a_tree_of_two_leaves_joins_by_deletes(rt: HostRuntime) -> Result<(), Fail> {
     let mut script = Vec::new(rt.alloc());
     nine_rows(&mut script)?;
-    script.extend_from_slice(b"begin\ndel a 1\ndel a 2\ndel a 3\ndel a 4\ndel a 5\ndel a 6\ndel a 7\ndel a 8\ndel a 9\ndel a 9\nscan a 0 9\ncommit\nscan a 0 9\n")?;
+    script.extend_from_slice(
+        b"begin\ndel a 1\ndel a 2\ndel a 3\ndel a 4\ndel a 5\ndel a 6\ndel a 7\ndel a 8\ndel a 9\ndel a 9\nscan a 0 9\ncommit\nscan a 0 9\n",
+    )?;
     sends(
         &rt,
         rt.alloc(),
@@ -350,7 +355,10 @@ fn each_fault_has_its_status(rt: HostRuntime) -> Result<(), Fail> {
         for nth in 0..4 {
             let mut world = formatted(rt.alloc(), &tiny(), script, &[Fault { kind, nth }])?;
             let ended = run(rt.alloc(), &mut world, LIMIT)?;
-            assert!(rt; ended == status || (ended == 0 && world.faults(kind) == 0), "{ended}");
+            assert!(rt;
+                ended == status || (ended == 0 && world.faults(kind) == 0),
+                "{ended}"
+            );
             assert!(rt; whole.starts_with(world.output()));
         }
     }
@@ -359,7 +367,12 @@ fn each_fault_has_its_status(rt: HostRuntime) -> Result<(), Fail> {
 
 /// How many commits were acknowledged in so many bytes of the output, each being the third line of its transaction.
 fn acknowledged(output: &[u8], sent: usize) -> usize {
-    output.iter().take(sent).filter(|byte| **byte == b'\n').count() / 3
+    output
+        .iter()
+        .take(sent)
+        .filter(|byte| **byte == b'\n')
+        .count()
+        / 3
 }
 
 /// After how many of the commits the tables of these images stand.
@@ -392,7 +405,10 @@ fn crashes(rt: &impl Abort, alloc: Global, script: &[u8], most: usize) -> Result
         for choice in [Choice::Oldest, Choice::Newest, Choice::Alternating] {
             let images = world.images_at(alloc, events, choice, BlockChoice::Fill(0xA5))?;
             let found = held(alloc, &images)?;
-            assert!(rt; found >= least && found - least <= 1 && found <= most, "{found} at {events}");
+            assert!(rt;
+                found >= least && found - least <= 1 && found <= most,
+                "{found} at {events}"
+            );
         }
     }
     Ok(())

@@ -11,9 +11,11 @@ use std::test::Fail;
 
 /// How many lines of NVM and how many blocks the program's stores need.
 const LINES: u64 = 82033;
+
 const BLOCKS: u64 = 1261;
 
 const SCRIPT: &[u8] = b"begin\ncreate a\nput a 7 x\ncommit\nget a 7\n";
+
 const REPLIES: &[u8] = b"ok\nok\nok\ncommitted 1\nvalue x\n";
 
 /// One word of the command line.
@@ -35,12 +37,7 @@ fn small() -> Geometry {
 }
 
 /// A world that holds an empty store of one table, whose log begins at this offset, with this script.
-fn formatted(
-    alloc: Global,
-    script: &[u8],
-    first: u64,
-    fail: &[Fault],
-) -> Result<MemWorld, Fail> {
+fn formatted(alloc: Global, script: &[u8], first: u64, fail: &[Fault]) -> Result<MemWorld, Fail> {
     let geometry = small();
     let lines = geometry.nvm_lines();
     let blocks = geometry.ssd_blocks();
@@ -172,7 +169,11 @@ fn damage_of_a_page(rt: HostRuntime) -> Result<(), Fail> {
     change(&mut world, line, 2, 7)?;
     assert_eq!(rt; spitfire(rt.alloc(), &word("run"), &mut world), 5);
     let output = world.output();
-    assert!(rt; output.starts_with(b"! page 1 level 0 low 0 high 18446744073709551615 check 12\n! 0100000000000000"));
+    assert!(rt;
+        output.starts_with(
+            b"! page 1 level 0 low 0 high 18446744073709551615 check 12\n! 0100000000000000"
+        )
+    );
     let lines = output.iter().filter(|byte| **byte == b'\n').count();
     assert_eq!(rt; lines, 65);
     Ok(())
@@ -186,7 +187,11 @@ fn damage_of_the_superblock(rt: HostRuntime) -> Result<(), Fail> {
     }
     change(&mut world, 0, 1, 63)?;
     assert_eq!(rt; spitfire(rt.alloc(), &word("run"), &mut world), 5);
-    assert!(rt; world.output().starts_with(b"! super check 1\n! 000000000000003f 0000000000000003 "));
+    assert!(rt;
+        world
+            .output()
+            .starts_with(b"! super check 1\n! 000000000000003f 0000000000000003 ")
+    );
     Ok(())
 }
 
