@@ -5,6 +5,7 @@ use Rattle.std.specs.List.{list_any}
 use Rattle.std.proofs.lemmas.Bool.{eqb-true, or_cases}
 use Rattle.devices.specs.World.{Standing, GoesOn, WorldCall, Rose, last_count, now, sent}
 use Rattle.line_pages.specs.declared.stop.Evidence.{Evidence}
+use Rattle.line_pages.specs.declared.stop.Stop.{Stop}
 use Rattle.line_pages.specs.declared.stop.Stop.TheVariants.{Damaged}
 use Rattle.script.specs.Machine.{State}
 use Rattle.engine.specs.declared.engine.Engine.{Engine}
@@ -12,12 +13,14 @@ use Rattle.engine.specs.Engine.{Shows}
 use Rattle.app_texts.specs.DamageText.{damage_text}
 use Rattle.script_run.specs.declared.stop.Halt.{Halt}
 use Rattle.script_run.specs.declared.stop.Halt.TheVariants.{Store}
-use Rattle.script_run.specs.Cause.{Shown}
+use Rattle.script_run.specs.Cause.{Shown, Caused, IsFault}
 use Rattle.script_run.specs.Sent.{Writes}
 use Rattle.script_run.proofs.CauseLaws.{shown_later}
 use Rattle.script_run.specs.Statuses.{IsOneOf, Told, ScriptCauses}
 
--- the text of what was shown was sent
+-- ---- the text of damage
+
+-- what was shown is told
 pub told_by : {T E : Type 0} {v : T} (page bytes : List ℕ) (kept : Evidence) (engine : Engine) (old new : Standing) → bytes ≡ page → WorldCall old new → (IsTrue old.told → Writes {T = T} {E = E} (damage_text kept bytes) old new (Ok v))
     → Shown page kept engine old → Told engine new
 told_by page bytes kept engine old new is call writes shown = record {
@@ -26,6 +29,22 @@ told_by page bytes kept engine old new is call writes shown = record {
   shown = subst (λ (p : List ℕ). Shown p kept engine new) (sym is) (shown_later page kept engine old new call.goes shown);
   ends = λ told. (sent old, (writes (subst IsTrue call.goes.told told)).ok);
 }
+
+-- ---- an error that is damage
+
+module _ (why : Halt) (stop : Stop) (kept : Evidence) (first : why ≡ Store stop) (second : stop ≡ Damaged kept) where
+  is_damage : why ≡ Store (Damaged kept)
+  is_damage = first ∙ ap (λ (x : Stop). Store x) second
+
+  -- it is no fault
+  pub no_fault : IsFault why → ⊥
+  no_fault fault = subst IsFault is_damage fault
+
+  -- and its evidence is shown
+  pub shown_of : (old : Standing) (engine : Engine) (new : Standing) → Caused why old engine new → Shown engine.work.page kept engine new
+  shown_of old engine new caused = subst (λ (x : Halt). Caused x old engine new) is_damage caused
+
+-- ---- its status
 
 -- a count that rose behind other calls
 pub rose_on : {a b c : ℕ} → a ≤ b → Rose b c → Rose a c
