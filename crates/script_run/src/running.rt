@@ -82,6 +82,7 @@ fn read_script<W: World>(world: &mut W, into: &mut [u8]) -> Result<usize, Halt>
     ensures call { WorldCall (W.Devices.standing world.old) (W.Devices.standing world.new) }
     ensures rest { OnlyChanges false true false (W.Devices.standing world.old) (W.Devices.standing world.new) }
     ensures cause { (engine : Engine) → HasCause (W.Devices.standing world.old) engine (W.Devices.standing world.new) result }
+    ensures fault { IfErr result IsFault }
     ensures bound { IfOk result (λ count. count ≤ length into.new) }
     ensures reads { ReadsNext (W.Devices.standing world.old).told (W.Devices.standing world.old).outside.input (W.Devices.standing world.new).outside.input result into.new }
 {

@@ -1,0 +1,37 @@
+-- A line feed has the line answered; another byte is kept where there is room.
+use Rattle.std.proofs.Common.{rules, arith, ◌≡◌, ◌≤◌, [], ◌++◌, length, Ok, subst, sym, ◌∙◌, ap}
+use Rattle.std.proofs.lemmas.Bool.Decides.{nat_tests}
+use Rattle.script.specs.Grammar.{command_in, commands}
+use Rattle.texts.specs.Lines.{IsOneLine}
+use Rattle.texts.proofs.LinesLaws.{IsOneLine-empty, IsOneLine-push}
+use Rattle.script_run.proofs.RunLaws.{comes_of, comes_err}
+use Rattle.script_run.proofs.ByteLaws.{owes_same, comes_same, line_ends, line_grows, line_full, idle}
+use Rattle.script_run.proofs.running.take_byte.Goals as goal
+
+pub returns-in_ok-answer-clause-one : goal.returns-in_ok-answer-clause-one
+returns-in_ok-answer-clause-one g c = let empty : [] ≡ c.clear.new.self.items = search rules in subst IsOneLine empty IsOneLine-empty
+
+pub returns-in_ok-answer-clause-comes : goal.returns-in_ok-answer-clause-comes
+returns-in_ok-answer-clause-comes g c = λ aim s more told owes.
+    let line : c.args.kept.now.items ≡ c.as_slice.result.now = search rules in
+    let empty : [] ≡ c.clear.new.self.items = search rules in
+    let first = line_ends c.args.kept.now.items more c.args.byte c.requires.one c.if-byte-eq-LINE_FEED.true ∙ ap (λ l. command_in l ++ commands more) line in
+    comes_same {r = Ok tt} (ap (λ l. commands (l ++ more)) empty) (comes_of {r = Ok tt} (c.in_ok-answer.ensures.proceeds aim s (commands more) told (owes_same first owes)))
+
+pub returns-then-not-is_full-clause-one : goal.returns-then-not-is_full-clause-one
+returns-then-not-is_full-clause-one g c = subst IsOneLine (sym c.push.ensures.items) (IsOneLine-push c.requires.one c.if-byte-eq-LINE_FEED.false)
+
+pub returns-then-not-is_full-clause-comes : goal.returns-then-not-is_full-clause-comes
+returns-then-not-is_full-clause-comes g c = λ aim s more told owes.
+    idle c.requires.ready told (line_grows c.args.kept.now.items more c.args.byte ∙ ap (λ l. commands (l ++ more)) (sym c.push.ensures.items)) owes
+
+pub returns-else-not-is_full-clause-comes : goal.returns-else-not-is_full-clause-comes
+returns-else-not-is_full-clause-comes g c = λ aim s more told owes.
+    let full : 1025 ≤ length c.args.kept.now.items = grind (arith, nat_tests, c.is_full.ensures.value, c.is_full.ensures.fits, c.if-not-is_full.false) in
+    idle c.requires.ready told (line_full c.args.kept.now.items more c.args.byte full c.requires.one c.if-byte-eq-LINE_FEED.false) owes
+
+pub returns-in_err-answer-clause-comes : goal.returns-in_err-answer-clause-comes
+returns-in_err-answer-clause-comes g c = λ aim s more told owes.
+    let line : c.args.kept.now.items ≡ c.as_slice.result.now = sym c.as_slice.ensures.value in
+    let first = line_ends c.args.kept.now.items more c.args.byte c.requires.one c.if-byte-eq-LINE_FEED.true ∙ ap (λ l. command_in l ++ commands more) line in
+    comes_err c.from_residual.result _ c.from_residual.ensures (comes_of (c.in_err-answer.ensures.proceeds aim s (commands more) told (owes_same first owes)))

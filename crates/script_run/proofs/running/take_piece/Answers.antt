@@ -1,0 +1,64 @@
+-- One byte after the other.
+use Rattle.std.proofs.Common.{rules, arith, refl, ◌≡◌, ◌+◌, ℕ, List, [], ◌++◌, drop, IsTrue, subst, sym, ◌∙◌, ap}
+use Rattle.std.proofs.lemmas.Grind.{common_steps}
+use Rattle.std.proofs.lemmas.List.{drop_more}
+use Rattle.devices.proofs.MomentLaws.{GoesOn-trans}
+use Rattle.devices.proofs.JoinLaws.{GoesOn-refl, NoFault-refl, NoFault-trans}
+use Rattle.script.specs.Grammar.{commands}
+use Rattle.script.specs.Machine.{State}
+use Rattle.script_run.specs.Run.{Aim, Owes, Comes}
+use Rattle.script_run.proofs.CauseLaws.{cause_then, cause_err}
+use Rattle.script_run.proofs.ByteLaws.{owes_same, comes_same, comes_on, comes_well, comes_stopped, idle}
+use Rattle.script_run.proofs.running.take_piece.Given as given
+use Rattle.script_run.proofs.running.take_piece.Goals.{After-take_byte}
+use Rattle.script_run.proofs.running.take_piece.Goals as goal
+
+pub loop-byte-init : goal.loop-byte-init
+loop-byte-init g c = record {
+  goes = GoesOn-refl _;
+  no_fault = NoFault-refl _;
+  input = refl;
+  sizes = refl;
+  ready = c.requires.ready;
+  reaches = omega arith;
+  one = c.requires.one;
+  comes = λ aim s more told owes. idle c.requires.ready told refl owes;
+}
+
+-- the next byte
+comes : (g : given.Over) (c : After-take_byte g) (aim : Aim) (s : State) (more : List ℕ) → IsTrue (g.W.Devices.standing c.args.world.now).told
+    → Owes aim c.args.engine.now s [] (commands (c.args.kept.now.items ++ (c.args.piece.now ++ more))) (g.W.Devices.standing c.args.world.now)
+    → Comes aim c.take_byte.new.engine [] (commands (c.take_byte.new.kept.items ++ (drop (c.loop-byte.byte-index + 1) c.args.piece.now ++ more))) (g.W.Devices.standing c.args.world.now) (g.W.Devices.standing c.take_byte.new.world) c.take_byte.result
+comes g c aim s more told owes =
+    let inv = c.loop-byte.invariant in
+    let next = ap (λ (l : List ℕ). commands (c.loop-byte.kept.items ++ (l ++ more))) (drop_more c.args.piece.now c.loop-byte.byte-index 0 c.loop-byte-test.true) in
+    comes_on (inv.comes aim s more told owes) c.take_byte.ensures.goes
+    (λ t owed. c.take_byte.ensures.comes aim t (drop (c.loop-byte.byte-index + 1) c.args.piece.now ++ more) (subst IsTrue (sym inv.goes.told) told) (owes_same next owed))
+
+pub returns-in_err-take_byte-clause-cause : goal.returns-in_err-take_byte-clause-cause
+returns-in_err-take_byte-clause-cause g c = cause_then _ c.loop-byte.invariant.no_fault (cause_err c.from_residual.result _ c.from_residual.ensures c.in_err-take_byte.ensures.cause)
+
+pub returns-in_err-take_byte-clause-comes : goal.returns-in_err-take_byte-clause-comes
+returns-in_err-take_byte-clause-comes g c = λ aim s more told owes.
+    comes_stopped c.from_residual.result _ c.from_residual.ensures c.in_err-take_byte.was (comes g (goal.at.returns-in_err-take_byte-clause-comes g c).After-take_byte aim s more told owes)
+
+pub loop-byte-preserved : goal.loop-byte-preserved
+loop-byte-preserved g c =
+    let inv = c.loop-byte.invariant in
+    let before = (goal.at.loop-byte-preserved g c).After-take_byte in
+    record {
+      goes = GoesOn-trans inv.goes c.take_byte.ensures.goes;
+      no_fault = NoFault-trans inv.no_fault c.in_ok-take_byte.ensures.cause.ok;
+      input = c.take_byte.ensures.input ∙ inv.input;
+      sizes = c.take_byte.ensures.sizes ∙ inv.sizes;
+      ready = c.in_ok-take_byte.ensures.ready;
+      reaches = omega (arith, c.in_ok-take_byte.ensures.reaches, inv.reaches);
+      one = c.in_ok-take_byte.ensures.one;
+      comes = λ aim s more told owes. comes_well tt c.in_ok-take_byte.was (comes g before aim s more told owes);
+    }
+
+pub returns-clause-comes : goal.returns-clause-comes
+returns-clause-comes g c = λ aim s more told owes.
+    let inv = c.loop-byte.invariant in
+    let none : drop c.loop-byte.byte-index c.args.piece.now ≡ [] = grind (arith, common_steps) in
+    comes_same (ap (λ (l : List ℕ). commands (c.loop-byte.kept.items ++ (l ++ more))) none) (inv.comes aim s more told owes)

@@ -1,0 +1,54 @@
+-- What was read is taken.
+use Rattle.std.proofs.Common.{rules, arith, ◌≡◌, ℕ, List, [], ◌++◌, IsTrue, Ok, subst, sym, refl, ap}
+use Rattle.devices.proofs.MomentLaws.{GoesOn-trans}
+use Rattle.script.specs.Grammar.{commands}
+use Rattle.script.specs.Machine.{State}
+use Rattle.script_run.specs.Run.{Aim, Owes, Comes}
+use Rattle.devices.proofs.JoinLaws.{Stays-now, NoFault-trans}
+use Rattle.script_run.proofs.RunLaws.{stands_still}
+use Rattle.script_run.proofs.CauseLaws.{cause_then, cause_err}
+use Rattle.script_run.proofs.ByteLaws.{owes_same, comes_on, comes_well, comes_stopped, read_comes, read_fails}
+use Rattle.script_run.proofs.running.take_some.Given as given
+use Rattle.script_run.proofs.running.take_some.Goals.{After-read_script, After-take_piece}
+use Rattle.script_run.proofs.running.take_some.Goals as goal
+
+pub take_piece-requires-clause-ready : goal.take_piece-requires-clause-ready
+take_piece-requires-clause-ready g c = stands_still c.args.engine.now _ _ c.read_script.ensures.call.goes (Stays-now c.read_script.ensures.call.goes c.read_script.ensures.call.stays) c.requires.ready
+
+-- the read leaves all that is owed
+read : (g : given.Over) (c : After-read_script g) (aim : Aim) (s : State) → IsTrue (g.W.Devices.standing c.args.world.now).told
+    → Owes aim c.args.engine.now s [] (commands (c.args.kept.now.items ++ (g.W.Devices.standing c.args.world.now).outside.input)) (g.W.Devices.standing c.args.world.now)
+    → Comes {T = Unit {0}} aim c.args.engine.now [] (commands (c.args.kept.now.items ++ (g.W.Devices.standing c.args.world.now).outside.input)) (g.W.Devices.standing c.args.world.now) (g.W.Devices.standing c.read_script.new.world) (Ok tt)
+read g c aim s told owes = read_comes aim _ s _ _ _ c.requires.ready told (g.met.W.World.timed c.args.world.now) c.read_script.ensures.call (c.read_script.ensures.rest.output refl).0 owes
+
+pub returns-in_err-count-clause-comes : goal.returns-in_err-count-clause-comes
+returns-in_err-count-clause-comes g c = λ aim s told owes.
+    read_fails c.from_residual.result _ c.from_residual.ensures c.in_err-count.ensures.fault (read g (goal.at.returns-in_err-count-clause-comes g c).After-read_script aim s told owes)
+
+-- and then the piece is taken
+took : (g : given.Over) (c : After-take_piece g) (aim : Aim) → IsTrue (g.W.Devices.standing c.args.world.now).told
+    → Comes {T = Unit {0}} aim c.args.engine.now [] (commands (c.args.kept.now.items ++ (g.W.Devices.standing c.args.world.now).outside.input)) (g.W.Devices.standing c.args.world.now) (g.W.Devices.standing c.read_script.new.world) (Ok tt)
+    → Comes aim c.take_piece.new.engine [] (commands (c.take_piece.new.kept.items ++ (g.W.Devices.standing c.take_piece.new.world).outside.input)) (g.W.Devices.standing c.args.world.now) (g.W.Devices.standing c.take_piece.new.world) c.take_piece.result
+took g c aim told first =
+    let input = (c.in_ok-count.ensures.reads told).bytes in
+    let told_mid : IsTrue (g.W.Devices.standing c.read_script.new.world).told = subst IsTrue (sym c.read_script.ensures.call.goes.told) told in
+    subst (λ (l : List ℕ). Comes aim c.take_piece.new.engine [] (commands (c.take_piece.new.kept.items ++ l)) (g.W.Devices.standing c.args.world.now) (g.W.Devices.standing c.take_piece.new.world) c.take_piece.result) (sym c.take_piece.ensures.input)
+    (comes_on first c.take_piece.ensures.goes
+    (λ t owed. c.take_piece.ensures.comes aim t (g.W.Devices.standing c.read_script.new.world).outside.input told_mid (owes_same (ap (λ (l : List ℕ). commands (c.args.kept.now.items ++ l)) input) owed)))
+
+pub returns-in_err-take_piece-clause-cause : goal.returns-in_err-take_piece-clause-cause
+returns-in_err-take_piece-clause-cause g c =
+    cause_then _ (c.in_ok-count.ensures.cause c.args.engine.now).ok (cause_err c.from_residual-in_err-take_piece.result _ c.from_residual-in_err-take_piece.ensures c.in_err-take_piece.ensures.cause)
+
+pub returns-in_err-take_piece-clause-comes : goal.returns-in_err-take_piece-clause-comes
+returns-in_err-take_piece-clause-comes g c = λ aim s told owes.
+    let at = goal.at.returns-in_err-take_piece-clause-comes g c in
+    comes_stopped c.from_residual-in_err-take_piece.result _ c.from_residual-in_err-take_piece.ensures c.in_err-take_piece.was (took g at.After-take_piece aim told (read g at.After-read_script aim s told owes))
+
+pub returns-clause-cause : goal.returns-clause-cause
+returns-clause-cause g c = record { failed = tt; ok = NoFault-trans (c.in_ok-count.ensures.cause c.args.engine.now).ok c.in_ok-take_piece.ensures.cause.ok }
+
+pub returns-clause-comes : goal.returns-clause-comes
+returns-clause-comes g c = λ aim s told owes.
+    let at = goal.at.returns-clause-comes g c in
+    comes_well _ c.in_ok-take_piece.was (took g at.After-take_piece aim told (read g at.After-read_script aim s told owes))
