@@ -1,4 +1,3 @@
-pub mod GivenLaws
 pub mod OrderLaws
 pub mod FormatLaws
 pub mod PromiseLaws

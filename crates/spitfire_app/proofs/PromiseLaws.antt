@@ -9,7 +9,6 @@ use Rattle.store_meaning.specs.Layout.{Sizes}
 use Rattle.table_catalog.specs.Catalog.{Table}
 use Rattle.script.specs.declared.command.Command.{Command}
 use Rattle.script.specs.Grammar.{commands}
-use Rattle.script.specs.Tables.{AreTables}
 use Rattle.script.specs.Machine.{State, opening}
 use Rattle.script.specs.Script.{machine, replies, commits, after}
 use Rattle.script.specs.Replies.{text}
@@ -21,7 +20,8 @@ use Rattle.engine.specs.Engine.{engine_sizes, StandsFor, IsSteadyFor}
 use Rattle.engine.specs.Opening.{ShowsHeld}
 use Rattle.engine.proofs.DoesLaws.{engine_in_order, engine_holds}
 use Rattle.script_run.specs.Run.{Aim, Owes, IsKept, AreSafe, IsDone}
-use Rattle.spitfire_app.proofs.GivenLaws.{safe_then}
+use Rattle.script_run.proofs.RunLaws.{safe_then}
+use Rattle.script_run.proofs.TablesLaws.{shows_tables}
 use Rattle.spitfire_app.specs.Promises.{Replies, Recovers, Survives}
 
 module _ (g : Sizes) (T : List Table) (old : Standing) where
@@ -58,9 +58,9 @@ module _ (g : Sizes) (T : List Table) (old : Standing) where
     }
 
     -- and then the whole script is owed
-    pub begun : (engine : Engine) → AreTables T → ShowsHeld g T mid engine → (IsTrue sure → IsSteadyFor engine mid)
+    pub begun : (engine : Engine) → ShowsHeld g T mid engine → (IsTrue sure → IsSteadyFor engine mid)
         → Owes (aim_of sure) engine (opening T) [] (commands mid.outside.input) mid
-    begun engine tables held steady =
+    begun engine held steady =
         subst (λ (o : Outside). Owes (aim_of sure) engine (opening T) [] (commands o.input) mid) (sym goes.outside) (record {
           said = [];
           is_said = Goes-sent timed goes mid.clock goes.clock ∙ sym (append-nil (sent old));
@@ -71,7 +71,7 @@ module _ (g : Sizes) (T : List Table) (old : Standing) where
           at_most = omega arith;
           said_whole = IsWhole-empty;
           bytes_whole = IsWhole-empty;
-          tables = tables;
+          tables = shows_tables held.shows;
           copy = tt;
           shows = held.shows;
           sizes = held.sizes;
@@ -171,14 +171,14 @@ module _ (g : Sizes) (T : List Table) (old mid : Standing) (timed : IsTimed old)
   refused_survives status other moments = survived g T old mid status (opening_safe g T old mid timed goes true (λ in_order. moments)) (λ is. absurd (other is))
 
   -- and one behind which a script was run
-  module _ (engine behind : Engine) (new : Standing) (status : ℕ) (runs : Runs engine mid behind new status) (told : IsTrue old.told) (tables : AreTables T) (held : ShowsHeld g T mid engine) where
+  module _ (engine behind : Engine) (new : Standing) (status : ℕ) (runs : Runs engine mid behind new status) (told : IsTrue old.told) (held : ShowsHeld g T mid engine) where
     told_new : IsTrue new.told
     told_new = subst IsTrue (sym (runs.goes.told ∙ goes.told)) told
 
     ended : (sure : Bool) → (IsTrue sure → IsSteadyFor engine mid) → status ≡ 0 → Ended g T old sure new
     ended sure steady is = record {
       engine = behind;
-      done = runs.ends (aim_of g T old sure) (opening T) (begun g T old mid timed goes sure engine tables held steady) is;
+      done = runs.ends (aim_of g T old sure) (opening T) (begun g T old mid timed goes sure engine held steady) is;
       stands = runs.stands is;
       told = told_new;
     }
@@ -186,7 +186,7 @@ module _ (g : Sizes) (T : List Table) (old mid : Standing) (timed : IsTimed old)
     safe : (sure : Bool) → (IsTrue sure → IsSteadyFor engine mid) → (IsTrue sure → Moments old mid (HasOnly g T old.lines old.blocks)) → AreSafe (aim_of g T old sure) old new
     safe sure steady moments =
         safe_then (opening_safe g T old mid timed goes sure moments) runs.goes
-        (runs.safe (aim_of g T old sure) (opening T) (begun g T old mid timed goes sure engine tables held steady))
+        (runs.safe (aim_of g T old sure) (opening T) (begun g T old mid timed goes sure engine held steady))
 
     pub run_replies : Replies g T old new status
     run_replies = replied g T old new status (safe false (λ none. never none) (λ none. never none)) (ended false (λ none. never none)) runs.read

@@ -3,7 +3,6 @@ use Rattle.std.proofs.Common.{IsTrue, Err, inl, refl, subst, sym, arith}
 use Rattle.recovery.specs.declared.errors.OpenError.{OpenError}
 use Rattle.recovery.specs.declared.errors.OpenError.TheVariants.{Nvm, Ssd, NotAStore, TooSmall, LogEnded, Damaged, NoMemory}
 use Rattle.engine.specs.Opening.{Opens}
-use Rattle.spitfire_app.proofs.GivenLaws.{holds_are_tables}
 use Rattle.spitfire_app.proofs.OrderLaws.{order_holds}
 use Rattle.spitfire_app.proofs.PromiseLaws.{Runs, refused_replies, refused_survives, run_replies, run_survives}
 use Rattle.spitfire_app.proofs.RefusalLaws.{refused_as, complete_as}
@@ -34,14 +33,14 @@ returns-in-Ok-clause-causes g c =
 
 pub returns-in-Ok-clause-replies : goal.returns-in-Ok-clause-replies
 returns-in-Ok-clause-replies g c = λ sizes T told holds.
-    run_replies sizes T _ _ (g.met.W.World.timed c.args.world.now) c.open.ensures.goes c.in-Ok.engine c.run_script.new.engine _ _ (runs_of g c told) told (holds_are_tables sizes holds.lines T holds.holds)
+    run_replies sizes T _ _ (g.met.W.World.timed c.args.world.now) c.open.ensures.goes c.in-Ok.engine c.run_script.new.engine _ _ (runs_of g c told) told
     (c.in-Ok.ensures.shows told sizes T holds)
 
 pub returns-in-Ok-clause-survives : goal.returns-in-Ok-clause-survives
 returns-in-Ok-clause-survives g c = λ sizes T told order.
     let holds = order_holds sizes T _ _ _ order in
     let keeps = c.in-Ok.ensures.order told sizes T order in
-    run_survives sizes T _ _ (g.met.W.World.timed c.args.world.now) c.open.ensures.goes c.in-Ok.engine c.run_script.new.engine _ _ (runs_of g c told) told (holds_are_tables sizes holds.lines T holds.holds)
+    run_survives sizes T _ _ (g.met.W.World.timed c.args.world.now) c.open.ensures.goes c.in-Ok.engine c.run_script.new.engine _ _ (runs_of g c told) told
     (c.in-Ok.ensures.shows told sizes T holds) keeps.steady keeps.moments
 
 pub returns-in-Ok-clause-complete : goal.returns-in-Ok-clause-complete
