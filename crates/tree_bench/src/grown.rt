@@ -2,13 +2,12 @@
 ghost use Rattle.std.specs.Prelude.{◌≤◌, ◌<◌, ◌*◌};
 
 use bplus_tree::put;
-
-use tree_search::{Root, get};
 use line_pages::{Pages, Stop, VecPages};
 use nvm_model::{Line, NoMemory};
 use slotted_page::{Value, Work};
 use std::alloc::Global;
 use std::io;
+use tree_search::{Root, get};
 
 /// Why the program ended early.
 #[derive(Debug, Drop)]
