@@ -1,8 +1,8 @@
 -- Why a run stops, by why its calls do.
-use Rattle.std.proofs.Common.{◌≡◌, ◌≤◌, ℕ, List, false, true, refl, sym, ap, ◌∙◌, subst, arith, IsTrue, Result, Ok, Err}
-use Rattle.std.specs.Prelude.{OnOk, IfErr, IsErr, IsErrAnd}
+use Rattle.std.proofs.Common.{◌≡◌, ◌≤◌, ℕ, List, false, true, refl, sym, ap, ◌∙◌, subst, arith, Result, Ok, Err}
+use Rattle.std.specs.Prelude.{OnOk, IsErr, IsErrAnd}
 use Rattle.std.proofs.lemmas.Result.{IfErr-weaker, on_ok_weaker}
-use Rattle.devices.specs.World.{Standing, Outside, Goes, GoesOn, WorldCall, OnlyChanges, NoFault, Rose, now}
+use Rattle.devices.specs.World.{Standing, Outside, Goes, GoesOn, WorldCall, OnlyChanges, NoFault, Rose}
 use Rattle.devices.proofs.JoinLaws.{NoFault-trans}
 use Rattle.line_pages.specs.declared.stop.Evidence.{Evidence}
 use Rattle.line_pages.specs.declared.stop.Stop.{Stop}
@@ -15,6 +15,11 @@ use Rattle.engine.specs.Engine.{engine_sizes, StandsFor}
 use Rattle.script_run.specs.declared.stop.Halt.{Halt}
 use Rattle.script_run.specs.declared.stop.Halt.TheVariants.{Store, Source, Sink}
 use Rattle.script_run.specs.Cause.{Shown, StoreCaused, Caused, HasCause}
+
+-- what holds whatever is answered holds with ok
+pub OnOk-any : {T E P : Type 0} (r : Result T E) → P → OnOk r P
+OnOk-any (Ok v) p = p
+OnOk-any (Err e) p = tt
 
 -- ---- one call after another
 

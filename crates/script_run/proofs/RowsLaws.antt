@@ -1,5 +1,5 @@
 -- The rows of a scan, as they are sent one by one.
-use Rattle.std.proofs.Common.{◌≡◌, inl, inr, ⊎_elim, ℕ, ◌+◌, ◌<◌, ◌≤◌, min, Bool, true, false, cond, List, [], ◌∷◌, ◌++◌, length, map, filter, Result, Ok, Err, Option, Some, None, refl, sym, ◌∙◌, ap, subst, arith, length-append, IsTrue}
+use Rattle.std.proofs.Common.{◌≡◌, inl, inr, ℕ, ◌+◌, ◌<◌, ◌≤◌, min, Bool, true, false, cond, List, [], ◌∷◌, ◌++◌, length, map, Result, Ok, Err, Option, Some, None, refl, sym, ◌∙◌, ap, subst, arith, length-append, IsTrue}
 use Rattle.std.specs.Prelude.{not, ◌&&◌, ◌||◌, nat_le, bytes_eq, unwrap_or}
 use Rattle.std.specs.List.{list_all, list_any}
 use Rattle.std.proofs.lemmas.Bool.{cases_Bool, and_parts}
@@ -9,7 +9,6 @@ use Rattle.std.proofs.lemmas.List.Folds.{list_any-append}
 use Rattle.devices.specs.World.{Standing, GoesOn, IsTimed, last_count}
 use Rattle.devices.proofs.MomentLaws.{Goes-on}
 use Rattle.line_pages.specs.Lines.{Lines}
-use Rattle.line_pages.specs.declared.stop.Evidence.{Evidence}
 use Rattle.line_pages.specs.declared.stop.Stop.{Stop}
 use Rattle.line_pages.specs.declared.stop.Stop.TheVariants.{Nvm, Ssd, Damaged}
 use Rattle.line_pages.specs.Standing.{HasCause as HasStopCause}
@@ -26,7 +25,7 @@ use Rattle.script.specs.declared.command.Command.TheVariants as command
 use Rattle.script.specs.declared.command.Reason.{Reason}
 use Rattle.script.specs.declared.command.Reply.{Reply}
 use Rattle.script.specs.declared.command.Reply.TheVariants as reply
-use Rattle.script.specs.Tables.{has_row, row_range, rows_or_none, with_table}
+use Rattle.script.specs.Tables.{has_row, rows_or_none}
 use Rattle.script.specs.Grammar.{command_of, command_in}
 use Rattle.script.specs.Machine.{Bounds, State, current, step, refusal, judged, accepted, rows_in, written}
 use Rattle.script.specs.Replies.{reply_text, text}
@@ -38,7 +37,7 @@ use Rattle.engine.specs.Commands.{shown}
 use Rattle.engine.specs.Causes.{Stops}
 use Rattle.engine.specs.Engine.{engine_sizes}
 use Rattle.engine.specs.Holds.{HoldsTables, bounds_in}
-use Rattle.engine.specs.Scanning.{behind, ended, Gives}
+use Rattle.engine.specs.Scanning.{behind, Gives}
 use Rattle.engine.specs.Steps.{Does, rows_left, scan_replies, after_line}
 use Rattle.script_run.specs.Run.{Aim, Owes, AreSafe, Proceeds, IsFew}
 use Rattle.script_run.proofs.RunLaws.{does_safe, does_owes, safe_then, answered}

@@ -1,6 +1,6 @@
 -- How a run goes on.
 use Rattle.std.proofs.Common.{◌≡◌, inl, inr, ⊎_elim, ℕ, ◌+◌, ◌≤◌, Bool, true, false, List, [], ◌∷◌, ◌++◌, length, take, drop, cond, Result, Ok, Err, refl, sym, ◌∙◌, ap, subst, arith, append_assoc, length-append, IsTrue, Option}
-use Rattle.std.specs.Prelude.{IfErr, IsErr, IsErrAnd}
+use Rattle.std.specs.Prelude.{IsErr, IsErrAnd}
 use Rattle.std.proofs.lemmas.Bool.{cases_lt, cases_Bool}
 use Rattle.std.proofs.lemmas.List.{append-nil, take-append-drop}
 use Rattle.std.proofs.lemmas.List.Concat.{flat_map-append}
@@ -17,7 +17,7 @@ use Rattle.table_store.specs.Catalog.{Table}
 use Rattle.texts.specs.Lines.{is_silent}
 use Rattle.texts.specs.Runs as run
 use Rattle.texts.specs.Output.{acked, IsWhole}
-use Rattle.texts.proofs.OutputLaws.{IsWhole-empty, IsWhole-append, acked-whole, acked_prefix}
+use Rattle.texts.proofs.OutputLaws.{IsWhole-append, acked-whole, acked_prefix}
 use Rattle.texts.proofs.TextLaws.{IsWhole-text}
 use Rattle.texts.proofs.RunsLaws.{replies-append}
 use Rattle.script.specs.declared.command.Command.{Command}

@@ -1,8 +1,8 @@
 -- A whole write as it goes on, and two of them.
-use Rattle.std.proofs.Common.{◌≡◌, ℕ, ◌+◌, ◌≤◌, List, ◌++◌, length, take, drop, Result, Ok, Err, IsErr, refl, sym, ◌∙◌, ap, arith, append_assoc, inl, inr, IsTrue}
+use Rattle.std.proofs.Common.{◌≡◌, ℕ, ◌+◌, ◌≤◌, List, [], ◌++◌, length, take, drop, Result, Ok, Err, IsErr, refl, sym, ◌∙◌, ap, arith, append_assoc, inl, inr, IsTrue}
 use Rattle.std.proofs.lemmas.List.{append-nil, take_all, take-append-le, drop-drop, length-drop}
 use Rattle.std.proofs.lemmas.Bool.{cases_lt}
-use Rattle.std.proofs.lemmas.Result.{IfOk-from_err, on_ok_weaker}
+use Rattle.std.proofs.lemmas.Result.{IfOk-from_err}
 use Rattle.std.proofs.Math.Seq.{take-add, take-append-add}
 use Rattle.devices.specs.World.{Standing, GoesOn, Sends, sent, sent_at}
 use Rattle.script_run.specs.Sent.{Writes}
@@ -68,30 +68,51 @@ part_of_all xs ys k = elim (cases_lt (length xs) k) [
   | inr within ↦ (k, sym (take-append-le k xs ys within))
 ]
 
--- a write that fails is one of more bytes
-pub writes_more : {T E U F : Type 0} {r : Result T E} (xs ys all : List ℕ) (old new : Standing) (q : Result U F) → IsErr q → xs ++ ys ≡ all → Writes xs old new r → Writes all old new q
-writes_more xs ys all old new q is same writes = record {
-  ok = IfOk-from_err q _ is;
-  part = λ m low high.
-      let part = writes.part m low high in
-      let more = part_of_all xs ys part.0 in
-      (more.0, part.1 ∙ ap (λ (l : List ℕ). sent old ++ l) (more.1 ∙ ap (take more.0) same));
+-- some bytes were sent, and by each moment a first part of them
+pub record Wrote (bytes : List ℕ) (old mid : Standing) : Type 0 where
+  pub whole : sent mid ≡ sent old ++ bytes
+  pub part : (m : ℕ) → old.clock ≤ m → m ≤ mid.clock → (k : ℕ) × (sent_at mid m ≡ sent old ++ take k bytes)
+
+pub wrote_none : (a : Standing) → Wrote [] a a
+wrote_none a = record {
+  whole = sym (append-nil (sent a));
+  part = λ m low high. let same : m ≡ a.clock = omega arith in (0, rw same (sym (append-nil (sent a))));
 }
 
--- one write after another
-pub writes_then : {T E U F : Type 0} {r : Result T E} (xs ys all : List ℕ) (old mid new : Standing) (q : Result U F) → sent mid ≡ sent old ++ xs → GoesOn mid new → xs ++ ys ≡ all → Writes xs old mid r → Writes ys mid new q → Writes all old new q
-writes_then xs ys all old mid new q first goes same writes later = record {
-  ok = on_ok_weaker q (λ (is : sent new ≡ sent mid ++ ys). is ∙ ap (λ (l : List ℕ). l ++ ys) first ∙ append_assoc (sent old) xs ys ∙ ap (λ (l : List ℕ). sent old ++ l) same) later.ok;
-  part = λ m low high. elim (cases_lt mid.clock m) [
-    | inr before ↦
-        let part = writes.part m low before in
-        let more = part_of_all xs ys part.0 in
-        (more.0, goes.earlier_sent m before ∙ part.1 ∙ ap (λ (l : List ℕ). sent old ++ l) (more.1 ∙ ap (take more.0) same))
-    | inl after ↦
-        let part = later.part m (omega (arith, after)) high in (
-          length xs + part.0,
-          part.1 ∙ ap (λ (l : List ℕ). l ++ take part.0 ys) first ∙ append_assoc (sent old) xs (take part.0 ys)
-              ∙ ap (λ (l : List ℕ). sent old ++ l) (sym (take-append-add xs ys part.0) ∙ ap (take (length xs + part.0)) same),
-        )
-  ];
+pub wrote_all : {T E : Type 0} (xs all : List ℕ) (old mid : Standing) (v : T) → xs ≡ all → Wrote xs old mid → Writes {E = E} all old mid (Ok v)
+wrote_all xs all old mid v same wrote = record {
+  ok = wrote.whole ∙ ap (λ (l : List ℕ). sent old ++ l) same;
+  part = λ m low high. let part = wrote.part m low high in (part.0, part.1 ∙ ap (λ (l : List ℕ). sent old ++ take part.0 l) same);
 }
+
+-- and one write more
+module _ (xs ys all : List ℕ) (old mid new : Standing) (wrote : Wrote xs old mid) (goes : GoesOn mid new) (is : xs ++ ys ≡ all) where
+  part_then : {T E : Type 0} {r : Result T E} → Writes ys mid new r → (m : ℕ) → old.clock ≤ m → m ≤ new.clock → (k : ℕ) × (sent_at new m ≡ sent old ++ take k all)
+  part_then writes m low high = elim (cases_lt mid.clock m) [
+    | inr before ↦
+        let part = wrote.part m low before in
+        let more = part_of_all xs ys part.0 in
+        (more.0, goes.earlier_sent m before ∙ part.1 ∙ ap (λ (l : List ℕ). sent old ++ l) (more.1 ∙ ap (λ (l : List ℕ). take more.0 l) is))
+    | inl after ↦
+        let part = writes.part m (omega (arith, after)) high in (
+          length xs + part.0,
+          part.1 ∙ ap (λ (l : List ℕ). l ++ take part.0 ys) wrote.whole ∙ append_assoc (sent old) xs (take part.0 ys)
+              ∙ ap (λ (l : List ℕ). sent old ++ l) (sym (take-append-add xs ys part.0) ∙ ap (λ (l : List ℕ). take (length xs + part.0) l) is),
+        )
+  ]
+
+  pub wrote_then : {T E : Type 0} {v : T} → Writes {E = E} ys mid new (Ok v) → Wrote all old new
+  wrote_then writes = record {
+    whole = writes.ok ∙ ap (λ (l : List ℕ). l ++ ys) wrote.whole ∙ append_assoc (sent old) xs ys ∙ ap (λ (l : List ℕ). sent old ++ l) is;
+    part = part_then writes;
+  }
+
+  -- where it fails, a part of what was still to be sent stayed behind
+  pub wrote_fails : {T E U F : Type 0} {r : Result T E} (more whole : List ℕ) (q : Result U F) → IsErr q → all ++ more ≡ whole → Writes ys mid new r → Writes whole old new q
+  wrote_fails more whole q failed same writes = record {
+    ok = IfOk-from_err q _ failed;
+    part = λ m low high.
+        let part = part_then writes m low high in
+        let of_all = part_of_all all more part.0 in
+        (of_all.0, part.1 ∙ ap (λ (l : List ℕ). sent old ++ l) (of_all.1 ∙ ap (λ (l : List ℕ). take of_all.0 l) same));
+  }

@@ -1,24 +1,25 @@
 -- The step, and then its replies.
-use Rattle.std.proofs.Common.{◌≡◌, ◌∙◌, ◌++◌, [], ◌∷◌, ℕ, List, Option, Ok, Err, IsTrue, refl, sym, ap, subst}
+use Rattle.std.proofs.Common.{◌≡◌, ◌+◌, ◌≤◌, ◌∙◌, ◌++◌, [], ◌∷◌, ℕ, List, Option, IsTrue, sym, ap, subst, arith}
 use Rattle.std.proofs.lemmas.List.{append-nil}
+use Rattle.std.proofs.lemmas.Result.{on_ok_weaker}
 use Rattle.devices.specs.World.{NoFault}
 use Rattle.devices.proofs.MomentLaws.{Goes-on, GoesOn-trans}
-use Rattle.texts.specs.Output.{IsWhole, no_line}
+use Rattle.texts.specs.Output.{no_line}
 use Rattle.texts.specs.Runs as run
-use Rattle.texts.proofs.OutputLaws.{IsWhole-line}
 use Rattle.texts.proofs.TextLaws.{text_one}
 use Rattle.script.specs.declared.command.Command.{Command}
 use Rattle.script.specs.Grammar.{command_in}
 use Rattle.script.specs.Machine.{State, current}
-use Rattle.script.specs.Replies.{reply_line, reply_text, text}
+use Rattle.script.specs.Replies.{reply_line, text}
 use Rattle.script.specs.Script.{machine}
+use Rattle.transactions.specs.StoreStanding.{reach}
 use Rattle.engine.specs.declared.scan.Step.{Step}
 use Rattle.engine.specs.Holds.{bounds_in}
 use Rattle.engine.specs.Engine.{engine_sizes}
 use Rattle.engine.specs.Steps.{after_line, step_replies, IsBegun}
 use Rattle.script_run.specs.Run.{Aim, Owes, AreSafe}
 use Rattle.script_run.proofs.RunLaws.{step_safe, answered, proceeds_then, proceeds_stop}
-use Rattle.script_run.proofs.CauseLaws.{cause_then, cause_stopped, quiet_step}
+use Rattle.script_run.proofs.CauseLaws.{OnOk-any, cause_then, cause_stopped, quiet_step}
 use Rattle.script_run.proofs.RowsLaws.{scan_owed, scan_few}
 use Rattle.script_run.proofs.answering.answer.Goals as goal
 use Rattle.script_run.proofs.answering.answer.Goals.{After-step, In_ok-step}
@@ -69,6 +70,15 @@ returns-in-Silent-clause-proceeds g c = λ aim s commands told owes.
       ok = owed g at aim s commands [] told owes (ap text (sym (replies_are g at s _ told aim commands owes c.in-Silent.is)));
     }
 
+pub returns-in-Said-clause-goes : goal.returns-in-Said-clause-goes
+returns-in-Said-clause-goes g c = GoesOn-trans (Goes-on c.step.ensures.does.goes) c.say.ensures.call.goes
+
+pub returns-in-Said-clause-ready : goal.returns-in-Said-clause-ready
+returns-in-Said-clause-ready g c = OnOk-any c.say.result (c.say.ensures.stands c.step.new.self c.in_ok-step.ensures.does.ready)
+
+pub returns-in-Said-clause-reaches : goal.returns-in-Said-clause-reaches
+returns-in-Said-clause-reaches g c = OnOk-any c.say.result c.in_ok-step.ensures.does.reach_rises
+
 pub returns-in-Said-clause-cause : goal.returns-in-Said-clause-cause
 returns-in-Said-clause-cause g c = cause_then c.say.result (quiet g (goal.at.returns-in-Said-clause-cause g c).In_ok-step) (c.say.ensures.cause c.step.new.self)
 
@@ -83,6 +93,14 @@ returns-in-Said-clause-proceeds g c = λ aim s commands told owes.
     proceeds_then (safe g (goal.at.returns-in-Said-clause-proceeds g c).After-step aim s commands told owes) c.say.ensures.call.goes
     (c.say.ensures.proceeds aim c.step.new.self after [] commands told_new does.ready is_owed.bytes_whole no_line
     (subst (λ (l : List ℕ). Owes aim c.step.new.self after l commands (g.W.Devices.standing c.step.new.world)) (sym (append-nil c.as_slice.result.now)) is_owed))
+
+pub returns-in-Scanning-clause-goes : goal.returns-in-Scanning-clause-goes
+returns-in-Scanning-clause-goes g c = GoesOn-trans (Goes-on c.step.ensures.does.goes) c.give_rows.ensures.goes
+
+pub returns-in-Scanning-clause-reaches : goal.returns-in-Scanning-clause-reaches
+returns-in-Scanning-clause-reaches g c =
+    let risen : reach c.step.new.self.book ≤ reach c.args.engine.now.book + 1921 = c.in_ok-step.ensures.does.reach_rises in
+    on_ok_weaker c.give_rows.result (λ (same : reach c.give_rows.new.engine.book ≡ reach c.step.new.self.book). omega (arith, same, risen)) c.give_rows.ensures.reaches
 
 pub returns-in-Scanning-clause-cause : goal.returns-in-Scanning-clause-cause
 returns-in-Scanning-clause-cause g c = cause_then c.give_rows.result (quiet g (goal.at.returns-in-Scanning-clause-cause g c).In_ok-step) c.give_rows.ensures.cause
