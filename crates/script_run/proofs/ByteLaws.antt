@@ -1,8 +1,8 @@
--- How the lines of a script come byte by byte, and how a run ends.
-use Rattle.std.proofs.Common.{◌≡◌, ◌≢◌, ℕ, ◌≤◌, List, [], ◌∷◌, ◌++◌, length, Result, Ok, Err, refl, sym, ◌∙◌, ap, subst, arith, append_assoc, Option, false, true, IsTrue}
+-- How the lines of a script come byte by byte.
+use Rattle.std.proofs.Common.{◌≡◌, ◌≢◌, ℕ, ◌≤◌, List, [], ◌∷◌, ◌++◌, length, Result, Ok, Err, sym, ◌∙◌, ap, subst, append_assoc, Option, IsTrue}
 use Rattle.std.specs.Prelude.{IsErr, IsErrAnd, IfErr}
 use Rattle.std.proofs.lemmas.List.{append-nil}
-use Rattle.devices.specs.World.{Standing, GoesOn, WorldCall, OnlyChanges, NoFault, IsTimed, sent, sent_at, sent_by}
+use Rattle.devices.specs.World.{Standing, GoesOn, WorldCall, IsTimed, sent, sent_at, sent_by}
 use Rattle.devices.proofs.JoinLaws.{Stays-now}
 use Rattle.line_pages.specs.declared.stop.Stop.{Stop}
 use Rattle.line_pages.specs.declared.stop.Stop.TheVariants.{Nvm, Ssd, Damaged}
@@ -16,7 +16,7 @@ use Rattle.engine.specs.Engine.{StandsFor, IsFault as IsStoreFault}
 use Rattle.script_run.specs.declared.stop.Halt.{Halt}
 use Rattle.script_run.specs.declared.stop.Halt.TheVariants.{Store}
 use Rattle.script_run.specs.Cause.{IsFault}
-use Rattle.script_run.specs.Run.{Aim, Owes, AreSafe, Comes}
+use Rattle.script_run.specs.Run.{Aim, Owes, Comes}
 use Rattle.script_run.proofs.RunLaws.{still_safe, owes_still, idle_safe, comes_then, comes_ok, comes_err, handed_on}
 
 -- ---- lines
@@ -89,9 +89,6 @@ pub read_fails : {T U : Type 0} {aim : Aim} {engine after : Engine} {xs ys : Lis
     → Comes aim engine [] xs old new (Ok v) → Comes aim after [] ys old new q
 read_fails {T} {U} {aim} {engine} {after} {xs} {ys} {old} {new} {v} q why is fault comes =
     subst (λ (r : Result T Halt). Comes aim after [] ys old new r) (sym (handed_on q why is)) (record { s = comes.s; proceeds = record { safe = comes.proceeds.safe; sound = fault; ok = tt } })
-
-pub quiet_read : (a b : Standing) → WorldCall a b → OnlyChanges false true false a b → b.outside.source_faults ≡ a.outside.source_faults → NoFault a b
-quiet_read a b call rest same = record { nvm = call.nvm_faults; ssd = call.ssd_faults; settings = (rest.settings refl).1; source = same; sink = (rest.output refl).1 }
 
 -- ---- faults
 

@@ -1,13 +1,12 @@
 -- The last line is answered, and then an open transaction is aborted.
-use Rattle.std.proofs.Common.{rules, arith, ◌≡◌, List, [], ◌++◌, IsTrue, subst, sym, refl, ap, ◌∙◌}
-use Rattle.std.proofs.lemmas.Result.{IfOk-at_ok}
-use Rattle.devices.proofs.MomentLaws.{GoesOn-trans, Goes-on}
+use Rattle.std.proofs.Common.{[], IsTrue, subst, sym, refl}
+use Rattle.devices.proofs.MomentLaws.{Goes-on}
 use Rattle.script.specs.Grammar.{commands, command_in}
 use Rattle.script.specs.Machine.{State}
 use Rattle.engine.specs.Answers.{closed}
 use Rattle.engine.specs.Steps.{after_line}
-use Rattle.script_run.specs.Run.{Aim, Owes, Proceeds, AreSafe, IsDone}
-use Rattle.script_run.proofs.RunLaws.{safe_then, proceeds_ok, proceeds_err, does_safe, done_by}
+use Rattle.script_run.specs.Run.{Aim, Owes, Proceeds, AreSafe}
+use Rattle.script_run.proofs.RunLaws.{safe_then, proceeds_ok, does_safe, done_by}
 use Rattle.script_run.proofs.CauseLaws.{cause_then, cause_stopped, quiet_step}
 use Rattle.script_run.proofs.ByteLaws.{owes_same, line_whole, fault_err, store_fault}
 use Rattle.script_run.proofs.running.end_run.Given as given

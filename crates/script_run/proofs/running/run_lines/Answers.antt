@@ -7,13 +7,11 @@ use Rattle.texts.specs.Lines.{IsOneLine}
 use Rattle.texts.proofs.LinesLaws.{IsOneLine-empty}
 use Rattle.script.specs.Grammar.{commands}
 use Rattle.script.specs.Machine.{State}
-use Rattle.script_run.specs.Run.{Aim, Owes, AreSafe, Comes}
+use Rattle.script_run.specs.Run.{Aim, Owes, Comes}
 use Rattle.devices.proofs.JoinLaws.{Stays-now}
-use Rattle.std.specs.Prelude.{IfErr}
-use Rattle.script_run.specs.Cause.{IsFault}
 use Rattle.script_run.proofs.RunLaws.{stands_still, safe_then}
 use Rattle.script_run.proofs.CauseLaws.{cause_then, cause_err}
-use Rattle.script_run.proofs.ByteLaws.{owes_same, line_last, comes_same, comes_on, comes_well, comes_stopped, idle, fault_err, read_comes}
+use Rattle.script_run.proofs.ByteLaws.{line_last, comes_same, comes_on, comes_well, comes_stopped, idle, fault_err, read_comes}
 use Rattle.script_run.proofs.running.run_lines.Given as given
 use Rattle.script_run.proofs.running.run_lines.Goals.{After-take_some, After-end_run, After-read_script, After-end_run-2}
 use Rattle.script_run.proofs.running.run_lines.Goals as goal

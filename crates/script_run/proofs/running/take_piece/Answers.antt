@@ -1,5 +1,5 @@
 -- One byte after the other.
-use Rattle.std.proofs.Common.{rules, arith, refl, ◌≡◌, ◌+◌, ℕ, List, [], ◌++◌, drop, IsTrue, subst, sym, ◌∙◌, ap}
+use Rattle.std.proofs.Common.{arith, refl, ◌≡◌, ◌+◌, ℕ, List, [], ◌++◌, drop, IsTrue, subst, sym, ◌∙◌, ap}
 use Rattle.std.proofs.lemmas.Grind.{common_steps}
 use Rattle.std.proofs.lemmas.List.{drop_more}
 use Rattle.devices.proofs.MomentLaws.{GoesOn-trans}

@@ -1,6 +1,5 @@
 -- What was read is taken.
-use Rattle.std.proofs.Common.{rules, arith, ◌≡◌, ℕ, List, [], ◌++◌, IsTrue, Ok, subst, sym, refl, ap}
-use Rattle.devices.proofs.MomentLaws.{GoesOn-trans}
+use Rattle.std.proofs.Common.{ℕ, List, [], ◌++◌, IsTrue, Ok, subst, sym, refl, ap}
 use Rattle.script.specs.Grammar.{commands}
 use Rattle.script.specs.Machine.{State}
 use Rattle.script_run.specs.Run.{Aim, Owes, Comes}

@@ -1,5 +1,4 @@
 -- The text of what was shown is sent.
-use Rattle.std.proofs.Common.{rules, arith, sym}
 use Rattle.script_run.proofs.StatusLaws.{told_by}
 use Rattle.script_run.proofs.scripts.show_damage.Goals as goal
 
