@@ -1,9 +1,10 @@
 -- A line feed has the line answered; another byte is kept where there is room.
-use Rattle.std.proofs.Common.{rules, arith, ◌≡◌, ◌≤◌, [], ◌++◌, length, Ok, subst, sym, ◌∙◌, ap}
+use Rattle.std.proofs.Common.{rules, arith, ◌≡◌, ◌≤◌, [], ◌++◌, length, Ok, Err, subst, sym, ◌∙◌, ap}
 use Rattle.std.proofs.lemmas.Bool.Decides.{nat_tests}
 use Rattle.script.specs.Grammar.{command_in, commands}
 use Rattle.texts.specs.Lines.{IsOneLine}
 use Rattle.texts.proofs.LinesLaws.{IsOneLine-empty, IsOneLine-push}
+use Rattle.engine.specs.Steps.{after_line}
 use Rattle.script_run.proofs.RunLaws.{comes_of, comes_err}
 use Rattle.script_run.proofs.ByteLaws.{owes_same, comes_same, line_ends, line_grows, line_full, idle}
 use Rattle.script_run.proofs.running.take_byte.Goals as goal
@@ -16,7 +17,7 @@ returns-in_ok-answer-clause-comes g c = λ aim s more told owes.
     let line : c.args.kept.now.items ≡ c.as_slice.result.now = search rules in
     let empty : [] ≡ c.clear.new.self.items = search rules in
     let first = line_ends c.args.kept.now.items more c.args.byte c.requires.one c.if-byte-eq-LINE_FEED.true ∙ ap (λ l. command_in l ++ commands more) line in
-    comes_same {r = Ok tt} (ap (λ l. commands (l ++ more)) empty) (comes_of {r = Ok tt} (c.in_ok-answer.ensures.proceeds aim s (commands more) told (owes_same first owes)))
+    comes_same {r = Ok tt} (ap (λ l. commands (l ++ more)) empty) (comes_of {s = after_line c.args.engine.now (command_in c.as_slice.result.now) s} {r = Ok tt} (c.in_ok-answer.ensures.proceeds aim s (commands more) told (owes_same first owes)))
 
 pub returns-then-not-is_full-clause-one : goal.returns-then-not-is_full-clause-one
 returns-then-not-is_full-clause-one g c = subst IsOneLine (sym c.push.ensures.items) (IsOneLine-push c.requires.one c.if-byte-eq-LINE_FEED.false)
@@ -34,4 +35,4 @@ pub returns-in_err-answer-clause-comes : goal.returns-in_err-answer-clause-comes
 returns-in_err-answer-clause-comes g c = λ aim s more told owes.
     let line : c.args.kept.now.items ≡ c.as_slice.result.now = sym c.as_slice.ensures.value in
     let first = line_ends c.args.kept.now.items more c.args.byte c.requires.one c.if-byte-eq-LINE_FEED.true ∙ ap (λ l. command_in l ++ commands more) line in
-    comes_err c.from_residual.result _ c.from_residual.ensures (comes_of (c.in_err-answer.ensures.proceeds aim s (commands more) told (owes_same first owes)))
+    comes_err c.from_residual.result _ c.from_residual.ensures (comes_of {s = after_line c.args.engine.now (command_in c.as_slice.result.now) s} {r = Err c.in_err-answer.field-0.0} (c.in_err-answer.ensures.proceeds aim s (commands more) told (owes_same first owes)))

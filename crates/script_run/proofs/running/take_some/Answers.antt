@@ -42,7 +42,7 @@ returns-in_err-take_piece-clause-cause g c =
 pub returns-in_err-take_piece-clause-comes : goal.returns-in_err-take_piece-clause-comes
 returns-in_err-take_piece-clause-comes g c = λ aim s told owes.
     let at = goal.at.returns-in_err-take_piece-clause-comes g c in
-    comes_stopped c.from_residual-in_err-take_piece.result _ c.from_residual-in_err-take_piece.ensures c.in_err-take_piece.was (took g at.After-take_piece aim told (read g at.After-read_script aim s told owes))
+    comes_stopped {ys = commands (c.take_piece.new.kept.items ++ (g.W.Devices.standing c.take_piece.new.world).outside.input)} c.from_residual-in_err-take_piece.result _ c.from_residual-in_err-take_piece.ensures c.in_err-take_piece.was (took g at.After-take_piece aim told (read g at.After-read_script aim s told owes))
 
 pub returns-clause-cause : goal.returns-clause-cause
 returns-clause-cause g c = record { failed = tt; ok = NoFault-trans (c.in_ok-count.ensures.cause c.args.engine.now).ok c.in_ok-take_piece.ensures.cause.ok }
