@@ -1,12 +1,11 @@
 -- Why each status of a run comes, by what its opening found.
-use Rattle.std.proofs.Common.{◌≡◌, ◌≢◌, ◌⊎◌, inl, inr, ℕ, ◌-◌, ◌^◌, ◌<◌, ◌≤◌, List, [], ◌∷◌, length, refl, sym, ◌∙◌, ap, subst, arith, IsTrue, Result, Ok, Err}
+use Rattle.std.proofs.Common.{◌≡◌, ◌≢◌, ◌⊎◌, inl, inr, ℕ, ◌^◌, ◌<◌, ◌≤◌, List, [], ◌∷◌, length, refl, sym, ◌∙◌, ap, subst, arith, IsTrue, Result, Ok, Err}
 use Rattle.std.proofs.lemmas.Bool.{cases_lt}
 use Rattle.devices.specs.State.{current}
 use Rattle.devices.specs.World.{Standing, NoFault, Rose, now}
 use Rattle.nvm_layout.specs.Opening.{Finding, finding, super_from}
-use Rattle.nvm_layout.specs.Opening.Finding.{another, too_small, ended, sound}
+use Rattle.nvm_layout.specs.Opening.Finding.{another, too_small, ended}
 use Rattle.store_meaning.specs.Layout.{Sizes}
-use Rattle.store_meaning.specs.Format.{magic}
 use Rattle.table_catalog.specs.Catalog.{Table}
 use Rattle.recovery.specs.Opening.{Answers, IsAnswer, IsFound, FindsInLog}
 use Rattle.recovery.specs.declared.opening.Parts.{Parts}

@@ -1,18 +1,15 @@
 -- What a format leaves and says.
-use Rattle.std.proofs.Common.{◌≡◌, ◌⊎◌, inl, inr, ◌↔◌, ℕ, ◌+◌, ◌≤◌, List, [], ◌++◌, length, take, drop, Result, Ok, Err, refl, sym, ◌∙◌, ap, subst, arith, length-append, true, false, IsTrue}
+use Rattle.std.proofs.Common.{◌≡◌, inl, inr, ℕ, ◌+◌, ◌≤◌, List, [], ◌++◌, length, take, drop, Result, refl, sym, ◌∙◌, ap, subst, arith, length-append, IsTrue}
 use Rattle.std.proofs.lemmas.Bool.{cases_lt}
 use Rattle.std.proofs.lemmas.List.{append-nil, take-append-drop}
 use Rattle.devices.specs.State.{State as Devices, Image, Leaves, fresh}
-use Rattle.devices.specs.World.{Standing, Outside, Goes, GoesOn, WorldCall, OnlyChanges, OwnCause, IsTimed, Moments, NoFault, Rose, now, sent, sent_at}
+use Rattle.devices.specs.World.{Standing, Goes, WorldCall, IsTimed, Moments, now, sent, sent_at}
 use Rattle.devices.proofs.MomentLaws.{Goes-sent, Moments-map}
-use Rattle.store_meaning.specs.Layout.{Sizes, nvm_lines, ssd_blocks, is_allowed}
+use Rattle.store_meaning.specs.Layout.{Sizes, nvm_lines, ssd_blocks}
 use Rattle.recovery.specs.Empty.{IsEmptyStore, MayFormat as MayLeaveEmpty, Formats, MakesEmpty}
-use Rattle.recovery.specs.Causes.{FormatCause, IsTooSmall}
-use Rattle.recovery.specs.declared.errors.FormatError.{FormatError}
-use Rattle.recovery.specs.declared.errors.FormatError.TheVariants as format
 use Rattle.engine.specs.Holds.{InOrder}
 use Rattle.script_run.specs.Sent.{Writes}
-use Rattle.spitfire_app.specs.Promises.{first_sizes, formatted, MayFormat, Formatted, FormatCauses}
+use Rattle.spitfire_app.specs.Promises.{first_sizes, formatted, MayFormat, Formatted}
 use Rattle.spitfire_app.proofs.OrderLaws.{left_in_order, empty_in_order}
 
 -- nothing was sent, so not the whole line

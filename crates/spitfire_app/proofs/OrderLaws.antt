@@ -1,5 +1,5 @@
 -- Devices in order: what a crash leaves of them, what one reads, and what an empty store is.
-use Rattle.std.proofs.Common.{◌≡◌, ℕ, zero, suc, ◌+◌, ◌*◌, ◌/◌, ◌≤◌, Bool, true, false, ◌&&◌, List, [], ◌∷◌, ◌++◌, None, Option, refl, sym, ap, ◌∙◌, subst, map, arith, cond, eqb}
+use Rattle.std.proofs.Common.{◌≡◌, ℕ, zero, suc, ◌+◌, ◌≤◌, Bool, true, false, ◌&&◌, List, [], ◌∷◌, ◌++◌, None, refl, sym, ap, ◌∙◌, subst, map, arith, cond, eqb}
 use Rattle.std.specs.Prelude.{nat_le, nat_lt}
 use Rattle.std.specs.List.{list_all}
 use Rattle.std.proofs.lemmas.Bool.{and_parts, le-leb, leb-true, le-ltb, ne_eqb}
@@ -14,11 +14,11 @@ use Rattle.store_meaning.proofs.FactsLaws.{current_leaves}
 use Rattle.store_laws.specs.OpenFacts.{keeping}
 use Rattle.store_laws.specs.Steps.{IsStoreOf}
 use Rattle.slotted_page.specs.Checks.{first_failure}
-use Rattle.page_space.specs.Space.{word, high_of}
+use Rattle.page_space.specs.Space.{word}
 use Rattle.page_space.specs.Moves.{below}
 use Rattle.page_space.specs.Counted.{times}
 use Rattle.table_catalog.specs.declared.limits.Limits.{Limits}
-use Rattle.table_catalog.specs.Catalog.{Table, tables, table_of, table_count, entries, entries_from, catalog_checks, header_checks, is_entry, names_differ, name_of}
+use Rattle.table_catalog.specs.Catalog.{Table, tables, table_of, entries, entries_from, catalog_checks, header_checks, is_entry, names_differ, name_of}
 use Rattle.table_catalog.specs.Stored.{IsStore, HasTree, all_pages}
 use Rattle.slotted_page.specs.Rows.{Each}
 use Rattle.recovery.specs.Empty.{catalog_line, IsEmptyStore}

@@ -1,13 +1,12 @@
 -- From the way of a run to what is promised of it.
-use Rattle.std.proofs.Common.{◌≡◌, ℕ, ◌+◌, ◌≤◌, Bool, true, false, List, [], ◌∷◌, ◌++◌, length, refl, sym, ◌∙◌, ap, subst, arith, length-append, get_or, Option, IsTrue}
+use Rattle.std.proofs.Common.{◌≡◌, ℕ, ◌+◌, Bool, true, false, List, [], ◌∷◌, ◌++◌, length, refl, sym, ◌∙◌, ap, subst, arith, length-append, get_or, IsTrue}
 use Rattle.std.proofs.lemmas.List.{append-nil}
 use Rattle.std.proofs.Math.Seq.{get_or-append_seam}
-use Rattle.devices.specs.State.{Image, Leaves, fresh}
+use Rattle.devices.specs.State.{Image, fresh}
 use Rattle.devices.specs.World.{Standing, Outside, Goes, GoesOn, IsTimed, Moments, now, sent}
 use Rattle.devices.proofs.MomentLaws.{Goes-sent}
 use Rattle.store_meaning.specs.Layout.{Sizes}
 use Rattle.table_catalog.specs.Catalog.{Table}
-use Rattle.script.specs.declared.command.Command.{Command}
 use Rattle.script.specs.Grammar.{commands}
 use Rattle.script.specs.Machine.{State, opening}
 use Rattle.script.specs.Script.{machine, replies, commits, after}

@@ -1,8 +1,7 @@
 -- Why a run ends whose opening is refused for another cause than damage.
-use Rattle.std.proofs.Common.{◌≡◌, ◌≢◌, ◌⊎◌, inl, inr, ℕ, ◌-◌, [], ◌∷◌, refl, sym, ◌∙◌, ap, subst, arith, Result, Ok, Err}
+use Rattle.std.proofs.Common.{◌≡◌, ◌≢◌, ◌⊎◌, inl, inr, ℕ, [], ◌∷◌, refl, sym, ◌∙◌, ap, subst, arith, Result, Ok, Err}
 use Rattle.std.proofs.lemmas.Result.{IfErr-at_err}
-use Rattle.devices.specs.World.{Standing, Outside, Goes, Stays, sent}
-use Rattle.nvm_layout.specs.Opening.Finding.{sound}
+use Rattle.devices.specs.World.{Standing, Outside, Goes, Stays}
 use Rattle.recovery.specs.Causes.{OpenStops}
 use Rattle.recovery.specs.Opening.{HoldsStore}
 use Rattle.recovery.specs.declared.opening.Parts.{Parts}

@@ -1,9 +1,8 @@
 -- Why a run ends that answers a script.
-use Rattle.std.proofs.Common.{◌≡◌, ◌≢◌, inl, inr, ℕ, ◌-◌, ◌^◌, ◌<◌, ◌≤◌, List, [], ◌∷◌, length, refl, sym, ◌∙◌, ap, subst, arith, IsTrue, Result, Ok}
+use Rattle.std.proofs.Common.{◌≡◌, ◌≢◌, inl, inr, ℕ, ◌^◌, ◌<◌, ◌≤◌, List, [], ◌∷◌, length, refl, sym, ◌∙◌, ap, subst, arith, IsTrue, Result, Ok}
 use Rattle.std.proofs.lemmas.Result.{IfOk-at_ok}
 use Rattle.devices.specs.World.{Standing, Outside, Goes, GoesOn, NoFault, Rose, now}
 use Rattle.nvm_layout.specs.Opening.{NoFault as NoneCame}
-use Rattle.nvm_layout.specs.Opening.Finding.{sound}
 use Rattle.store_meaning.specs.Layout.{Sizes}
 use Rattle.table_catalog.specs.Catalog.{Table}
 use Rattle.script.specs.Machine.{opening as at_start}

@@ -1,12 +1,10 @@
 -- Statuses that are one of some, and by what the words of a superblock are found to be.
-use Rattle.std.proofs.Common.{◌≡◌, ◌⊎◌, inl, inr, ℕ, ◌<◌, ◌≤◌, Bool, true, false, not, ◌||◌, eqb, List, [], ◌∷◌, refl, sym, ◌∙◌, ap, subst, arith, slice_index, IsTrue, Result, Ok, Err}
+use Rattle.std.proofs.Common.{◌≡◌, ◌⊎◌, inl, inr, ℕ, ◌<◌, ◌≤◌, Bool, true, false, not, ◌||◌, eqb, List, [], ◌∷◌, refl, sym, ◌∙◌, ap, subst, arith, IsTrue, Result, Ok, Err}
 use Rattle.std.specs.List.{list_any, list_all}
 use Rattle.std.proofs.lemmas.Bool.{cases_Bool, and_parts, eqb-true}
 use Rattle.devices.specs.World.{Rose, last_count}
-use Rattle.line_pages.specs.declared.stop.Evidence.{Evidence}
-use Rattle.nvm_layout.specs.Opening.{Finding, sizes_from, IsEvidence}
+use Rattle.nvm_layout.specs.Opening.{Finding}
 use Rattle.nvm_layout.specs.Opening.Finding.{another, too_small, ended, sound, fails}
-use Rattle.recovery.specs.Heads.{IsLogEvidence}
 use Rattle.recovery.specs.Opening.{IsAnswer}
 use Rattle.recovery.specs.declared.opening.Parts.{Parts}
 use Rattle.recovery.specs.declared.errors.OpenError.{OpenError}

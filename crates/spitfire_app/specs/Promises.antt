@@ -2,7 +2,7 @@
 use Rattle.std.specs.Prelude.{◌≡◌, ◌≢◌, ◌⊎◌, codes, ℕ, ◌+◌, ◌^◌, ◌<◌, ◌≤◌, List, [], ◌∷◌, ◌++◌, length, None, Some, IsTrue}
 use Rattle.devices.specs.State.{State, Image, Leaves, fresh, current}
 use Rattle.devices.specs.World.{Standing, Moments, Rose, NoFault, last_count, now, sent, sent_at}
-use Rattle.store_meaning.specs.Layout.{Sizes, nvm_lines, ssd_blocks}
+use Rattle.store_meaning.specs.Layout.{Sizes}
 use Rattle.store_meaning.specs.Format.Format.{whole_lines}
 use Rattle.store_meaning.specs.Recovered.{image_log_check}
 use Rattle.nvm_layout.specs.Opening.Finding.{another, too_small, ended as log_ended, sound}
