@@ -12,11 +12,11 @@ use Rattle.line_pages.specs.Lines.{Lines}
 use Rattle.line_pages.specs.declared.stop.Stop.{Stop}
 use Rattle.line_pages.specs.declared.stop.Stop.TheVariants.{Nvm, Ssd, Damaged}
 use Rattle.line_pages.specs.Standing.{HasCause as HasStopCause}
-use Rattle.slotted_page.specs.Rows.{Row, Each}
+use Rattle.slotted_page.specs.Rows.{Row, Each, row_delete}
 use Rattle.store_meaning.specs.Layout.{Sizes, pages}
 use Rattle.table_catalog.specs.declared.limits.Limits.{Limits}
 use Rattle.table_catalog.specs.Catalog.{Table, entries, tables, table_of, name_of, entry_rows, is_entry, names_differ, catalog_checks}
-use Rattle.table_catalog.specs.Stored.{IsStore, HasTree, rows_of}
+use Rattle.table_catalog.specs.Stored.{IsStore, HasTree, rows_of, with_rows}
 use Rattle.table_store.specs.Getting.{IsLookupDamage}
 use Rattle.table_catalog.proofs.CatalogLaws.{AllHold, all_hold, fits_entry}
 use Rattle.page_space.specs.Space.{high_of}
@@ -199,7 +199,7 @@ leaves_accepted s command.Begin h = no_end h
 leaves_accepted s (command.Create t) h = no_end h
 leaves_accepted s (command.Put t k v) h = no_end h
 leaves_accepted s (command.Del t k) h =
-    leaves_cond s (has_row k (rows_in t s)) (written (Rattle.table_store.specs.Stored.with_rows t (Rattle.slotted_page.specs.Rows.row_delete k (rows_in t s)) (current s)) s, reply.Fine ∷ []) (s, reply.Absent ∷ []) (λ e. no_end e) (λ e. refl) h
+    leaves_cond s (has_row k (rows_in t s)) (written (with_rows t (row_delete k (rows_in t s)) (current s)) s, reply.Fine ∷ []) (s, reply.Absent ∷ []) (λ e. no_end e) (λ e. refl) h
 leaves_accepted s (command.Get t k) h = refl
 leaves_accepted s (command.Scan t low high) h = refl
 leaves_accepted s command.Commit h = no_end h
