@@ -149,10 +149,10 @@ fn a_further_run_has_what_was_committed(rt: HostRuntime) -> Result<(), Fail> {
 }
 
 /// Changes one word of the NVM.
-fn change(world: &mut MemWorld, line: u64, word: usize, value: u64) -> Result<(), Fail>
-    requires in_range { line < (⟦<MemWorld as Devices>⟧.standing world.old).lines }
-    requires one { word < 8 }
-{
+fn change(world: &mut MemWorld, line: u64, word: usize, value: u64) -> Result<(), Fail> {
+    if line >= world.nvm_lines() || word >= 8 {
+        return Err("no such word")?;
+    }
     match world.store_word(line, word, value) {
         Ok(()) => Ok(()),
         Err(_) => Err("a store failed")?,
@@ -163,9 +163,6 @@ fn change(world: &mut MemWorld, line: u64, word: usize, value: u64) -> Result<()
 fn damage_of_a_page(rt: HostRuntime) -> Result<(), Fail> {
     let mut world = settled(&rt, rt.alloc(), b"get a 7\n")?;
     let line = small().frame_line(1, 0);
-    if line >= world.nvm_lines() {
-        return Err("no such line")?;
-    }
     change(&mut world, line, 2, 7)?;
     assert_eq!(rt; spitfire(rt.alloc(), &word("run"), &mut world), 5);
     let output = world.output();
@@ -182,9 +179,6 @@ fn damage_of_a_page(rt: HostRuntime) -> Result<(), Fail> {
 #[test]
 fn damage_of_the_superblock(rt: HostRuntime) -> Result<(), Fail> {
     let mut world = settled(&rt, rt.alloc(), b"get a 7\n")?;
-    if world.nvm_lines() < 4 {
-        return Err("no such line")?;
-    }
     change(&mut world, 0, 1, 63)?;
     assert_eq!(rt; spitfire(rt.alloc(), &word("run"), &mut world), 5);
     assert!(rt;
