@@ -160,23 +160,6 @@ fn change(world: &mut MemWorld, line: u64, word: usize, value: u64) -> Result<()
 }
 
 #[test]
-fn damage_of_a_page(rt: HostRuntime) -> Result<(), Fail> {
-    let mut world = settled(&rt, rt.alloc(), b"get a 7\n")?;
-    let line = small().frame_line(1, 0);
-    change(&mut world, line, 2, 7)?;
-    assert_eq!(rt; spitfire(rt.alloc(), &word("run"), &mut world), 5);
-    let output = world.output();
-    assert!(rt;
-        output.starts_with(
-            b"! page 1 level 0 low 0 high 18446744073709551615 check 12\n! 0100000000000000"
-        )
-    );
-    let lines = output.iter().filter(|byte| **byte == b'\n').count();
-    assert_eq!(rt; lines, 65);
-    Ok(())
-}
-
-#[test]
 fn damage_of_the_superblock(rt: HostRuntime) -> Result<(), Fail> {
     let mut world = settled(&rt, rt.alloc(), b"get a 7\n")?;
     change(&mut world, 0, 1, 63)?;
