@@ -7,9 +7,9 @@ use Rattle.line_pages.specs.Lines.{Lines}
 use Rattle.line_pages.specs.Bytes.{bytes_of}
 use Rattle.slotted_page.specs.Node.{entry_count}
 use Rattle.slotted_page.specs.Rows.{Row}
-use Rattle.slotted_page.specs.Search.{is_root_span, IsNodeDamage}
+use Rattle.slotted_page.specs.Search.{is_root_span, IsNodeDamage, FailsNode}
 use Rattle.tree_search.specs.declared.root.Root.{Root}
-use Rattle.page_space.specs.Space.{take_checks, IsSpaceDamage, IsFreeList, FitsHeader}
+use Rattle.page_space.specs.Space.{take_checks, IsSpaceDamage, FailsSpace, IsFreeList, FitsHeader}
 use Rattle.tree_search.specs.Tree.{IsRooted}
 use Rattle.page_space.specs.Moves.{ArePart}
 use Rattle.page_space.specs.Stops.{StopsFor}
@@ -28,6 +28,20 @@ IsFullRoot count lines buffer (Walk page kept found check) = ⊥
 unfoldable pub IsTreeDamage : Bool → ℕ → List ℕ → Evidence → Type 0
 IsTreeDamage told count buffer evidence =
     IsTrue told → (lines : Lines) × (IsNodeDamage count lines buffer evidence ⊎ (IsSpaceDamage (take_checks count lines) lines buffer evidence ⊎ IsFullRoot count lines buffer evidence))
+
+-- the buffer is a root at level 3 that has all the children that a page has room for
+abbrev pub FailsRoot : ℕ → List ℕ → Evidence → Type 0
+FailsRoot count buffer (Page page level low high check) =
+    (page < count) × (level ≡ 3) × (is_root_span low high ≡ true) × (check ≡ 39) × (entry_count buffer ≡ 240)
+FailsRoot count buffer (Super words check) = ⊥
+FailsRoot count buffer (Frames first second entry check) = ⊥
+FailsRoot count buffer (Log offset line tail check) = ⊥
+FailsRoot count buffer (Walk page kept found check) = ⊥
+
+-- Whatever the store holds: the buffer fails the check that the evidence names, as a page of a tree, before a page is taken,
+-- or as a full root.
+abbrev pub FailsTree : ℕ → List ℕ → Evidence → Type 0
+FailsTree count buffer evidence = FailsNode count buffer evidence ⊎ (FailsSpace count buffer evidence ⊎ FailsRoot count buffer evidence)
 
 -- A tree beside a free list, under a header in order.
 pub record StandsIn (count : ℕ) (lines : Lines) (root : Root) (rows : List Row) (used free : List ℕ) : Type 0 where

@@ -4,8 +4,8 @@ use Rattle.nvm_model.specs.declared.line.Line.{Line}
 use Rattle.line_pages.specs.declared.stop.Evidence.{Evidence}
 use Rattle.line_pages.specs.declared.stop.Evidence.TheVariants.{Super, Frames, Log, Page, Walk}
 use Rattle.line_pages.specs.Lines.{Lines, with_line, IsLine}
-use Rattle.line_pages.specs.Bytes.{bytes_of}
-use Rattle.slotted_page.specs.Checks.{first_failure}
+use Rattle.line_pages.specs.Bytes.{bytes_of, line_at}
+use Rattle.slotted_page.specs.Checks.{first_failure, fails}
 use Rattle.slotted_page.specs.Rows.{last_key}
 
 -- a word of a line, and the line with one word changed
@@ -111,3 +111,21 @@ pub record IsSpaceDamage (checks : List ((ℕ × ℕ) × Bool)) (lines : Lines) 
   pub shown : IsPageEvidence page number evidence
   pub bytes : buffer ≡ bytes_of lines page
   pub line : IsLine (lines page 0)
+
+-- The checks that the header of a page outside the trees fails by its bytes alone: of page 0 its kind, its high water, its
+-- first free page, and that a page is left; of the last free page its kind and that none follows.
+abbrev pub space_checks : ℕ → Line → List (ℕ × Bool)
+space_checks count header =
+    (31, word header 0 == 4)
+    ∷ (33, nat_le 1 (word header 2) && nat_le (word header 2) count)
+    ∷ (34, nat_lt (word header 3) (word header 2))
+    ∷ (36, (word header 0 == 3) && (word header 1 == 0))
+    ∷ (37, not ((word header 3 == 0) && (word header 2 == count))) ∷ []
+
+-- Whatever the store holds: the evidence names a page outside the trees, and the buffer fails the check that it names.
+pub record FailsSpace (count : ℕ) (buffer : List ℕ) (evidence : Evidence) : Type 0 where
+  pub number : ℕ
+  pub page : ℕ
+  pub inside : page < count
+  pub shown : IsPageEvidence page number evidence
+  pub fails : fails (space_checks count (line_at buffer 0)) number ≡ true

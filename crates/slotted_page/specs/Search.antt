@@ -2,6 +2,8 @@
 use Rattle.std.specs.Prelude.{◌≡◌, ℕ, ◌<◌, ◌≤◌, Bool, false, List, length, take, drop, Some, slice_get, ◌==◌, ◌&&◌}
 use Rattle.line_pages.specs.declared.stop.Evidence.{Evidence}
 use Rattle.line_pages.specs.declared.stop.Evidence.TheVariants.{Super, Frames, Log, Page, Walk}
+use Rattle.line_pages.specs.declared.stop.Stop.{Stop}
+use Rattle.line_pages.specs.declared.stop.Stop.TheVariants.{Nvm, Ssd, Damaged}
 use Rattle.line_pages.specs.Lines.{Lines}
 use Rattle.line_pages.specs.Bytes.{bytes_of}
 use Rattle.slotted_page.specs.declared.root.Expect.{Expect}
@@ -40,3 +42,18 @@ IsNodeDamage count lines buffer (Super words check) = ⊥
 IsNodeDamage count lines buffer (Frames first second entry check) = ⊥
 IsNodeDamage count lines buffer (Log offset line tail check) = ⊥
 IsNodeDamage count lines buffer (Walk page kept found check) = ⊥
+
+-- A stop for damage keeps evidence of this kind.
+abbrev pub Keeps : (Evidence → Type 0) → Stop → Type 0
+Keeps Fails Nvm = Unit {0}
+Keeps Fails Ssd = Unit {0}
+Keeps Fails (Damaged evidence) = Fails evidence
+
+-- Whatever the store holds: the buffer fails, as a page of a tree, the check that the evidence names, and none before it.
+abbrev pub FailsNode : ℕ → List ℕ → Evidence → Type 0
+FailsNode count buffer (Page page level low high check) =
+    (page < count) × (first_failing buffer (record { level = level; low = low; high = high; root = is_root_span low high; pages = count }) ≡ Some check)
+FailsNode count buffer (Super words check) = ⊥
+FailsNode count buffer (Frames first second entry check) = ⊥
+FailsNode count buffer (Log offset line tail check) = ⊥
+FailsNode count buffer (Walk page kept found check) = ⊥

@@ -3,10 +3,10 @@ use Rattle.std.specs.Prelude.{◌≡◌, ℕ, zero, suc, ◌+◌, ◌-◌, ◌�
 use Rattle.std.specs.List.{list_all, list_any}
 use Rattle.nvm_model.specs.declared.line.Line.{Line}
 use Rattle.line_pages.specs.Lines.{Lines}
-use Rattle.line_pages.specs.Bytes.{word_bytes, pieces, bytes_of}
+use Rattle.line_pages.specs.Bytes.{word_bytes, pieces, bytes_of, line_at}
 use Rattle.line_pages.specs.Touch.{Touch, Access, touch_of}
 use Rattle.line_pages.specs.declared.stop.Evidence.{Evidence}
-use Rattle.slotted_page.specs.Checks.{first_failure}
+use Rattle.slotted_page.specs.Checks.{first_failure, fails}
 use Rattle.slotted_page.specs.Rows.{Row}
 use Rattle.page_space.specs.Space.{word, high_of, IsPageEvidence}
 use Rattle.tree_search.specs.Tree.{tree_rows, tree_pages}
@@ -109,6 +109,17 @@ pub record IsCatalogDamage (limits : Limits) (count : ℕ) (lines : Lines) (buff
   pub first : first_failure (catalog_checks limits count lines) ≡ Some number
   pub shown : IsPageEvidence 0 number evidence
   pub bytes : buffer ≡ bytes_of lines 0
+
+-- the lines of page 0 in a buffer
+abbrev pub lines_in : List ℕ → Lines
+lines_in buffer page line = line_at buffer line
+
+-- Whatever the store holds: the evidence names page 0, and the buffer fails the check of the catalog that it names.
+pub record FailsCatalog (limits : Limits) (count : ℕ) (buffer : List ℕ) (evidence : Evidence) : Type 0 where
+  pub number : ℕ
+  pub some : 1 ≤ count
+  pub shown : IsPageEvidence 0 number evidence
+  pub fails : fails (catalog_checks limits count (lines_in buffer)) number ≡ true
 
 -- where the first entry with the name stands, the first of these entries being that of table i
 abbrev pub place_of : List ℕ → ℕ → List Entry → Option Place

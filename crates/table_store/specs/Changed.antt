@@ -6,10 +6,10 @@ use Rattle.line_pages.specs.Lines.{Lines, with_line}
 use Rattle.slotted_page.specs.Rows.{Row}
 use Rattle.tree_search.specs.declared.root.Root.{Root}
 use Rattle.page_space.specs.Space.{high_of}
-use Rattle.bplus_tree.specs.Damage.{IsTreeDamage}
+use Rattle.bplus_tree.specs.Damage.{IsTreeDamage, FailsTree}
 use Rattle.table_catalog.specs.declared.limits.Limits.{Limits}
 use Rattle.table_catalog.specs.declared.entry.Place.{Place}
-use Rattle.table_catalog.specs.Catalog.{entry_in, tables, IsCatalogDamage}
+use Rattle.table_catalog.specs.Catalog.{entry_in, tables, IsCatalogDamage, FailsCatalog}
 use Rattle.table_catalog.specs.Stored.{IsStore, rows_of, with_rows}
 
 -- the root of an entry's tree
@@ -33,3 +33,7 @@ pub record ChangesTable (limits : Limits) (count : ℕ) (old new : Lines) (name 
 abbrev pub IsChangeDamage : Bool → Limits → ℕ → Lines → List ℕ → Evidence → Type 0
 IsChangeDamage told limits count lines buffer evidence =
     (IsTrue told → IsCatalogDamage limits count lines buffer evidence) ⊎ IsTreeDamage told count buffer evidence
+
+-- whatever the store holds, the buffer fails that check
+abbrev pub FailsChange : Limits → ℕ → List ℕ → Evidence → Type 0
+FailsChange limits count buffer evidence = FailsCatalog limits count buffer evidence ⊎ FailsTree count buffer evidence

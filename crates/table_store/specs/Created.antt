@@ -4,13 +4,13 @@ use Rattle.nvm_model.specs.declared.line.Line.{Line}
 use Rattle.line_pages.specs.declared.stop.Evidence.{Evidence}
 use Rattle.line_pages.specs.Lines.{Lines, with_line, IsLine}
 use Rattle.line_pages.specs.Standing.{Standing, KeepsLines}
-use Rattle.page_space.specs.Space.{high_of, with_word, take_checks, IsSpaceDamage}
+use Rattle.page_space.specs.Space.{high_of, with_word, take_checks, IsSpaceDamage, FailsSpace}
 use Rattle.table_catalog.specs.declared.limits.Limits.{Limits}
 use Rattle.table_catalog.specs.declared.entry.Entry.{Entry}
 use Rattle.table_store.specs.declared.answer.Created.{Created}
 use Rattle.table_store.specs.declared.answer.Created.TheVariants.{Made, Present, NoSlot}
 use Rattle.table_catalog.specs.Names.{is_name}
-use Rattle.table_catalog.specs.Catalog.{entry_in, table_count, tables, entries, place_of, IsCatalogDamage}
+use Rattle.table_catalog.specs.Catalog.{entry_in, table_count, tables, entries, place_of, IsCatalogDamage, FailsCatalog}
 use Rattle.table_catalog.specs.Stored.{IsStore, is_known}
 
 -- the field of a name: its length, its bytes, then zeros
@@ -60,3 +60,7 @@ IsSlot lines name (Some at) = (at ≡ table_count lines) × (place_of name 0 (en
 -- the evidence shows damage of the catalog, or that no page can be taken
 abbrev pub IsCreateDamage : Limits → ℕ → Lines → List ℕ → Evidence → Type 0
 IsCreateDamage limits count lines buffer evidence = IsCatalogDamage limits count lines buffer evidence ⊎ IsSpaceDamage (take_checks count lines) lines buffer evidence
+
+-- whatever the store holds, the buffer fails that check
+abbrev pub FailsCreate : Limits → ℕ → List ℕ → Evidence → Type 0
+FailsCreate limits count buffer evidence = FailsCatalog limits count buffer evidence ⊎ FailsSpace count buffer evidence

@@ -4,14 +4,14 @@ use Rattle.line_pages.specs.declared.stop.Evidence.{Evidence}
 use Rattle.line_pages.specs.Lines.{Lines}
 use Rattle.line_pages.specs.Touch.{Access}
 use Rattle.slotted_page.specs.Rows.{Row, row_get}
-use Rattle.slotted_page.specs.Search.{IsNodeDamage}
+use Rattle.slotted_page.specs.Search.{IsNodeDamage, FailsNode}
 use Rattle.tree_search.specs.Tree.{path}
 use Rattle.table_catalog.specs.declared.limits.Limits.{Limits}
 use Rattle.table_catalog.specs.declared.entry.Place.{Place}
 use Rattle.table_store.specs.declared.answer.Got.{Got}
 use Rattle.table_store.specs.declared.answer.Got.TheVariants.{Found, Absent, NoTable}
 use Rattle.table_catalog.specs.Stored.{IsStore}
-use Rattle.table_catalog.specs.Catalog.{entries, place_of, IsCatalogDamage}
+use Rattle.table_catalog.specs.Catalog.{entries, place_of, IsCatalogDamage, FailsCatalog}
 
 -- the levels of the tree of an entry, and the pages on the way to a key, if there is one
 abbrev pub place_levels : Option Place → ℕ
@@ -33,6 +33,10 @@ pub record IsLookup (limits : Limits) (count : ℕ) (lines : Lines) (name : List
 -- The evidence shows damage of the catalog or of a page of a tree.
 abbrev pub IsLookupDamage : Limits → ℕ → Lines → List ℕ → Evidence → Type 0
 IsLookupDamage limits count lines buffer evidence = IsCatalogDamage limits count lines buffer evidence ⊎ IsNodeDamage count lines buffer evidence
+
+-- whatever the store holds, the buffer fails that check
+abbrev pub FailsLookup : Limits → ℕ → List ℕ → Evidence → Type 0
+FailsLookup limits count buffer evidence = FailsCatalog limits count buffer evidence ⊎ FailsNode count buffer evidence
 
 -- what a look-up of a key answers, the table having these rows
 abbrev pub found_value : Option (List ℕ) → Got
