@@ -8,6 +8,7 @@ use Rattle.line_pages.specs.Standing.{Standing as Shown, Continues, KeepsLines, 
 use Rattle.line_pages.specs.declared.stop.Evidence.{Evidence}
 use Rattle.line_pages.specs.declared.stop.Stop.{Stop}
 use Rattle.line_pages.specs.declared.stop.Stop.TheVariants.{Nvm, Ssd, Damaged}
+use Rattle.slotted_page.specs.Search.{Keeps}
 use Rattle.page_space.specs.Stops.{IsFault as IsTreeFault}
 use Rattle.table_catalog.specs.Stored.{IsStore}
 use Rattle.slotted_page.specs.declared.work.Work.{Work}
@@ -49,20 +50,21 @@ fault_is Nvm h = tt
 fault_is Ssd h = tt
 fault_is (Damaged e) h = h
 
--- why a call stopped, the references being of no name
-cause_is : (Damage : Evidence → Type 0) (old new : Book) (a b : Device) (book_name device_name since book_name_after device_name_after since_after : ℕ) (why : Stop)
-    → IsCause Damage (standing_of old a book_name device_name since) (standing_of new b book_name_after device_name_after since_after) why → IsCause Damage (standing_of old a 0 0 0) (standing_of new b 0 0 0) why
-cause_is Damage old new a b book_name device_name since book_name_after device_name_after since_after Nvm h = h
-cause_is Damage old new a b book_name device_name since book_name_after device_name_after since_after Ssd h = h
-cause_is Damage old new a b book_name device_name since book_name_after device_name_after since_after (Damaged e) h = h
+-- why a call stopped, the references being of no name, and what the buffer fails
+cause_is : (Fails Damage : Evidence → Type 0) (old new : Book) (a b : Device) (book_name device_name since book_name_after device_name_after since_after : ℕ) (why : Stop) → Keeps Fails why
+    → IsCause Damage (standing_of old a book_name device_name since) (standing_of new b book_name_after device_name_after since_after) why → IsCause (λ e. Fails e × Damage e) (standing_of old a 0 0 0) (standing_of new b 0 0 0) why
+cause_is Fails Damage old new a b book_name device_name since book_name_after device_name_after since_after Nvm fails h = h
+cause_is Fails Damage old new a b book_name device_name since book_name_after device_name_after since_after Ssd fails h = h
+cause_is Fails Damage old new a b book_name device_name since book_name_after device_name_after since_after (Damaged e) fails h = (fails, h)
 
-pub cause_fails : {W T U : Type 0} (standing : W → Device) (Damage : Evidence → Type 0) (old new : Book) (a : Device) (w v : W) (book_name device_name since book_name_after device_name_after since_after : ℕ) (r : Result U Stop) (why : Stop)
-    → w ≡ v → IsErr r × IsErrAnd r (λ found. found ≡ why) → HasCause {T = T} Damage (standing_of old a book_name device_name since) (standing_of new (standing v) book_name_after device_name_after since_after) (Err why)
-    → HasCause Damage (standing_of old a 0 0 0) (standing_of new (standing w) 0 0 0) r
-cause_fails {W} {T} {U} standing Damage old new a w v book_name device_name since book_name_after device_name_after since_after r why same is cause =
-    subst (λ (x : W). HasCause Damage (standing_of old a 0 0 0) (standing_of new (standing x) 0 0 0) r) (sym same)
-    (subst (λ (x : Result U Stop). HasCause Damage (standing_of old a 0 0 0) (standing_of new (standing v) 0 0 0) x) (sym (handed_on r why is))
-    (record { failed = cause_is Damage old new a (standing v) book_name device_name since book_name_after device_name_after since_after why cause.failed; kept = tt }))
+pub cause_fails : {W T U : Type 0} (standing : W → Device) (Fails Damage : Evidence → Type 0) (old new : Book) (a : Device) (w v : W) (book_name device_name since book_name_after device_name_after since_after : ℕ) (r : Result U Stop) (why : Stop)
+    → w ≡ v → IsErr r × IsErrAnd r (λ found. found ≡ why) → Keeps Fails why
+    → HasCause {T = T} Damage (standing_of old a book_name device_name since) (standing_of new (standing v) book_name_after device_name_after since_after) (Err why)
+    → HasCause (λ e. Fails e × Damage e) (standing_of old a 0 0 0) (standing_of new (standing w) 0 0 0) r
+cause_fails {W} {T} {U} standing Fails Damage old new a w v book_name device_name since book_name_after device_name_after since_after r why same is fails cause =
+    subst (λ (x : W). HasCause (λ e. Fails e × Damage e) (standing_of old a 0 0 0) (standing_of new (standing x) 0 0 0) r) (sym same)
+    (subst (λ (x : Result U Stop). HasCause (λ e. Fails e × Damage e) (standing_of old a 0 0 0) (standing_of new (standing v) 0 0 0) x) (sym (handed_on r why is))
+    (record { failed = cause_is Fails Damage old new a (standing v) book_name device_name since book_name_after device_name_after since_after why fails cause.failed; kept = tt }))
 
 -- the pages that an engine shows are a store of its limits
 pub store_shown : (old : Engine) (a : Device) (s : State) → StandsFor old a → Shows old a s → IsStore old.limits (pages (engine_sizes old)) (pages_in (engine_sizes old) (now a))

@@ -16,7 +16,7 @@ use Rattle.table_store.specs.declared.answer.Next.{Next}
 use Rattle.table_store.specs.declared.answer.Next.TheVariants as next
 use Rattle.table_catalog.specs.Catalog.{Table, entries, tables, table_of}
 use Rattle.table_catalog.specs.Stored.{IsStore, HasTree, rows_of}
-use Rattle.table_store.specs.Getting.{IsLookupDamage}
+use Rattle.engine.specs.Causes.{IsRowDamage}
 use Rattle.table_store.specs.Scanning.{next_of, row_up_to}
 use Rattle.script.specs.Tables.{row_range}
 use Rattle.script.specs.Machine.{State}
@@ -210,11 +210,8 @@ pub shows_between : (old between : Engine) (a : Device) (s : State) → between 
 shows_between old between a s is it = subst (λ (e : Engine). Shows e a s) (sym is) (shows_rested old between.book.accesses a s it)
 
 -- why it stopped, by the pages of either
-abbrev LookupDamage : Engine → Device → List ℕ → Evidence → Type 0
-LookupDamage old a buffer e = IsTrue a.told → IsLookupDamage old.limits (shown old a).count (shown old a).current buffer e
-
 abbrev LookupCause : {T : Type 0} → Engine → Device → List ℕ → Engine → Device → Result T Stop → Type 0
-LookupCause old a buffer new b r = HasCause (LookupDamage old a buffer) (shown old a) (shown new b) r
+LookupCause old a buffer new b r = HasCause (IsRowDamage old a buffer) (shown old a) (shown new b) r
 
 cause_rested : {T : Type 0} (old : Engine) (accesses : Accesses) (a : Device) (buffer : List ℕ) (new : Engine) (b : Device) (r : Result T Stop) → LookupCause (rested old accesses) a buffer new b r → LookupCause old a buffer new b r
 cause_rested old accesses a buffer new b (Ok v) it = record { failed = tt; kept = it.kept }

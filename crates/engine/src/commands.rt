@@ -1,15 +1,12 @@
 //! What commands on tables do.
 ghost use Rattle.std.specs.Prelude.{◌≡◌, ◌<◌, ◌≤◌, true, Some, IsTrue, IfOk};
 ghost use Rattle.line_pages.specs.Standing.{HasCause};
-ghost use Rattle.table_catalog.specs.Catalog.{IsCatalogDamage};
-ghost use Rattle.table_store.specs.Created.{IsCreateDamage};
 ghost use Rattle.table_catalog.specs.Stored.{is_known};
-ghost use Rattle.table_store.specs.Getting.{IsLookupDamage};
-ghost use Rattle.table_store.specs.Changed.{IsChangeDamage};
 ghost use Rattle.script.specs.Machine.{State, current as seen_tables};
 ghost use Rattle.script.specs.Script.{machine};
 ghost use Rattle.script.specs.declared.command.Command.TheVariants.{Create, Put, Del, Get, Scan as ScanRows};
 ghost use Rattle.engine.specs.Commands.{shown, reply_of, reason_of};
+ghost use Rattle.engine.specs.Causes.{IsNameDamage, IsRowDamage, IsNewTableDamage, IsNewRowsDamage};
 ghost use Rattle.engine.specs.Holds.{bounds_in};
 ghost use Rattle.engine.specs.Engine.{engine_sizes, StandsFor, Shows};
 ghost use Rattle.engine.specs.Steps.{Does, Replies, after_command, step_replies, IsBegun};
@@ -50,7 +47,7 @@ impl Engine {
         requires { StandsFor self.old (W.Devices.standing world.old) }
         ensures does { Does (λ s. s) self.old (W.Devices.standing world.old) self.new (W.Devices.standing world.new) result }
         ensures known { IsTrue (W.Devices.standing world.old).told → (s : State) → Shows self.old (W.Devices.standing world.old) s → IfOk result (λ known. known ≡ is_known name.now (seen_tables s)) }
-        ensures cause { HasCause (λ e. IsTrue (W.Devices.standing world.old).told → IsCatalogDamage self.old.limits (shown self.old (W.Devices.standing world.old)).count (shown self.old (W.Devices.standing world.old)).current self.new.work.page e) (shown self.old (W.Devices.standing world.old)) (shown self.new (W.Devices.standing world.new)) result }
+        ensures cause { HasCause (IsNameDamage self.old (W.Devices.standing world.old) self.new.work.page) (shown self.old (W.Devices.standing world.old)) (shown self.new (W.Devices.standing world.new)) result }
     {
         let mut store = Store::over(&mut self.book, world);
         let known = has_table(&mut store, &self.limits, name, &mut self.work)?;
@@ -67,7 +64,7 @@ impl Engine {
         requires { StandsFor self.old (W.Devices.standing world.old) }
         ensures does { Does (λ s. s) self.old (W.Devices.standing world.old) self.new (W.Devices.standing world.new) result }
         ensures refused { IsTrue (W.Devices.standing world.old).told → (s : State) → Shows self.old (W.Devices.standing world.old) s → IfOk result (λ reply. reply ≡ Reply.Refused (reason_of (is_known name.now (seen_tables s)) creates)) }
-        ensures cause { HasCause (λ e. IsTrue (W.Devices.standing world.old).told → IsCatalogDamage self.old.limits (shown self.old (W.Devices.standing world.old)).count (shown self.old (W.Devices.standing world.old)).current self.new.work.page e) (shown self.old (W.Devices.standing world.old)) (shown self.new (W.Devices.standing world.new)) result }
+        ensures cause { HasCause (IsNameDamage self.old (W.Devices.standing world.old) self.new.work.page) (shown self.old (W.Devices.standing world.old)) (shown self.new (W.Devices.standing world.new)) result }
     {
         let known = self.knows(world, name)?;
         Ok(Reply::Refused(spent_reason(known, creates)))
@@ -83,7 +80,7 @@ impl Engine {
         requires { StandsFor self.old (W.Devices.standing world.old) }
         ensures does { Does (after_command self.old (Some (Get name.now key))) self.old (W.Devices.standing world.old) self.new (W.Devices.standing world.new) result }
         ensures replies { Replies self.old (W.Devices.standing world.old) (Some (Get name.now key)) result }
-        ensures cause { HasCause (λ e. IsTrue (W.Devices.standing world.old).told → IsLookupDamage self.old.limits (shown self.old (W.Devices.standing world.old)).count (shown self.old (W.Devices.standing world.old)).current self.new.work.page e) (shown self.old (W.Devices.standing world.old)) (shown self.new (W.Devices.standing world.new)) result }
+        ensures cause { HasCause (IsRowDamage self.old (W.Devices.standing world.old) self.new.work.page) (shown self.old (W.Devices.standing world.old)) (shown self.new (W.Devices.standing world.new)) result }
     {
         let mut store = Store::over(&mut self.book, world);
         let got = table_store::get(&mut store, &self.limits, name, key, &mut self.work)?;
@@ -102,7 +99,7 @@ impl Engine {
         ensures does { Does (after_command self.old (Some (ScanRows name from to))) self.old (W.Devices.standing world.old) self.new (W.Devices.standing world.new) result }
         ensures replies { IsTrue (W.Devices.standing world.old).told → (s : State) → Shows self.old (W.Devices.standing world.old) s → IfOk result (λ step. ((machine (bounds_in (engine_sizes self.old))).step s (Some (ScanRows name from to))).1 ≡ step_replies step (seen_tables s)) }
         ensures begun { IfOk result IsBegun }
-        ensures cause { HasCause (λ e. IsTrue (W.Devices.standing world.old).told → IsCatalogDamage self.old.limits (shown self.old (W.Devices.standing world.old)).count (shown self.old (W.Devices.standing world.old)).current self.new.work.page e) (shown self.old (W.Devices.standing world.old)) (shown self.new (W.Devices.standing world.new)) result }
+        ensures cause { HasCause (IsNameDamage self.old (W.Devices.standing world.old) self.new.work.page) (shown self.old (W.Devices.standing world.old)) (shown self.new (W.Devices.standing world.new)) result }
     {
         if !self.knows(world, &name)? {
             return Ok(Step::Said(Reply::Refused(Reason::Table)));
@@ -122,7 +119,7 @@ impl Engine {
         requires is_open { self.old.book.is_open ≡ true }
         ensures does { Does (after_command self.old (Some (Create name.now))) self.old (W.Devices.standing world.old) self.new (W.Devices.standing world.new) result }
         ensures replies { Replies self.old (W.Devices.standing world.old) (Some (Create name.now)) result }
-        ensures cause { HasCause (λ e. IsTrue (W.Devices.standing world.old).told → IsCreateDamage self.old.limits (shown self.old (W.Devices.standing world.old)).count (shown self.old (W.Devices.standing world.old)).current self.new.work.page e) (shown self.old (W.Devices.standing world.old)) (shown self.new (W.Devices.standing world.new)) result }
+        ensures cause { HasCause (IsNewTableDamage self.old (W.Devices.standing world.old) self.new.work.page) (shown self.old (W.Devices.standing world.old)) (shown self.new (W.Devices.standing world.new)) result }
     {
         if self.book.accepted() >= self.writes {
             return self.refuse_write(world, name, true);
@@ -137,7 +134,7 @@ impl Engine {
         requires more { self.old.book.accepted < self.old.writes }
         ensures does { Does (after_command self.old (Some (Create name.now))) self.old (W.Devices.standing world.old) self.new (W.Devices.standing world.new) result }
         ensures replies { Replies self.old (W.Devices.standing world.old) (Some (Create name.now)) result }
-        ensures cause { HasCause (λ e. IsTrue (W.Devices.standing world.old).told → IsCreateDamage self.old.limits (shown self.old (W.Devices.standing world.old)).count (shown self.old (W.Devices.standing world.old)).current self.new.work.page e) (shown self.old (W.Devices.standing world.old)) (shown self.new (W.Devices.standing world.new)) result }
+        ensures cause { HasCause (IsNewTableDamage self.old (W.Devices.standing world.old) self.new.work.page) (shown self.old (W.Devices.standing world.old)) (shown self.new (W.Devices.standing world.new)) result }
     {
         let mut store = Store::over(&mut self.book, world);
         match table_store::create(&mut store, &self.limits, name, &mut self.work)? {
@@ -162,7 +159,7 @@ impl Engine {
         requires is_open { self.old.book.is_open ≡ true }
         ensures does { Does (after_command self.old (Some (Put name.now key value.now))) self.old (W.Devices.standing world.old) self.new (W.Devices.standing world.new) result }
         ensures replies { Replies self.old (W.Devices.standing world.old) (Some (Put name.now key value.now)) result }
-        ensures cause { HasCause (IsChangeDamage (W.Devices.standing world.old).told self.old.limits (shown self.old (W.Devices.standing world.old)).count (shown self.old (W.Devices.standing world.old)).current self.new.work.page) (shown self.old (W.Devices.standing world.old)) (shown self.new (W.Devices.standing world.new)) result }
+        ensures cause { HasCause (IsNewRowsDamage self.old (W.Devices.standing world.old) self.new.work.page) (shown self.old (W.Devices.standing world.old)) (shown self.new (W.Devices.standing world.new)) result }
     {
         if self.book.accepted() >= self.writes {
             return self.refuse_write(world, name, false);
@@ -183,7 +180,7 @@ impl Engine {
         requires more { self.old.book.accepted < self.old.writes }
         ensures does { Does (after_command self.old (Some (Put name.now key value.now))) self.old (W.Devices.standing world.old) self.new (W.Devices.standing world.new) result }
         ensures replies { Replies self.old (W.Devices.standing world.old) (Some (Put name.now key value.now)) result }
-        ensures cause { HasCause (IsChangeDamage (W.Devices.standing world.old).told self.old.limits (shown self.old (W.Devices.standing world.old)).count (shown self.old (W.Devices.standing world.old)).current self.new.work.page) (shown self.old (W.Devices.standing world.old)) (shown self.new (W.Devices.standing world.new)) result }
+        ensures cause { HasCause (IsNewRowsDamage self.old (W.Devices.standing world.old) self.new.work.page) (shown self.old (W.Devices.standing world.old)) (shown self.new (W.Devices.standing world.new)) result }
     {
         let mut store = Store::over(&mut self.book, world);
         match table_store::put(&mut store, &self.limits, name, key, value, &mut self.work)? {
@@ -207,7 +204,7 @@ impl Engine {
         requires is_open { self.old.book.is_open ≡ true }
         ensures does { Does (after_command self.old (Some (Del name.now key))) self.old (W.Devices.standing world.old) self.new (W.Devices.standing world.new) result }
         ensures replies { Replies self.old (W.Devices.standing world.old) (Some (Del name.now key)) result }
-        ensures cause { HasCause (IsChangeDamage (W.Devices.standing world.old).told self.old.limits (shown self.old (W.Devices.standing world.old)).count (shown self.old (W.Devices.standing world.old)).current self.new.work.page) (shown self.old (W.Devices.standing world.old)) (shown self.new (W.Devices.standing world.new)) result }
+        ensures cause { HasCause (IsNewRowsDamage self.old (W.Devices.standing world.old) self.new.work.page) (shown self.old (W.Devices.standing world.old)) (shown self.new (W.Devices.standing world.new)) result }
     {
         if self.book.accepted() >= self.writes {
             return self.refuse_write(world, name, false);
@@ -222,7 +219,7 @@ impl Engine {
         requires more { self.old.book.accepted < self.old.writes }
         ensures does { Does (after_command self.old (Some (Del name.now key))) self.old (W.Devices.standing world.old) self.new (W.Devices.standing world.new) result }
         ensures replies { Replies self.old (W.Devices.standing world.old) (Some (Del name.now key)) result }
-        ensures cause { HasCause (IsChangeDamage (W.Devices.standing world.old).told self.old.limits (shown self.old (W.Devices.standing world.old)).count (shown self.old (W.Devices.standing world.old)).current self.new.work.page) (shown self.old (W.Devices.standing world.old)) (shown self.new (W.Devices.standing world.new)) result }
+        ensures cause { HasCause (IsNewRowsDamage self.old (W.Devices.standing world.old) self.new.work.page) (shown self.old (W.Devices.standing world.old)) (shown self.new (W.Devices.standing world.new)) result }
     {
         let mut store = Store::over(&mut self.book, world);
         match table_store::delete(&mut store, &self.limits, name, key, &mut self.work)? {

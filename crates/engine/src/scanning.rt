@@ -2,12 +2,12 @@
 ghost use Rattle.std.specs.Prelude.{◌≡◌, ◌∷◌, ◌<◌, ◌≤◌, false, IsTrue, IfOk, OnOk, OnErr};
 ghost use Rattle.line_pages.specs.Standing.{HasCause, last_count};
 ghost use Rattle.table_catalog.specs.Stored.{rows_of};
-ghost use Rattle.table_store.specs.Getting.{IsLookupDamage};
 ghost use Rattle.table_store.specs.Scanning.{next_of};
 ghost use Rattle.transactions.specs.StoreStanding.{reach};
 ghost use Rattle.script.specs.Tables.{rows_or_none};
 ghost use Rattle.script.specs.Machine.{State, current as seen_tables};
 ghost use Rattle.engine.specs.Commands.{shown};
+ghost use Rattle.engine.specs.Causes.{IsRowDamage};
 ghost use Rattle.engine.specs.Engine.{StandsFor, Shows};
 ghost use Rattle.engine.specs.Scanning.{behind, ended, reply_by, scan_by, Gives};
 ghost use Rattle.engine.specs.Steps.{Does, scan_replies, calls_left};
@@ -79,7 +79,7 @@ impl Engine {
         ensures gives { IfOk result (λ reply. Gives scan.old reply scan.new) }
         ensures fewer { OnOk result (calls_left scan.new < calls_left scan.old) }
         // why it stops
-        ensures cause { HasCause (λ e. IsTrue (W.Devices.standing world.old).told → IsLookupDamage self.old.limits (shown self.old (W.Devices.standing world.old)).count (shown self.old (W.Devices.standing world.old)).current self.new.work.page e) (shown self.old (W.Devices.standing world.old)) (shown self.new (W.Devices.standing world.new)) result }
+        ensures cause { HasCause (IsRowDamage self.old (W.Devices.standing world.old) self.new.work.page) (shown self.old (W.Devices.standing world.old)) (shown self.new (W.Devices.standing world.new)) result }
         ensures same { OnErr result (scan.new ≡ scan.old) }
         // what it does
         ensures does { Does (λ s. s) self.old (W.Devices.standing world.old) self.new (W.Devices.standing world.new) result }
@@ -104,7 +104,7 @@ impl Engine {
         requires { StandsFor self.old (W.Devices.standing world.old) }
         ensures reply { IsTrue (W.Devices.standing world.old).told → (s : State) → Shows self.old (W.Devices.standing world.old) s → IfOk result (λ next. reply_by scan.now next ≡ reply_by scan.now (next_of scan.now.from scan.now.to (rows_of scan.now.name (seen_tables s)))) }
         ensures left { IsTrue (W.Devices.standing world.old).told → (s : State) → Shows self.old (W.Devices.standing world.old) s → IfOk result (λ next. scan_by scan.now next ≡ scan_by scan.now (next_of scan.now.from scan.now.to (rows_of scan.now.name (seen_tables s)))) }
-        ensures cause { HasCause (λ e. IsTrue (W.Devices.standing world.old).told → IsLookupDamage self.old.limits (shown self.old (W.Devices.standing world.old)).count (shown self.old (W.Devices.standing world.old)).current self.new.work.page e) (shown self.old (W.Devices.standing world.old)) (shown self.new (W.Devices.standing world.new)) result }
+        ensures cause { HasCause (IsRowDamage self.old (W.Devices.standing world.old) self.new.work.page) (shown self.old (W.Devices.standing world.old)) (shown self.new (W.Devices.standing world.new)) result }
         ensures does { Does (λ s. s) self.old (W.Devices.standing world.old) self.new (W.Devices.standing world.new) result }
         ensures same_reach { OnOk result (reach self.new.book ≡ reach self.old.book) }
     {

@@ -27,17 +27,23 @@ OnOk-any (Err e) p = tt
 rose_then : (first middle last : ℕ) → middle ≡ first → Rose middle last → Rose first last
 rose_then first middle last same rose = subst (λ (n : ℕ). Rose n last) same rose
 
-caused_then : (a b c : Standing) (engine : Engine) (why : Halt) → NoFault a b → Caused why b engine c → Caused why a engine c
-caused_then a b c engine (Store Nvm) quiet it = rose_then a.nvm_faults b.nvm_faults c.nvm_faults quiet.nvm it
-caused_then a b c engine (Store Ssd) quiet it = rose_then a.ssd_faults b.ssd_faults c.ssd_faults quiet.ssd it
-caused_then a b c engine (Store (Damaged kept)) quiet it = it
-caused_then a b c engine Source quiet it = rose_then a.outside.source_faults b.outside.source_faults c.outside.source_faults quiet.source it
-caused_then a b c engine Sink quiet it = rose_then a.outside.sink_faults b.outside.sink_faults c.outside.sink_faults quiet.sink it
+-- damage that was shown of a later part
+pub shown_since : (page : List ℕ) (kept : Evidence) (engine : Engine) (a b c : Standing) → a.clock ≤ b.clock → Shown page kept engine b c → Shown page kept engine a c
+shown_since page kept engine a b c since it =
+    let from : b.clock ≤ it.at.clock = it.since in
+    record { before = it.before; at = it.at; sizes = it.sizes; stands = it.stands; damage = it.damage; told = it.told; since = omega arith; past = it.past; same = it.same }
+
+caused_then : (a b c : Standing) (engine : Engine) (why : Halt) → a.clock ≤ b.clock → NoFault a b → Caused why b engine c → Caused why a engine c
+caused_then a b c engine (Store Nvm) since quiet it = rose_then a.nvm_faults b.nvm_faults c.nvm_faults quiet.nvm it
+caused_then a b c engine (Store Ssd) since quiet it = rose_then a.ssd_faults b.ssd_faults c.ssd_faults quiet.ssd it
+caused_then a b c engine (Store (Damaged kept)) since quiet it = shown_since engine.work.page kept engine a b c since it
+caused_then a b c engine Source since quiet it = rose_then a.outside.source_faults b.outside.source_faults c.outside.source_faults quiet.source it
+caused_then a b c engine Sink since quiet it = rose_then a.outside.sink_faults b.outside.sink_faults c.outside.sink_faults quiet.sink it
 
 -- calls that answered ok, and one more
-pub cause_then : {T : Type 0} {a b c : Standing} {engine : Engine} (r : Result T Halt) → NoFault a b → HasCause b engine c r → HasCause a engine c r
-cause_then {T} {a} {b} {c} {engine} r quiet it = record {
-  failed = IfErr-weaker r (λ why. Caused why b engine c) (λ why. Caused why a engine c) (λ why h. caused_then a b c engine why quiet h) it.failed;
+pub cause_then : {T : Type 0} {a b c : Standing} {engine : Engine} (r : Result T Halt) → a.clock ≤ b.clock → NoFault a b → HasCause b engine c r → HasCause a engine c r
+cause_then {T} {a} {b} {c} {engine} r since quiet it = record {
+  failed = IfErr-weaker r (λ why. Caused why b engine c) (λ why. Caused why a engine c) (λ why h. caused_then a b c engine why since quiet h) it.failed;
   ok = on_ok_weaker r (λ (later : NoFault b c). NoFault-trans quiet later) it.ok;
 }
 
@@ -49,8 +55,8 @@ cause_err {a = a} {b = b} {engine = engine} (Err found) why is it = record { fai
 -- ---- calls of an engine
 
 -- damage that was shown is shown later too
-pub shown_later : (page : List ℕ) (kept : Evidence) (engine : Engine) (a b : Standing) → GoesOn a b → Shown page kept engine a → Shown page kept engine b
-shown_later page kept engine a b goes it =
+pub shown_later : (page : List ℕ) (kept : Evidence) (engine : Engine) (old a b : Standing) → GoesOn a b → Shown page kept engine old a → Shown page kept engine old b
+shown_later page kept engine old a b goes it =
     let early : it.at.clock ≤ a.clock = it.past in
     let on : a.clock ≤ b.clock = goes.clock in
     record {
@@ -60,6 +66,7 @@ shown_later page kept engine a b goes it =
       stands = it.stands;
       damage = it.damage;
       told = it.told ∙ sym goes.told;
+      since = it.since;
       past = omega arith;
       same = it.same ∙ sym (goes.earlier it.at.clock early);
     }
@@ -75,6 +82,7 @@ stop_caused old a new b (Damaged kept) stands goes sizes it = record {
   stands = stands;
   damage = it;
   told = sym goes.told;
+  since = omega arith;
   past = goes.clock;
   same = sym (goes.earlier a.clock (omega arith));
 }

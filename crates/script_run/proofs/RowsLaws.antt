@@ -17,7 +17,6 @@ use Rattle.store_meaning.specs.Layout.{Sizes, pages}
 use Rattle.table_catalog.specs.declared.limits.Limits.{Limits}
 use Rattle.table_catalog.specs.Catalog.{Table, entries, tables, table_of, name_of, entry_rows, is_entry, names_differ, catalog_checks}
 use Rattle.table_catalog.specs.Stored.{IsStore, HasTree, rows_of, with_rows}
-use Rattle.table_store.specs.Getting.{IsLookupDamage}
 use Rattle.table_catalog.proofs.CatalogLaws.{AllHold, all_hold, fits_entry}
 use Rattle.page_space.specs.Space.{high_of}
 use Rattle.texts.specs.Runs as run
@@ -35,7 +34,7 @@ use Rattle.texts.specs.Lines.{is_silent}
 use Rattle.engine.specs.declared.engine.Engine.{Engine}
 use Rattle.engine.specs.declared.scan.Scan.{Scan}
 use Rattle.engine.specs.Commands.{shown}
-use Rattle.engine.specs.Causes.{Stops}
+use Rattle.engine.specs.Causes.{IsRowDamage, Stops}
 use Rattle.engine.specs.Engine.{engine_sizes}
 use Rattle.engine.specs.Holds.{HoldsTables, bounds_in}
 use Rattle.engine.specs.Scanning.{behind, Gives}
@@ -171,7 +170,7 @@ module _ (aim : Aim) (engine : Engine) (s : State) (scan : Scan) (rows : List Ro
 -- ---- why a search for a row stops
 
 pub row_stops : {T : Type 0} (old : Engine) (a : Standing) (new : Engine) (b : Standing) (r : Result T Stop)
-    → HasStopCause (λ e. IsTrue a.told → IsLookupDamage old.limits (shown old a).count (shown old a).current new.work.page e) (shown old a) (shown new b) r → Stops old a new b r
+    → HasStopCause (IsRowDamage old a new.work.page) (shown old a) (shown new b) r → Stops old a new b r
 row_stops old a new b (Ok v) it = record { failed = tt; kept = it.kept }
 row_stops old a new b (Err Nvm) it = record { failed = it.failed; kept = tt }
 row_stops old a new b (Err Ssd) it = record { failed = it.failed; kept = tt }

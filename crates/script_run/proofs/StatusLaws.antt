@@ -21,12 +21,12 @@ use Rattle.script_run.specs.Statuses.{IsOneOf, Told, ScriptCauses}
 -- ---- the text of damage
 
 -- what was shown is told
-pub told_by : {T E : Type 0} {v : T} (page bytes : List ℕ) (kept : Evidence) (engine : Engine) (old new : Standing) → bytes ≡ page → WorldCall old new → (IsTrue old.told → Writes {T = T} {E = E} (damage_text kept bytes) old new (Ok v))
-    → Shown page kept engine old → Told engine new
-told_by page bytes kept engine old new is call writes shown = record {
+pub told_by : {T E : Type 0} {v : T} (page bytes : List ℕ) (kept : Evidence) (engine : Engine) (begin old new : Standing) → bytes ≡ page → WorldCall old new → (IsTrue old.told → Writes {T = T} {E = E} (damage_text kept bytes) old new (Ok v))
+    → Shown page kept engine begin old → Told engine begin new
+told_by page bytes kept engine begin old new is call writes shown = record {
   kept = kept;
   page = bytes;
-  shown = subst (λ (p : List ℕ). Shown p kept engine new) (sym is) (shown_later page kept engine old new call.goes shown);
+  shown = subst (λ (p : List ℕ). Shown p kept engine begin new) (sym is) (shown_later page kept engine begin old new call.goes shown);
   ends = λ told. (sent old, (writes (subst IsTrue call.goes.told told)).ok);
 }
 
@@ -41,7 +41,7 @@ module _ (why : Halt) (stop : Stop) (kept : Evidence) (first : why ≡ Store sto
   no_fault fault = subst IsFault is_damage fault
 
   -- and its evidence is shown
-  pub shown_of : (old : Standing) (engine : Engine) (new : Standing) → Caused why old engine new → Shown engine.work.page kept engine new
+  pub shown_of : (old : Standing) (engine : Engine) (new : Standing) → Caused why old engine new → Shown engine.work.page kept engine old new
   shown_of old engine new caused = subst (λ (x : Halt). Caused x old engine new) is_damage caused
 
 -- ---- its status
@@ -59,7 +59,7 @@ two_of status is =
     ]
 
 module _ (limit : ℕ) (before : Engine) (old : Standing) (after : Engine) (new : Standing) where
-  damage_told : Told after new → (IsTrue old.told → (s : State) → Shows before old s → ⊥) → ScriptCauses limit before old after new 5
+  damage_told : Told after old new → (IsTrue old.told → (s : State) → Shows before old s → ⊥) → ScriptCauses limit before old after new 5
   damage_told told sound = record {
     known = refl;
     done = λ e. absurd (omega arith);
@@ -86,7 +86,7 @@ module _ (limit : ℕ) (before : Engine) (old : Standing) (after : Engine) (new 
   }
 
   -- where damage was found, and its text was sent or not
-  pub damaged_causes : (status : ℕ) → IsOneOf status (5 ∷ 9 ∷ []) → (status ≡ 5 → Told after new) → (status ≡ 9 → Rose old.outside.sink_faults new.outside.sink_faults)
+  pub damaged_causes : (status : ℕ) → IsOneOf status (5 ∷ 9 ∷ []) → (status ≡ 5 → Told after old new) → (status ≡ 9 → Rose old.outside.sink_faults new.outside.sink_faults)
       → (IsTrue old.told → (s : State) → Shows before old s → ⊥) → ScriptCauses limit before old after new status
   damaged_causes status is told sink sound =
       elim (two_of status is) [

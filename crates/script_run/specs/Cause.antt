@@ -10,15 +10,17 @@ use Rattle.engine.specs.Causes.{IsDamage}
 use Rattle.script_run.specs.declared.stop.Halt.{Halt}
 use Rattle.script_run.specs.declared.stop.Halt.TheVariants.{Store, Source, Sink}
 
--- The engine stopped for damage: at a moment of the world an engine of these sizes stood for the devices as they were then, and
--- the evidence shows damage of them; a page of the evidence stands in this buffer.
-pub record Shown (page : List ℕ) (kept : Evidence) (engine : Engine) (new : Standing) : Type 0 where
+-- The engine stopped for damage: at a moment between these two an engine of these sizes stood for the devices as they were
+-- then, and the evidence shows damage of them; a page of the evidence stands in this buffer, and whatever the devices hold, it
+-- or the line that is kept fails the check named.
+pub record Shown (page : List ℕ) (kept : Evidence) (engine : Engine) (old new : Standing) : Type 0 where
   pub before : Engine
   pub at : Standing
   pub sizes : engine_sizes before ≡ engine_sizes engine
   pub stands : StandsFor before at
   pub damage : IsDamage before at page kept
   pub told : at.told ≡ new.told
+  pub since : old.clock ≤ at.clock
   pub past : at.clock ≤ new.clock
   pub same : now at ≡ new.at at.clock
 
@@ -26,7 +28,7 @@ pub record Shown (page : List ℕ) (kept : Evidence) (engine : Engine) (new : St
 abbrev pub StoreCaused : Stop → Standing → Engine → Standing → Type 0
 StoreCaused Nvm old engine new = Rose old.nvm_faults new.nvm_faults
 StoreCaused Ssd old engine new = Rose old.ssd_faults new.ssd_faults
-StoreCaused (Damaged kept) old engine new = Shown engine.work.page kept engine new
+StoreCaused (Damaged kept) old engine new = Shown engine.work.page kept engine old new
 
 abbrev pub Caused : Halt → Standing → Engine → Standing → Type 0
 Caused (Store stop) old engine new = StoreCaused stop old engine new

@@ -19,17 +19,17 @@ pub record Exactly (status code : ℕ) (condition : Type 0) (earlier : List ℕ)
   pub comes : condition → IsOneOf status (code ∷ earlier)
 
 -- Damage was found, and what was sent ends with its text.
-pub record Told (engine : Engine) (new : Standing) : Type 0 where
+pub record Told (engine : Engine) (old new : Standing) : Type 0 where
   pub kept : Evidence
   pub page : List ℕ
-  pub shown : Shown page kept engine new
+  pub shown : Shown page kept engine old new
   pub ends : IsTrue new.told → (front : List ℕ) × (sent new ≡ front ++ damage_text kept page)
 
 -- The statuses of a script's run with this limit.
 pub record ScriptCauses (limit : ℕ) (before : Engine) (old : Standing) (after : Engine) (new : Standing) (status : ℕ) : Type 0 where
   pub known : IsOneOf status (0 ∷ 5 ∷ 6 ∷ 7 ∷ 8 ∷ 9 ∷ 12 ∷ [])
   pub done : status ≡ 0 → NoFault old new
-  pub damage : status ≡ 5 → Told after new
+  pub damage : status ≡ 5 → Told after old new
   pub nvm : status ≡ 6 → Rose old.nvm_faults new.nvm_faults
   pub ssd : status ≡ 7 → Rose old.ssd_faults new.ssd_faults
   pub source : status ≡ 8 → Rose old.outside.source_faults new.outside.source_faults

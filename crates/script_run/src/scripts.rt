@@ -58,7 +58,7 @@ fn show_damage<W: World>(engine: &Engine, world: &mut W, evidence: &Evidence) ->
     ensures rest { OnlyChanges false false true (W.Devices.standing world.old) (W.Devices.standing world.new) }
     ensures known { IsOneOf result (5 ∷ 9 ∷ []) }
     ensures sink { result ≡ 9 → Rose (W.Devices.standing world.old).outside.sink_faults (W.Devices.standing world.new).outside.sink_faults }
-    ensures told { Shown engine.now.work.page evidence.now engine.now (W.Devices.standing world.old) → result ≡ 5 → Told engine.now (W.Devices.standing world.new) }
+    ensures told { (begin : Standing) → Shown engine.now.work.page evidence.now engine.now begin (W.Devices.standing world.old) → result ≡ 5 → Told engine.now begin (W.Devices.standing world.new) }
 {
     match tell_damage(world, evidence, engine.evidence_page()) {
         Ok(()) => 5,

@@ -4,7 +4,7 @@ use Rattle.std.proofs.lemmas.Bool.{cases_lt}
 use Rattle.devices.specs.State.{current}
 use Rattle.devices.specs.World.{Standing, NoFault, Rose, now}
 use Rattle.nvm_layout.specs.Opening.{Finding, finding, super_from}
-use Rattle.nvm_layout.specs.Opening.Finding.{another, too_small, ended}
+use Rattle.nvm_layout.specs.Opening.Finding.{another, too_small, ended, sound, fails}
 use Rattle.store_meaning.specs.Layout.{Sizes}
 use Rattle.table_catalog.specs.Catalog.{Table}
 use Rattle.recovery.specs.Opening.{Answers, IsAnswer, IsFound, FindsInLog}
@@ -17,7 +17,7 @@ use Rattle.engine.specs.Opening.{Follows}
 use Rattle.script_run.specs.Statuses.{IsOneOf, Exactly}
 use Rattle.spitfire_app.specs.Damage.{found_in, IsDamaged}
 use Rattle.spitfire_app.specs.Promises.{Untouched, Opens, RunCauses}
-use Rattle.spitfire_app.proofs.StatusLaws.{first_or, only_one, one_of, none_of, not_one, codes_of, known_of, refusal_of, codes_found, by_finding, is_another, is_small, is_ended, comes_by}
+use Rattle.spitfire_app.proofs.StatusLaws.{first_or, only_one, one_of, none_of, not_one, codes_of, known_of, refusal_of, codes_found, by_finding, is_another, is_small, is_ended, is_sound, comes_by}
 
 pub found_err : (found : Result Parts OpenError) (why : OpenError) → Follows found (Err why) → found ≡ Err why
 found_err (Ok parts) why follows = absurd follows
@@ -90,6 +90,12 @@ module _ (old new : Standing) (found : Result Parts OpenError) (status : ℕ) (r
       comes = λ condition. comes_by status (found_in old) ended (13 ∷ 6 ∷ []) condition.1 refl (by_found condition.0);
     }
 
+    gates_are : (check : ℕ) → 4 ≤ old.lines → found_in old ≡ fails check → IsOneOf status (5 ∷ 6 ∷ 9 ∷ [])
+    gates_are check some is = comes_by status (found_in old) (fails check) (5 ∷ 6 ∷ 9 ∷ []) is refl (by_found some)
+
+    memory_is : status ≡ 11 → (4 ≤ old.lines) × (found_in old ≡ sound)
+    memory_is is = many 11 (λ e. omega arith) is (λ some. (some, is_sound status (found_in old) (by_found some) is))
+
     -- a store that was opened
     opens_by : (parts : Parts) → found ≡ Ok parts → 4 ≤ old.lines → Opens old
     opens_by parts is some = record {
@@ -138,6 +144,8 @@ module _ (old new : Standing) (found : Result Parts OpenError) (status : ℕ) (r
     size = λ told. size_is told;
     magic = λ told. magic_is told;
     tail = λ told. tail_is told;
+    gates = λ told. gates_are told;
+    memory = λ told. memory_is told;
     damage = ran.damage;
     refused = ran.refused;
     nvm = ran.nvm;

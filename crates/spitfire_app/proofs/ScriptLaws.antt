@@ -12,6 +12,7 @@ use Rattle.engine.specs.declared.engine.Engine.{Engine}
 use Rattle.engine.specs.Holds.{Holds}
 use Rattle.engine.specs.Opening.{Opens as IsOpening, ShowsHeld}
 use Rattle.script_run.specs.Statuses.{IsOneOf, Exactly, Told, ScriptCauses}
+use Rattle.script_run.proofs.CauseLaws.{shown_since}
 use Rattle.spitfire_app.specs.Promises.{RunCauses, NoFaultCame}
 use Rattle.spitfire_app.proofs.StatusLaws.{first_or, only_one, none_of, quiet, rose_before, codes_of}
 use Rattle.spitfire_app.proofs.CauseLaws.{found_ok, Ran, causes_of}
@@ -55,7 +56,9 @@ module _ (old mid : Standing) (goes : Goes old mid) (engine : Engine) (opening :
           sink = later.sink ∙ ap (λ (o : Outside). o.sink_faults) same_outside;
         };
     read = λ told is. read_all (told_mid told) is;
-    damage = λ is. let told : Told behind new = script.damage is in record { kept = told.kept; page = told.page; shows = inr (behind, told.shown); ends = told.ends };
+    damage = λ is.
+        let told : Told behind mid new = script.damage is in
+        record { kept = told.kept; page = told.page; shows = inr (behind, shown_since told.page told.kept behind old mid new goes.clock told.shown); ends = told.ends };
     refused = λ among. none_of status (0 ∷ 5 ∷ 6 ∷ 7 ∷ 8 ∷ 9 ∷ 12 ∷ []) (3 ∷ 4 ∷ 11 ∷ 13 ∷ []) refl script.known among;
     nvm = λ is. rose_before old.nvm_faults mid.nvm_faults new.nvm_faults goes.nvm_faults (script.nvm is);
     ssd = λ is. rose_before old.ssd_faults mid.ssd_faults new.ssd_faults goes.ssd_faults (script.ssd is);

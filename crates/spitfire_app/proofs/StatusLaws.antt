@@ -143,6 +143,14 @@ module _ (status : ℕ) where
   is_ended sound one is = not_one status 13 (6 ∷ 0 ∷ 5 ∷ 6 ∷ 7 ∷ 8 ∷ 9 ∷ 11 ∷ 12 ∷ []) refl one is
   is_ended (fails check) one is = not_one status 13 (6 ∷ 5 ∷ 9 ∷ []) refl one is
 
+  -- and 11
+  pub is_sound : (what : Finding) → IsOneOf status (6 ∷ codes_found what) → status ≡ 11 → what ≡ sound
+  is_sound another one is = not_one status 11 (6 ∷ 3 ∷ []) refl one is
+  is_sound too_small one is = not_one status 11 (6 ∷ 4 ∷ []) refl one is
+  is_sound ended one is = not_one status 11 (6 ∷ 13 ∷ []) refl one is
+  is_sound sound one is = refl
+  is_sound (fails check) one is = not_one status 11 (6 ∷ 5 ∷ 9 ∷ []) refl one is
+
   -- and a finding leaves no others
   pub comes_by : (what is : Finding) (codes : List ℕ) → what ≡ is → IsTrue (list_all (λ x. list_any (λ y. eqb y x) codes) (6 ∷ codes_found is)) → IsOneOf status (6 ∷ codes_found what) → IsOneOf status codes
   comes_by what is codes same all one = one_of status (6 ∷ codes_found is) codes all (subst (λ (x : Finding). IsOneOf status (6 ∷ codes_found x)) same one)

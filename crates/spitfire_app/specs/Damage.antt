@@ -31,5 +31,5 @@ pub record IsOpeningDamage (old new : Standing) (kept : Evidence) : Type 0 where
 pub record IsDamaged (old new : Standing) : Type 0 where
   pub kept : Evidence
   pub page : List ℕ
-  pub shows : IsOpeningDamage old new kept ⊎ ((engine : Engine) × Shown page kept engine new)
+  pub shows : IsOpeningDamage old new kept ⊎ ((engine : Engine) × Shown page kept engine old new)
   pub ends : IsTrue new.told → (front : List ℕ) × (sent new ≡ front ++ damage_text kept page)

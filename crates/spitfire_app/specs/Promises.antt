@@ -5,7 +5,7 @@ use Rattle.devices.specs.World.{Standing, Moments, Rose, NoFault, last_count, no
 use Rattle.store_meaning.specs.Layout.{Sizes}
 use Rattle.store_meaning.specs.Format.Format.{whole_lines}
 use Rattle.store_meaning.specs.Recovered.{image_log_check}
-use Rattle.nvm_layout.specs.Opening.Finding.{another, too_small, ended as log_ended, sound}
+use Rattle.nvm_layout.specs.Opening.Finding.{another, too_small, ended as log_ended, sound, fails}
 use Rattle.recovery.specs.Empty.{HasNoMagic}
 use Rattle.recovery.specs.Causes.{IsTooSmall}
 use Rattle.table_catalog.specs.Catalog.{Table}
@@ -91,6 +91,9 @@ pub record RunCauses (old new : Standing) (status : ℕ) : Type 0 where
   pub size : IsTrue old.told → Exactly status 4 ((old.lines < 4) ⊎ ((4 ≤ old.lines) × (found_in old ≡ too_small))) (6 ∷ [])
   pub magic : IsTrue old.told → Exactly status 3 ((4 ≤ old.lines) × (found_in old ≡ another)) (6 ∷ [])
   pub tail : IsTrue old.told → Exactly status 13 ((4 ≤ old.lines) × (found_in old ≡ log_ended)) (6 ∷ [])
+  -- a superblock that fails a check is told of, and memory is asked for behind a sound one alone
+  pub gates : IsTrue old.told → (check : ℕ) → 4 ≤ old.lines → found_in old ≡ fails check → IsOneOf status (5 ∷ 6 ∷ 9 ∷ [])
+  pub memory : IsTrue old.told → status ≡ 11 → (4 ≤ old.lines) × (found_in old ≡ sound)
   pub damage : status ≡ 5 → IsDamaged old new
   pub refused : IsOneOf status (3 ∷ 4 ∷ 11 ∷ 13 ∷ []) → Untouched old new
   pub nvm : status ≡ 6 → Rose old.nvm_faults new.nvm_faults

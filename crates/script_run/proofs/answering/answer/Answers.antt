@@ -80,7 +80,7 @@ pub returns-in-Said-clause-reaches : goal.returns-in-Said-clause-reaches
 returns-in-Said-clause-reaches g c = OnOk-any c.say.result c.in_ok-step.ensures.does.reach_rises
 
 pub returns-in-Said-clause-cause : goal.returns-in-Said-clause-cause
-returns-in-Said-clause-cause g c = cause_then c.say.result (quiet g (goal.at.returns-in-Said-clause-cause g c).In_ok-step) (c.say.ensures.cause c.step.new.self)
+returns-in-Said-clause-cause g c = cause_then c.say.result c.step.ensures.does.goes.clock (quiet g (goal.at.returns-in-Said-clause-cause g c).In_ok-step) (c.say.ensures.cause c.step.new.self)
 
 pub returns-in-Said-clause-proceeds : goal.returns-in-Said-clause-proceeds
 returns-in-Said-clause-proceeds g c = λ aim s commands told owes.
@@ -103,7 +103,7 @@ returns-in-Scanning-clause-reaches g c =
     on_ok_weaker c.give_rows.result (λ (same : reach c.give_rows.new.engine.book ≡ reach c.step.new.self.book). omega (arith, same, risen)) c.give_rows.ensures.reaches
 
 pub returns-in-Scanning-clause-cause : goal.returns-in-Scanning-clause-cause
-returns-in-Scanning-clause-cause g c = cause_then c.give_rows.result (quiet g (goal.at.returns-in-Scanning-clause-cause g c).In_ok-step) c.give_rows.ensures.cause
+returns-in-Scanning-clause-cause g c = cause_then c.give_rows.result c.step.ensures.does.goes.clock (quiet g (goal.at.returns-in-Scanning-clause-cause g c).In_ok-step) c.give_rows.ensures.cause
 
 pub returns-in-Scanning-clause-proceeds : goal.returns-in-Scanning-clause-proceeds
 returns-in-Scanning-clause-proceeds g c = λ aim s commands told owes.

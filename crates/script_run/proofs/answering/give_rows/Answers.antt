@@ -35,7 +35,7 @@ loop-scan-init g c = record {
 pub returns-in_err-reply-clause-cause : goal.returns-in_err-reply-clause-cause
 returns-in_err-reply-clause-cause g c =
     let does = c.next_row.ensures.does in
-    cause_then c.from_residual.result c.loop-scan.invariant.quiet
+    cause_then c.from_residual.result c.loop-scan.invariant.goes.clock c.loop-scan.invariant.quiet
     (cause_stopped c.loop-scan.engine (g.W.Devices.standing c.loop-scan.world) c.next_row.new.self (g.W.Devices.standing c.next_row.new.world) c.loop-scan.invariant.ready does.goes does.sizes
     c.from_residual.result c.in_err-reply.field-0.0 c.from_residual.ensures (row_stops c.loop-scan.engine (g.W.Devices.standing c.loop-scan.world) c.next_row.new.self (g.W.Devices.standing c.next_row.new.world) (Err c.in_err-reply.field-0.0) c.in_err-reply.ensures.cause))
 
@@ -105,7 +105,7 @@ returns-in_err-say-clause-goes g c = GoesOn-trans c.loop-scan.invariant.goes (Go
 
 pub returns-in_err-say-clause-cause : goal.returns-in_err-say-clause-cause
 returns-in_err-say-clause-cause g c =
-    cause_then c.from_residual-in_err-say.result (NoFault-trans c.loop-scan.invariant.quiet (quiet_row g (goal.at.returns-in_err-say-clause-cause g c).After-say))
+    cause_then c.from_residual-in_err-say.result (omega (arith, c.loop-scan.invariant.goes.clock, c.next_row.ensures.does.goes.clock)) (NoFault-trans c.loop-scan.invariant.quiet (quiet_row g (goal.at.returns-in_err-say-clause-cause g c).After-say))
     (cause_err c.from_residual-in_err-say.result c.in_err-say.field-0.0 c.from_residual-in_err-say.ensures (c.in_err-say.ensures.cause c.next_row.new.self))
 
 pub returns-in_err-say-clause-proceeds : goal.returns-in_err-say-clause-proceeds

@@ -37,7 +37,7 @@ ended g c aim s told went =
 
 pub returns-in_err-finish-clause-cause : goal.returns-in_err-finish-clause-cause
 returns-in_err-finish-clause-cause g c =
-    cause_then _ c.in_ok-answer.ensures.cause.ok
+    cause_then _ c.answer.ensures.goes.clock c.in_ok-answer.ensures.cause.ok
     (cause_stopped _ _ _ _ c.in_ok-answer.ensures.ready c.finish.ensures.does.goes c.finish.ensures.does.sizes c.from_residual-in_err-finish.result _ c.from_residual-in_err-finish.ensures c.in_err-finish.ensures.cause)
 
 pub returns-in_err-finish-clause-safe : goal.returns-in_err-finish-clause-safe
@@ -54,7 +54,7 @@ returns-in_err-finish-clause-sound g c = λ aim s told owes.
 
 pub returns-clause-cause : goal.returns-clause-cause
 returns-clause-cause g c =
-    cause_then _ c.in_ok-answer.ensures.cause.ok (record { failed = tt; ok = quiet_step c.answer.new.engine (g.W.Devices.standing c.answer.new.world) c.finish.new.self (g.W.Devices.standing c.finish.new.world) c.in_ok-answer.ensures.ready c.finish.ensures.does.goes c.finish.ensures.does.sizes tt c.in_ok-finish.ensures.cause })
+    cause_then _ c.answer.ensures.goes.clock c.in_ok-answer.ensures.cause.ok (record { failed = tt; ok = quiet_step c.answer.new.engine (g.W.Devices.standing c.answer.new.world) c.finish.new.self (g.W.Devices.standing c.finish.new.world) c.in_ok-answer.ensures.ready c.finish.ensures.does.goes c.finish.ensures.does.sizes tt c.in_ok-finish.ensures.cause })
 
 pub returns-clause-safe : goal.returns-clause-safe
 returns-clause-safe g c = λ aim s told owes.

@@ -64,7 +64,7 @@ returns-in_err-count-clause-sound g c = λ aim s told owes.
     (comes_stopped {after = c.take_some.new.engine} {ys = []} c.from_residual.result _ c.from_residual.ensures c.in_err-count.was (took g (goal.at.returns-in_err-count-clause-sound g c).After-take_some aim s told owes)).proceeds.sound
 
 pub returns-in_err-count-clause-cause : goal.returns-in_err-count-clause-cause
-returns-in_err-count-clause-cause g c = cause_then _ c.loop-left.invariant.no_fault (cause_err c.from_residual.result _ c.from_residual.ensures c.in_err-count.ensures.cause)
+returns-in_err-count-clause-cause g c = cause_then _ c.loop-left.invariant.goes.clock c.loop-left.invariant.no_fault (cause_err c.from_residual.result _ c.from_residual.ensures c.in_err-count.ensures.cause)
 
 -- the last line, where the end came within the limit
 last : (g : given.Over) (c : After-end_run g) (aim : Aim) (s : State) → IsTrue (g.W.Devices.standing c.args.world.now).told
@@ -78,7 +78,7 @@ told_last : (g : given.Over) (c : After-end_run g) → IsTrue (g.W.Devices.stand
 told_last g c told = subst IsTrue (sym (c.take_some.ensures.goes.told ∙ c.loop-left.invariant.goes.told)) told
 
 pub returns-then-count-eq0-clause-cause : goal.returns-then-count-eq0-clause-cause
-returns-then-count-eq0-clause-cause g c = cause_then _ (NoFault-trans c.loop-left.invariant.no_fault c.in_ok-count.ensures.cause.ok) c.end_run.ensures.cause
+returns-then-count-eq0-clause-cause g c = cause_then _ (omega (arith, c.loop-left.invariant.goes.clock, c.take_some.ensures.goes.clock)) (NoFault-trans c.loop-left.invariant.no_fault c.in_ok-count.ensures.cause.ok) c.end_run.ensures.cause
 
 pub returns-then-count-eq0-clause-safe : goal.returns-then-count-eq0-clause-safe
 returns-then-count-eq0-clause-safe g c = λ aim s told owes.
@@ -108,7 +108,7 @@ read g c aim s told owes =
     (λ t owed. read_comes aim c.loop-left.engine t _ _ _ inv.ready (subst IsTrue (sym inv.goes.told) told) (g.met.W.World.timed c.loop-left.world) c.read_script.ensures.call (c.read_script.ensures.rest.output refl).0 owed)
 
 pub returns-in_err-read_script-clause-cause : goal.returns-in_err-read_script-clause-cause
-returns-in_err-read_script-clause-cause g c = cause_then _ c.loop-left.invariant.no_fault (cause_err c.from_residual-in_err-read_script.result _ c.from_residual-in_err-read_script.ensures (c.in_err-read_script.ensures.cause c.loop-left.engine))
+returns-in_err-read_script-clause-cause g c = cause_then _ c.loop-left.invariant.goes.clock c.loop-left.invariant.no_fault (cause_err c.from_residual-in_err-read_script.result _ c.from_residual-in_err-read_script.ensures (c.in_err-read_script.ensures.cause c.loop-left.engine))
 
 pub returns-in_err-read_script-clause-safe : goal.returns-in_err-read_script-clause-safe
 returns-in_err-read_script-clause-safe g c = λ aim s told owes. (read g (goal.at.returns-in_err-read_script-clause-safe g c).After-read_script aim s told owes).proceeds.safe
@@ -138,7 +138,7 @@ told_read : (g : given.Over) (c : After-end_run-2 g) → IsTrue (g.W.Devices.sta
 told_read g c told = subst IsTrue (sym (c.read_script.ensures.call.goes.told ∙ c.loop-left.invariant.goes.told)) told
 
 pub returns-clause-cause : goal.returns-clause-cause
-returns-clause-cause g c = cause_then _ (NoFault-trans c.loop-left.invariant.no_fault (c.in_ok-read_script.ensures.cause c.loop-left.engine).ok) c.end_run-2.ensures.cause
+returns-clause-cause g c = cause_then _ (omega (arith, c.loop-left.invariant.goes.clock, c.read_script.ensures.call.goes.clock)) (NoFault-trans c.loop-left.invariant.no_fault (c.in_ok-read_script.ensures.cause c.loop-left.engine).ok) c.end_run-2.ensures.cause
 
 pub returns-clause-safe : goal.returns-clause-safe
 returns-clause-safe g c = λ aim s told owes.

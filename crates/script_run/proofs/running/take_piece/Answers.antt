@@ -36,7 +36,7 @@ comes g c aim s more told owes =
     (λ t owed. c.take_byte.ensures.comes aim t (drop (c.loop-byte.byte-index + 1) c.args.piece.now ++ more) (subst IsTrue (sym inv.goes.told) told) (owes_same next owed))
 
 pub returns-in_err-take_byte-clause-cause : goal.returns-in_err-take_byte-clause-cause
-returns-in_err-take_byte-clause-cause g c = cause_then _ c.loop-byte.invariant.no_fault (cause_err c.from_residual.result _ c.from_residual.ensures c.in_err-take_byte.ensures.cause)
+returns-in_err-take_byte-clause-cause g c = cause_then _ c.loop-byte.invariant.goes.clock c.loop-byte.invariant.no_fault (cause_err c.from_residual.result _ c.from_residual.ensures c.in_err-take_byte.ensures.cause)
 
 pub returns-in_err-take_byte-clause-comes : goal.returns-in_err-take_byte-clause-comes
 returns-in_err-take_byte-clause-comes g c = λ aim s more told owes.

@@ -37,7 +37,7 @@ took g c aim told first =
 
 pub returns-in_err-take_piece-clause-cause : goal.returns-in_err-take_piece-clause-cause
 returns-in_err-take_piece-clause-cause g c =
-    cause_then _ (c.in_ok-count.ensures.cause c.args.engine.now).ok (cause_err c.from_residual-in_err-take_piece.result _ c.from_residual-in_err-take_piece.ensures c.in_err-take_piece.ensures.cause)
+    cause_then _ c.read_script.ensures.call.goes.clock (c.in_ok-count.ensures.cause c.args.engine.now).ok (cause_err c.from_residual-in_err-take_piece.result _ c.from_residual-in_err-take_piece.ensures c.in_err-take_piece.ensures.cause)
 
 pub returns-in_err-take_piece-clause-comes : goal.returns-in_err-take_piece-clause-comes
 returns-in_err-take_piece-clause-comes g c = λ aim s told owes.

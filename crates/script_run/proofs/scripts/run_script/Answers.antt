@@ -24,7 +24,7 @@ pub returns-in-Err-Store-Damaged-clause-causes : goal.returns-in-Err-Store-Damag
 returns-in-Err-Store-Damaged-clause-causes g c =
     let found = c.in-Err-Store-Damaged in
     damaged_causes c.args.limit c.args.engine.now (g.W.Devices.standing c.args.world.now) c.run_lines.new.engine (g.W.Devices.standing c.show_damage.new.world) c.show_damage.result c.show_damage.ensures.known
-    (λ five. c.show_damage.ensures.told (shown_of found.field-0 found.field-0-0 found.evidence found.field-0-is found.field-0-0-is (g.W.Devices.standing c.args.world.now) c.run_lines.new.engine (g.W.Devices.standing c.run_lines.new.world) found.ensures.cause.failed) five)
+    (λ five. c.show_damage.ensures.told (g.W.Devices.standing c.args.world.now) (shown_of found.field-0 found.field-0-0 found.evidence found.field-0-is found.field-0-0-is (g.W.Devices.standing c.args.world.now) c.run_lines.new.engine (g.W.Devices.standing c.run_lines.new.world) found.ensures.cause.failed) five)
     (λ nine. rose_on c.run_lines.ensures.goes.sink_faults (c.show_damage.ensures.sink nine))
     (no_damage g (goal.at.returns-in-Err-Store-Damaged-clause-causes g c).After-show_damage)
 
