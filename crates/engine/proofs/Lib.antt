@@ -7,4 +7,5 @@ pub mod OpenLaws
 pub mod AnswerLaws
 pub mod ScanningLaws
 pub mod CauseLaws
+pub mod RestLaws
 pub mod StepLaws

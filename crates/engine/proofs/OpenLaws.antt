@@ -26,6 +26,7 @@ use Rattle.engine.specs.declared.engine.Engine.{Engine}
 use Rattle.engine.specs.Holds.{AreLimits, HoldsTables, Holds, HasOnly, InOrder}
 use Rattle.engine.specs.Engine.{engine_sizes, StandsFor, IsSteadyFor, Shows}
 use Rattle.engine.specs.Opening.{IsOver, ShowsHeld}
+use Rattle.engine.specs.Resting.{Rests}
 use Rattle.engine.proofs.HoldsLaws.{holds_same, image_in_order}
 
 module _ (parts : Parts) (engine : Engine) (a b : Standing) (goes : Goes a b) (are : AreParts parts a.lines a.blocks) (is : IsOver parts engine) where
@@ -75,6 +76,10 @@ module _ (parts : Parts) (engine : Engine) (a b : Standing) (goes : Goes a b) (a
 
   pub over_steady : (IsTrue a.told → OpenFacts (sizes_of parts.geometry) parts.log.start parts.log.tail (now b)) → IsSteadyFor engine b
   over_steady steady = new_steady parts.log parts.loose engine.book b is.book are.empty (λ told. facts_of (now b) (steady (told_before told)))
+
+  -- its lines are those that recovery gave
+  pub over_rests : Recovered parts a b → KeepsStore a b → Rests (committed_in (now a)) engine b
+  over_rests recovered keeps = record { current = ap (λ (x : Sizes). pages_in x (now b)) over_sizes ∙ recovered.current; committed = keeps.committed }
 
   module _ (g : Sizes) (T : List Table) (recovered : Recovered parts a b) (keeps : KeepsStore a b) where
     pub over_shows : Holds g T (now a) → ShowsHeld g T b engine

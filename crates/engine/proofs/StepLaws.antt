@@ -27,7 +27,9 @@ use Rattle.engine.specs.Commands.{shown}
 use Rattle.engine.specs.Causes.{IsDamage, Stops}
 use Rattle.engine.specs.Steps.{Does, Replies, after_command, after_line, step_replies, IsBegun}
 use Rattle.engine.specs.Answers.{said_of, Answers, AnswersLine, Obeys, closed}
+use Rattle.engine.specs.Resting.{is_read, AreReads, Reads}
 use Rattle.engine.proofs.CauseLaws.{causes_weaker}
+use Rattle.engine.proofs.RestLaws.{reads_still, reads_said, reads_after_rest, read_some}
 use Rattle.engine.proofs.TransactionLaws.{does_still, none_open, some_open, step_abort}
 use Rattle.engine.proofs.DoesLaws.{does_same}
 
@@ -51,10 +53,14 @@ said_cause : (old : Engine) (a : Standing) (new : Engine) (b : Standing) (r : Re
 said_cause old a new b (Ok v) it = record { failed = it.failed; kept = it.kept }
 said_cause old a new b (Err why) it = record { failed = it.failed; kept = it.kept }
 
+-- a command that writes
+pub unread : {A : Type 0} → false ≡ true → A
+unread clash = absurd (cc)
+
 -- A command that gives one reply.
 pub obeys_said : (P : Evidence → Type 0) (c d : Command) (old : Engine) (a : Standing) (new : Engine) (b : Standing) (r : Result Reply Stop) (x : Result Step Stop) → c ≡ d → x ≡ said_of r
-    → Does (after_command old (Some d)) old a new b r → Replies old a (Some d) r → ((e : Evidence) → P e → IsDamage old a new.work.page e) → HasCause P (shown old a) (shown new b) r → Obeys (Some c) old a new b x
-obeys_said P c d old a new b r x same is does replies weaker cause =
+    → Does (after_command old (Some d)) old a new b r → Replies old a (Some d) r → ((e : Evidence) → P e → IsDamage old a new.work.page e) → HasCause P (shown old a) (shown new b) r → (IsTrue (is_read (Some d)) → Reads old a new b r) → Obeys (Some c) old a new b x
+obeys_said P c d old a new b r x same is does replies weaker cause reads =
     obeys_at c d old a new b x same
     (subst (λ (y : Result Step Stop). Obeys (Some d) old a new b y) (sym is)
     (record {
@@ -62,6 +68,7 @@ obeys_said P c d old a new b r x same is does replies weaker cause =
       replies = said_replies old a (Some d) r replies;
       begun = said_begun r;
       cause = said_cause old a new b r (causes_weaker P (IsDamage old a new.work.page) (shown old a) (shown new b) r weaker cause);
+      reads = λ read. reads_said old a new b r (reads read);
     }))
 
 -- ---- whether a transaction is open
@@ -84,6 +91,7 @@ obeys_misplaced c old a stands wrong = record {
   replies = λ told s shows. ap (λ x. x.1) (found s shows);
   begun = tt;
   cause = record { failed = tt; kept = (refl, refl) };
+  reads = λ read. reads_still old a (Said (reply.Refused reason.Transaction));
 }
   where
     found : (s : State) → Shows old a s → step (bounds_in (engine_sizes old)) s (Some c) ≡ (s, reply.Refused reason.Transaction ∷ [])
@@ -189,6 +197,7 @@ pub record Leads (line : List ℕ) (old : Engine) (a : Standing) (new : Engine) 
   pub does : Does (after_line old (command_in line)) old a new b r
   pub replies : AnswersLine old a (command_in line) r
   pub cause : Stops old a new b r
+  pub reads : AreReads (command_in line) → Reads old a new b r
 
 module _ (line : List ℕ) (old : Engine) (a : Standing) (stands : StandsFor old a) (book : Book) (same : book ≡ record old.book { accesses = book.accesses }) where
   still : (answer : Step) → ((s : State) → run.state_after (machine (bounds_in (engine_sizes old))) s (command_in line) ≡ s)
@@ -198,6 +207,7 @@ module _ (line : List ℕ) (old : Engine) (a : Standing) (stands : StandsFor old
         (does_still (after_line old (command_in line)) (record old { book = book }) a answer (stands_after_rest old book same a stands) (λ told s shows. sym (state s)));
     replies = λ told s shows. replied s;
     cause = record { failed = tt; kept = (refl, refl) };
+    reads = λ read. reads_after_rest old a (record old { book = book }) a book (Ok answer) same (reads_still (record old { book = book }) a answer);
   }
 
   pub leads_silent : is_silent line ≡ true → Leads line old a (record old { book = book }) a (Ok Silent)
@@ -216,6 +226,7 @@ module _ (line : List ℕ) (old : Engine) (a : Standing) (stands : StandsFor old
           replies = λ told s shows.
               if_ok r (λ answer found. sym (some_replies (bounds_in (engine_sizes old)) s line c said some ∙ append-nil (step (bounds_in (engine_sizes old)) s (Some c)).1 ∙ found)) (at_old.replies told s (shows_rested old book.accesses a s shows));
           cause = cause_rested old book.accesses a new b r at_old.cause;
+          reads = λ read. reads_after_rest old a new b book r same (it.reads (read_some line c said some read));
         }
 
 -- ---- the end of a run

@@ -14,6 +14,7 @@ use Rattle.engine.specs.Holds.{bounds_in}
 use Rattle.engine.specs.Engine.{engine_sizes, Shows}
 use Rattle.engine.specs.Steps.{Does, IsBegun, step_replies, after_command, after_line}
 use Rattle.engine.specs.Causes.{Stops}
+use Rattle.engine.specs.Resting.{is_read, Reads}
 
 -- one reply, as what a line leads to
 abbrev pub said_of : Result Reply Stop → Result Step Stop
@@ -30,12 +31,14 @@ abbrev pub AnswersLine : Engine → Standing → List (Option Command) → Resul
 AnswersLine engine a commands result =
     IsTrue a.told → (s : State) → Shows engine a s → IfOk result (λ step. step_replies step (current s) ≡ run.replies (machine (bounds_in (engine_sizes engine))) s commands)
 
--- A command is done as the plain machine does it: its state, its replies, and why it stops.
+-- A command is done as the plain machine does it: its state, its replies, and why it stops. One that writes nothing leaves all
+-- lines.
 pub record Obeys (command : Option Command) (old : Engine) (a : Standing) (new : Engine) (b : Standing) (result : Result Step Stop) : Type 0 where
   pub does : Does (after_command old command) old a new b result
   pub replies : Answers old a command result
   pub begun : IfOk result IsBegun
   pub cause : Stops old a new b result
+  pub reads : IsTrue (is_read command) → Reads old a new b result
 
 -- the state at the end of a run: no transaction is open
 abbrev pub closed : State → State

@@ -5,4 +5,5 @@ pub mod Commands
 pub mod Scanning
 pub mod Opening
 pub mod Causes
+pub mod Resting
 pub mod Answers

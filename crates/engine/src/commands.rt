@@ -10,6 +10,7 @@ ghost use Rattle.engine.specs.Causes.{IsNameDamage, IsRowDamage, IsNewTableDamag
 ghost use Rattle.engine.specs.Holds.{bounds_in};
 ghost use Rattle.engine.specs.Engine.{engine_sizes, StandsFor, Shows};
 ghost use Rattle.engine.specs.Steps.{Does, Replies, after_command, step_replies, IsBegun};
+ghost use Rattle.engine.specs.Resting.{Reads};
 
 use crate::engine::Engine;
 use crate::scan::{Scan, Step};
@@ -48,6 +49,7 @@ impl Engine {
         ensures does { Does (λ s. s) self.old (W.Devices.standing world.old) self.new (W.Devices.standing world.new) result }
         ensures known { IsTrue (W.Devices.standing world.old).told → (s : State) → Shows self.old (W.Devices.standing world.old) s → IfOk result (λ known. known ≡ is_known name.now (seen_tables s)) }
         ensures cause { HasCause (IsNameDamage self.old (W.Devices.standing world.old) self.new.work.page) (shown self.old (W.Devices.standing world.old)) (shown self.new (W.Devices.standing world.new)) result }
+        ensures reads { Reads self.old (W.Devices.standing world.old) self.new (W.Devices.standing world.new) result }
     {
         let mut store = Store::over(&mut self.book, world);
         let known = has_table(&mut store, &self.limits, name, &mut self.work)?;
@@ -81,6 +83,7 @@ impl Engine {
         ensures does { Does (after_command self.old (Some (Get name.now key))) self.old (W.Devices.standing world.old) self.new (W.Devices.standing world.new) result }
         ensures replies { Replies self.old (W.Devices.standing world.old) (Some (Get name.now key)) result }
         ensures cause { HasCause (IsRowDamage self.old (W.Devices.standing world.old) self.new.work.page) (shown self.old (W.Devices.standing world.old)) (shown self.new (W.Devices.standing world.new)) result }
+        ensures reads { Reads self.old (W.Devices.standing world.old) self.new (W.Devices.standing world.new) result }
     {
         let mut store = Store::over(&mut self.book, world);
         let got = table_store::get(&mut store, &self.limits, name, key, &mut self.work)?;
@@ -100,6 +103,7 @@ impl Engine {
         ensures replies { IsTrue (W.Devices.standing world.old).told → (s : State) → Shows self.old (W.Devices.standing world.old) s → IfOk result (λ step. ((machine (bounds_in (engine_sizes self.old))).step s (Some (ScanRows name from to))).1 ≡ step_replies step (seen_tables s)) }
         ensures begun { IfOk result IsBegun }
         ensures cause { HasCause (IsNameDamage self.old (W.Devices.standing world.old) self.new.work.page) (shown self.old (W.Devices.standing world.old)) (shown self.new (W.Devices.standing world.new)) result }
+        ensures reads { Reads self.old (W.Devices.standing world.old) self.new (W.Devices.standing world.new) result }
     {
         if !self.knows(world, &name)? {
             return Ok(Step::Said(Reply::Refused(Reason::Table)));

@@ -11,6 +11,7 @@ ghost use Rattle.engine.specs.Causes.{IsRowDamage};
 ghost use Rattle.engine.specs.Engine.{StandsFor, Shows};
 ghost use Rattle.engine.specs.Scanning.{behind, ended, reply_by, scan_by, Gives};
 ghost use Rattle.engine.specs.Steps.{Does, scan_replies, calls_left};
+ghost use Rattle.engine.specs.Resting.{Reads};
 
 use crate::engine::Engine;
 use crate::scan::Scan;
@@ -80,6 +81,7 @@ impl Engine {
         ensures fewer { OnOk result (calls_left scan.new < calls_left scan.old) }
         // why it stops
         ensures cause { HasCause (IsRowDamage self.old (W.Devices.standing world.old) self.new.work.page) (shown self.old (W.Devices.standing world.old)) (shown self.new (W.Devices.standing world.new)) result }
+        ensures reads { Reads self.old (W.Devices.standing world.old) self.new (W.Devices.standing world.new) result }
         ensures same { OnErr result (scan.new ≡ scan.old) }
         // what it does
         ensures does { Does (λ s. s) self.old (W.Devices.standing world.old) self.new (W.Devices.standing world.new) result }
@@ -105,6 +107,7 @@ impl Engine {
         ensures reply { IsTrue (W.Devices.standing world.old).told → (s : State) → Shows self.old (W.Devices.standing world.old) s → IfOk result (λ next. reply_by scan.now next ≡ reply_by scan.now (next_of scan.now.from scan.now.to (rows_of scan.now.name (seen_tables s)))) }
         ensures left { IsTrue (W.Devices.standing world.old).told → (s : State) → Shows self.old (W.Devices.standing world.old) s → IfOk result (λ next. scan_by scan.now next ≡ scan_by scan.now (next_of scan.now.from scan.now.to (rows_of scan.now.name (seen_tables s)))) }
         ensures cause { HasCause (IsRowDamage self.old (W.Devices.standing world.old) self.new.work.page) (shown self.old (W.Devices.standing world.old)) (shown self.new (W.Devices.standing world.new)) result }
+        ensures reads { Reads self.old (W.Devices.standing world.old) self.new (W.Devices.standing world.new) result }
         ensures does { Does (λ s. s) self.old (W.Devices.standing world.old) self.new (W.Devices.standing world.new) result }
         ensures same_reach { OnOk result (reach self.new.book ≡ reach self.old.book) }
     {

@@ -43,6 +43,7 @@ impl Engine {
     ghost use Rattle.engine.specs.Causes.{Stops};
     ghost use Rattle.engine.specs.Steps.{Does, IsBegun, after_line};
     ghost use Rattle.engine.specs.Answers.{AnswersLine, Obeys, closed};
+    ghost use Rattle.engine.specs.Resting.{AreReads, Reads};
 
     /// Does what a line of a script asks, which is given without its line feed; of a line of more than 1,024 bytes the first
     /// 1,025 serve. A silent line does nothing. It begins with the end of the open access, and takes no memory.
@@ -58,6 +59,7 @@ impl Engine {
         ensures begun { IfOk result IsBegun }
         // why it stops
         ensures cause { Stops self.old (W.Devices.standing world.old) self.new (W.Devices.standing world.new) result }
+        ensures reads { AreReads (command_in line.now) → Reads self.old (W.Devices.standing world.old) self.new (W.Devices.standing world.new) result }
     {
         self.book.rest();
         if is_silent(line) {
@@ -108,6 +110,7 @@ impl Engine {
         requires ready { StandsFor self.old (W.Devices.standing world.old) }
         ensures does { Does closed self.old (W.Devices.standing world.old) self.new (W.Devices.standing world.new) result }
         ensures cause { Stops self.old (W.Devices.standing world.old) self.new (W.Devices.standing world.new) result }
+        ensures reads { Reads self.old (W.Devices.standing world.old) self.new (W.Devices.standing world.new) result }
     {
         self.book.rest();
         self.close(world)
@@ -118,6 +121,7 @@ impl Engine {
         requires ready { StandsFor self.old (W.Devices.standing world.old) }
         ensures does { Does closed self.old (W.Devices.standing world.old) self.new (W.Devices.standing world.new) result }
         ensures cause { Stops self.old (W.Devices.standing world.old) self.new (W.Devices.standing world.new) result }
+        ensures reads { Reads self.old (W.Devices.standing world.old) self.new (W.Devices.standing world.new) result }
     {
         if self.book.is_open() {
             self.abort(world)?;

@@ -12,6 +12,7 @@ impl Engine {
     ghost use Rattle.engine.specs.Engine.{StandsFor};
     ghost use Rattle.engine.specs.Causes.{Stops};
     ghost use Rattle.engine.specs.Steps.{Does, Replies, after_command};
+    ghost use Rattle.engine.specs.Resting.{Reads};
 
     /// Opens a transaction.
     pub(crate) fn begin<W: World>(&mut self, world: &mut W) -> Result<Reply, Stop>
@@ -21,6 +22,7 @@ impl Engine {
         ensures does { Does (after_command self.old (Some command.Begin)) self.old (W.Devices.standing world.old) self.new (W.Devices.standing world.new) result }
         ensures replies { Replies self.old (W.Devices.standing world.old) (Some command.Begin) result }
         ensures cause { Stops self.old (W.Devices.standing world.old) self.new (W.Devices.standing world.new) result }
+        ensures reads { Reads self.old (W.Devices.standing world.old) self.new (W.Devices.standing world.new) result }
     {
         storing::begin(&mut self.book, world)?;
         Ok(Reply::Fine)
@@ -33,6 +35,7 @@ impl Engine {
         ensures does { Does (after_command self.old (Some command.Commit)) self.old (W.Devices.standing world.old) self.new (W.Devices.standing world.new) result }
         ensures replies { Replies self.old (W.Devices.standing world.old) (Some command.Commit) result }
         ensures cause { Stops self.old (W.Devices.standing world.old) self.new (W.Devices.standing world.new) result }
+        ensures reads { Reads self.old (W.Devices.standing world.old) self.new (W.Devices.standing world.new) result }
     {
         storing::commit(&mut self.book, world)?;
         self.commits += 1;
@@ -46,6 +49,7 @@ impl Engine {
         ensures does { Does (after_command self.old (Some command.Abort)) self.old (W.Devices.standing world.old) self.new (W.Devices.standing world.new) result }
         ensures replies { Replies self.old (W.Devices.standing world.old) (Some command.Abort) result }
         ensures cause { Stops self.old (W.Devices.standing world.old) self.new (W.Devices.standing world.new) result }
+        ensures reads { Reads self.old (W.Devices.standing world.old) self.new (W.Devices.standing world.new) result }
     {
         storing::abort(&mut self.book, world)?;
         Ok(Reply::Aborted)
@@ -58,6 +62,7 @@ impl Engine {
         ensures does { Does (after_command self.old (Some command.Checkpoint)) self.old (W.Devices.standing world.old) self.new (W.Devices.standing world.new) result }
         ensures replies { Replies self.old (W.Devices.standing world.old) (Some command.Checkpoint) result }
         ensures cause { Stops self.old (W.Devices.standing world.old) self.new (W.Devices.standing world.new) result }
+        ensures reads { Reads self.old (W.Devices.standing world.old) self.new (W.Devices.standing world.new) result }
     {
         storing::checkpoint(&mut self.book, world)?;
         Ok(Reply::Fine)
@@ -69,6 +74,7 @@ impl Engine {
         ensures does { Does (after_command self.old (Some command.Drain)) self.old (W.Devices.standing world.old) self.new (W.Devices.standing world.new) result }
         ensures replies { Replies self.old (W.Devices.standing world.old) (Some command.Drain) result }
         ensures cause { Stops self.old (W.Devices.standing world.old) self.new (W.Devices.standing world.new) result }
+        ensures reads { Reads self.old (W.Devices.standing world.old) self.new (W.Devices.standing world.new) result }
     {
         storing::drain(&mut self.book, world)?;
         Ok(Reply::Fine)
@@ -80,6 +86,7 @@ impl Engine {
         ensures does { Does (after_command self.old (Some (command.Clean frames))) self.old (W.Devices.standing world.old) self.new (W.Devices.standing world.new) result }
         ensures replies { Replies self.old (W.Devices.standing world.old) (Some (command.Clean frames)) result }
         ensures cause { Stops self.old (W.Devices.standing world.old) self.new (W.Devices.standing world.new) result }
+        ensures reads { Reads self.old (W.Devices.standing world.old) self.new (W.Devices.standing world.new) result }
     {
         storing::clean(&mut self.book, world, frames)?;
         Ok(Reply::Fine)

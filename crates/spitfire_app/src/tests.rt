@@ -1,4 +1,6 @@
 //! Worked examples of the top call over a world in memory.
+ghost use Rattle.std.specs.Prelude.{◌≡◌};
+
 use crate::{Words, spitfire};
 use devices::{Devices, Fault, FaultKind, MemWorld};
 use nvm_layout::Geometry;
@@ -26,7 +28,9 @@ fn word(text: &str) -> Words {
 }
 
 /// A store of one table of a few rows.
-fn small() -> Geometry {
+fn small() -> Geometry
+    ensures { result.frames ≡ 10 }
+{
     Geometry {
         tables: 1,
         rows: 3,
@@ -169,6 +173,27 @@ fn damage_of_the_superblock(rt: HostRuntime) -> Result<(), Fail> {
             .output()
             .starts_with(b"! super check 1\n! 000000000000003f 0000000000000003 ")
     );
+    Ok(())
+}
+
+#[test]
+fn damage_of_a_page(rt: HostRuntime) -> Result<(), Fail> {
+    let mut world = settled(&rt, rt.alloc(), b"get a 7\n")?;
+    change(&mut world, small().frame_line(1, 0), 2, 7)?;
+    assert_eq!(rt; spitfire(rt.alloc(), &word("run"), &mut world), 5);
+    let output = world.output();
+    assert!(rt;
+        output.starts_with(
+            b"! page 1 level 0 low 0 high 18446744073709551615 check 12\n! 0100000000000000"
+        )
+    );
+    let mut ends = 0_usize;
+    for byte in output {
+        if *byte == b'\n' && ends < 1000 {
+            ends += 1;
+        }
+    }
+    assert_eq!(rt; ends, 65);
     Ok(())
 }
 

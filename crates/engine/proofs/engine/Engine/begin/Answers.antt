@@ -1,6 +1,7 @@
 -- The store's call, as the plain machine sees it.
 use Rattle.engine.proofs.TransactionLaws.{begin_does, begin_replies, does_stopped, fault_is}
 use Rattle.engine.proofs.CauseLaws.{stops_fault}
+use Rattle.engine.proofs.RestLaws.{reads_fault, reads_kept}
 use Rattle.engine.proofs.engine.Engine.begin.Goals as goal
 
 pub returns-in_err-begin-clause-does : goal.returns-in_err-begin-clause-does
@@ -21,3 +22,10 @@ returns-clause-replies g c =
 pub returns-in_err-begin-clause-cause : goal.returns-in_err-begin-clause-cause
 returns-in_err-begin-clause-cause g c =
     stops_fault _ c.args.self.now.book c.begin.new.book (g.W.Devices.standing c.args.world.now) (g.W.Devices.standing c.begin.new.dev) c.from_residual.result c.in_err-begin.field-0.0 c.from_residual.ensures c.in_err-begin.ensures.cause
+
+pub returns-in_err-begin-clause-reads : goal.returns-in_err-begin-clause-reads
+returns-in_err-begin-clause-reads g c =
+    reads_fault c.args.self.now (g.W.Devices.standing c.args.world.now) (record c.args.self.now { book = c.begin.new.book }) (g.W.Devices.standing c.begin.new.dev) c.from_residual.result c.in_err-begin.field-0.0 c.from_residual.ensures c.in_err-begin.ensures.cause.failed
+
+pub returns-clause-reads : goal.returns-clause-reads
+returns-clause-reads g c = reads_kept _ _ _ _ _ c.in_ok-begin.ensures.lines

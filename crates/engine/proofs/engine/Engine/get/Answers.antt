@@ -11,6 +11,7 @@ use Rattle.engine.specs.Engine.{engine_sizes, Shows}
 use Rattle.engine.specs.Steps.{after_command}
 use Rattle.engine.proofs.TableLaws.{get_gives}
 use Rattle.engine.proofs.CommandLaws.{on_device, does_fails, does_stays, cause_fails, fault_is, store_shown}
+use Rattle.engine.proofs.RestLaws.{reads_row, reads_stays}
 use Rattle.engine.proofs.engine.Engine.get.Goals as goal
 
 pub returns-in_err-got-clause-does : goal.returns-in_err-got-clause-does
@@ -45,3 +46,16 @@ returns-in_err-got-clause-cause g c =
     cause_fails g.W.Devices.standing _ _ c.args.self.now.book c.get.new.pages.book.now (g.W.Devices.standing c.args.world.now) _ c.get.new.pages.dev.now _ _ _ _ _ _ c.from_residual.result c.in_err-got.field-0.0 (search rules) c.from_residual.ensures
     (rw (c.over-store.ensures.same.0, c.over-store.ensures.same.1) at c.in_err-got.ensures.fails)
     (rw (c.over-store.ensures.same.0, c.over-store.ensures.same.1) at c.in_err-got.ensures.cause)
+
+pub returns-in_err-got-clause-reads : goal.returns-in_err-got-clause-reads
+returns-in_err-got-clause-reads g c =
+    reads_row _ _ _ _ c.from_residual.result c.from_residual.ensures.0
+    (cause_fails g.W.Devices.standing _ _ c.args.self.now.book c.get.new.pages.book.now (g.W.Devices.standing c.args.world.now) _ c.get.new.pages.dev.now _ _ _ _ _ _ c.from_residual.result c.in_err-got.field-0.0 (search rules) c.from_residual.ensures
+    (rw (c.over-store.ensures.same.0, c.over-store.ensures.same.1) at c.in_err-got.ensures.fails)
+    (rw (c.over-store.ensures.same.0, c.over-store.ensures.same.1) at c.in_err-got.ensures.cause))
+
+pub returns-clause-reads : goal.returns-clause-reads
+returns-clause-reads g c =
+    reads_stays g.W.Devices.standing c.args.self.now (g.W.Devices.standing c.args.world.now) _ c.get.new.pages.dev.now c.get.new.pages.book.now c.get.new.work c.reply_to.result (search rules)
+    (rw (c.over-store.ensures.same.0, c.over-store.ensures.same.1) at c.get.ensures.continues) (ap (λ x. (g.W.Devices.standing x).clock) c.over-store.ensures.before)
+    (rw (c.over-store.ensures.same.0, c.over-store.ensures.same.1) at c.in_ok-got.ensures.keeps)

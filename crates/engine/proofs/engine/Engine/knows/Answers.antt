@@ -5,6 +5,7 @@ use Rattle.table_catalog.specs.Stored.{is_known}
 use Rattle.script.specs.Machine.{State}
 use Rattle.engine.proofs.CommandLaws.{on_device, does_fails, does_stays, cause_fails, fault_is, store_shown}
 use Rattle.engine.proofs.AnswerLaws.{put_spent}
+use Rattle.engine.proofs.RestLaws.{reads_name, reads_stays}
 use Rattle.engine.proofs.engine.Engine.knows.Goals as goal
 
 pub returns-in_err-known-clause-does : goal.returns-in_err-known-clause-does
@@ -34,3 +35,16 @@ returns-clause-does g c =
 pub returns-clause-known : goal.returns-clause-known
 returns-clause-known g c = λ told s shows.
     (rw (c.over-store.ensures.same.0, c.over-store.ensures.same.1) at c.in_ok-known.ensures.known) told ∙ ap (λ (T : List Table). is_known c.args.name.now T) shows.seen.tables_are
+
+pub returns-in_err-known-clause-reads : goal.returns-in_err-known-clause-reads
+returns-in_err-known-clause-reads g c =
+    reads_name _ _ _ _ c.from_residual.result c.from_residual.ensures.0
+    (cause_fails g.W.Devices.standing _ _ c.args.self.now.book c.has_table.new.pages.book.now (g.W.Devices.standing c.args.world.now) _ c.has_table.new.pages.dev.now _ _ _ _ _ _ c.from_residual.result c.in_err-known.field-0.0 (search rules) c.from_residual.ensures
+    (rw (c.over-store.ensures.same.0, c.over-store.ensures.same.1) at c.in_err-known.ensures.fails)
+    (rw (c.over-store.ensures.same.0, c.over-store.ensures.same.1) at c.in_err-known.ensures.cause))
+
+pub returns-clause-reads : goal.returns-clause-reads
+returns-clause-reads g c =
+    reads_stays g.W.Devices.standing c.args.self.now (g.W.Devices.standing c.args.world.now) _ c.has_table.new.pages.dev.now c.has_table.new.pages.book.now c.has_table.new.work c.in_ok-known.known (search rules)
+    (rw (c.over-store.ensures.same.0, c.over-store.ensures.same.1) at c.has_table.ensures.continues) (ap (λ x. (g.W.Devices.standing x).clock) c.over-store.ensures.before)
+    (page_keeps (rw (c.over-store.ensures.same.0, c.over-store.ensures.same.1) at c.in_ok-known.ensures.reads))

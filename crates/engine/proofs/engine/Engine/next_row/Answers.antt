@@ -10,6 +10,7 @@ use Rattle.engine.specs.declared.engine.Engine.{Engine}
 use Rattle.engine.specs.Engine.{engine_sizes}
 use Rattle.engine.proofs.CommandLaws.{does_ok, does_err, cause_err, store_shown}
 use Rattle.engine.proofs.ScanningLaws.{rows_ascend, goes_on, gives_by, fewer_by, does_before, stands_between, shows_between, cause_before, cause_ok}
+use Rattle.engine.proofs.RestLaws.{reads_between, reads_ok, reads_err}
 use Rattle.engine.proofs.engine.Engine.next_row.Goals as goal
 
 pub seek-requires : goal.seek-requires
@@ -54,3 +55,13 @@ returns-clause-replies g c = λ told s shows few.
     (goes_on c.args.scan.now c.requires.left few (rows_of c.args.scan.now.name (current s))
     (λ rows is. rows_ascend c.args.self.now.limits (pages (engine_sizes c.args.self.now)) (pages_in (engine_sizes c.args.self.now) (now a)) (store_shown c.args.self.now a s c.requires.stands shows) c.args.scan.now.name rows
     (ap (λ (T : List Table). rows_of c.args.scan.now.name T) shows.seen.tables_are ∙ is)))
+
+pub returns-in_err-next-clause-reads : goal.returns-in_err-next-clause-reads
+returns-in_err-next-clause-reads g c =
+    reads_between c.args.self.now (g.W.Devices.standing c.args.world.now) c.seek.new.self (g.W.Devices.standing c.seek.new.world) c.rest_after.new.self c.from_residual.result c.rest_after.ensures
+    (reads_err _ _ _ _ c.from_residual.result c.in_err-next.field-0.0 c.from_residual.ensures c.in_err-next.ensures.reads)
+
+pub returns-clause-reads : goal.returns-clause-reads
+returns-clause-reads g c =
+    reads_between c.args.self.now (g.W.Devices.standing c.args.world.now) c.seek.new.self (g.W.Devices.standing c.seek.new.world) c.rest_after.new.self _ c.rest_after.ensures
+    (reads_ok _ _ _ _ c.in_ok-next.next c.take.result c.in_ok-next.ensures.reads)

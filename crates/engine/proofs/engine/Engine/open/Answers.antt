@@ -2,7 +2,7 @@
 use Rattle.std.specs.Prelude.{IfOk}
 use Rattle.std.proofs.lemmas.Result.{IfOk-from_err}
 use Rattle.engine.specs.Engine.{IsSteadyFor}
-use Rattle.engine.proofs.OpenLaws.{over_stands, over_low, over_shows, over_steady, over_sizes, order_stays}
+use Rattle.engine.proofs.OpenLaws.{over_stands, over_low, over_shows, over_rests, over_steady, over_sizes, order_stays}
 use Rattle.engine.proofs.engine.Engine.open.Goals as goal
 
 pub returns-clause-stands : goal.returns-clause-stands
@@ -13,6 +13,11 @@ pub returns-clause-shows : goal.returns-clause-shows
 returns-clause-shows g c = λ told sizes T held.
     over_shows c.in_ok-parts.parts c.over.result (g.W.Devices.standing c.args.world.now) (g.W.Devices.standing c.recover.new.dev) c.in_ok-parts.ensures.goes c.in_ok-parts.ensures.parts c.over.ensures
     sizes T (c.in_ok-parts.ensures.recovered told) (c.in_ok-parts.ensures.keeps told) held
+
+pub returns-clause-rests : goal.returns-clause-rests
+returns-clause-rests g c = λ told.
+    over_rests c.in_ok-parts.parts c.over.result (g.W.Devices.standing c.args.world.now) (g.W.Devices.standing c.recover.new.dev) c.in_ok-parts.ensures.goes c.in_ok-parts.ensures.parts c.over.ensures
+    (c.in_ok-parts.ensures.recovered told) (c.in_ok-parts.ensures.keeps told)
 
 pub returns-clause-order : goal.returns-clause-order
 returns-clause-order g c = λ told sizes T order. record {

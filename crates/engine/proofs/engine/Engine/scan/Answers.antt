@@ -10,6 +10,7 @@ use Rattle.engine.specs.Steps.{after_command}
 use Rattle.engine.proofs.DoesLaws.{does_same}
 use Rattle.engine.proofs.CommandLaws.{does_ok, does_err}
 use Rattle.engine.proofs.TableLaws.{scan_stays, scan_unknown, scan_known, scanned_from}
+use Rattle.engine.proofs.RestLaws.{reads_ok, reads_err}
 use Rattle.engine.proofs.engine.Engine.scan.Goals as goal
 
 pub returns-in_err-knows-clause-does : goal.returns-in_err-knows-clause-does
@@ -38,3 +39,12 @@ pub returns-clause-replies : goal.returns-clause-replies
 returns-clause-replies g c = λ told s shows.
     ap (λ p. p.1) (scan_known (bounds_in (engine_sizes c.args.self.now)) s c.args.name c.args.from c.args.to (sym (c.in_ok-knows.ensures.known told s shows) ∙ c.if-not-branch.false))
     ∙ scanned_from (rows_in c.args.name s) c.args.from c.args.to
+
+pub returns-in_err-knows-clause-reads : goal.returns-in_err-knows-clause-reads
+returns-in_err-knows-clause-reads g c = reads_err _ _ _ _ c.from_residual.result c.in_err-knows.field-0.0 c.from_residual.ensures c.in_err-knows.ensures.reads
+
+pub returns-then-not-branch-clause-reads : goal.returns-then-not-branch-clause-reads
+returns-then-not-branch-clause-reads g c = reads_ok _ _ _ _ c.in_ok-knows.field-0 _ c.in_ok-knows.ensures.reads
+
+pub returns-clause-reads : goal.returns-clause-reads
+returns-clause-reads g c = reads_ok _ _ _ _ c.in_ok-knows.field-0 _ c.in_ok-knows.ensures.reads

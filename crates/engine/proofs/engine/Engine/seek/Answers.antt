@@ -10,6 +10,7 @@ use Rattle.engine.proofs.DoesLaws.{pages_reach}
 use Rattle.engine.proofs.TransactionLaws.{does_still}
 use Rattle.engine.proofs.CommandLaws.{on_device, does_fails, does_stays, cause_fails, fault_is, store_shown}
 use Rattle.engine.proofs.ScanningLaws.{ends_empty}
+use Rattle.engine.proofs.RestLaws.{reads_row, reads_stays, reads_still}
 use Rattle.engine.proofs.engine.Engine.seek.Goals as goal
 
 pub returns-then-scan-clause-reply : goal.returns-then-scan-clause-reply
@@ -65,3 +66,19 @@ returns-clause-left g c = λ told s shows.
     ap (λ (n : Next). scan_by c.args.scan.now n)
     ((rw (c.over-store.ensures.same.0, c.over-store.ensures.same.1) at c.in_ok-next.ensures.row) told (store_shown c.args.self.now a s c.requires shows)
     ∙ ap (λ (T : List Table). next_of c.args.scan.now.from c.args.scan.now.to (rows_of c.args.scan.now.name T)) shows.seen.tables_are)
+
+pub returns-in_err-next-clause-reads : goal.returns-in_err-next-clause-reads
+returns-in_err-next-clause-reads g c =
+    reads_row _ _ _ _ c.from_residual.result c.from_residual.ensures.0
+    (cause_fails g.W.Devices.standing _ _ c.args.self.now.book c.scan_next.new.pages.book.now (g.W.Devices.standing c.args.world.now) _ c.scan_next.new.pages.dev.now _ _ _ _ _ _ c.from_residual.result c.in_err-next.field-0.0 (search rules) c.from_residual.ensures
+    (rw (c.over-store.ensures.same.0, c.over-store.ensures.same.1) at c.in_err-next.ensures.fails)
+    (rw (c.over-store.ensures.same.0, c.over-store.ensures.same.1) at c.in_err-next.ensures.cause))
+
+pub returns-clause-reads : goal.returns-clause-reads
+returns-clause-reads g c =
+    reads_stays g.W.Devices.standing c.args.self.now (g.W.Devices.standing c.args.world.now) _ c.scan_next.new.pages.dev.now c.scan_next.new.pages.book.now c.scan_next.new.work c.in_ok-next.next (search rules)
+    (rw (c.over-store.ensures.same.0, c.over-store.ensures.same.1) at c.scan_next.ensures.continues) (ap (λ x. (g.W.Devices.standing x).clock) c.over-store.ensures.before)
+    (rw (c.over-store.ensures.same.0, c.over-store.ensures.same.1) at c.in_ok-next.ensures.keeps)
+
+pub returns-then-scan-clause-reads : goal.returns-then-scan-clause-reads
+returns-then-scan-clause-reads g c = reads_still _ _ _

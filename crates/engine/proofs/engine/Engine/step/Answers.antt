@@ -30,3 +30,12 @@ returns-in-Some-clause-replies g c = (leads_some c.args.line.now c.args.self.now
 
 pub returns-in-Some-clause-cause : goal.returns-in-Some-clause-cause
 returns-in-Some-clause-cause g c = (leads_some c.args.line.now c.args.self.now (g.W.Devices.standing c.args.world.now) c.requires.ready c.rest.new.self c.rest.ensures.same c.in-Some.command c.answer.new.self (g.W.Devices.standing c.answer.new.world) c.answer.result (sym c.is_silent.ensures ∙ c.if-is_silent.false) (sym c.read_line.ensures ∙ c.in-Some.is) c.answer.ensures).cause
+
+pub returns-then-is_silent-clause-reads : goal.returns-then-is_silent-clause-reads
+returns-then-is_silent-clause-reads g c = (leads_silent c.args.line.now c.args.self.now (g.W.Devices.standing c.args.world.now) c.requires.ready c.rest.new.self c.rest.ensures.same (sym c.is_silent.ensures ∙ c.if-is_silent.true)).reads
+
+pub returns-in-None-clause-reads : goal.returns-in-None-clause-reads
+returns-in-None-clause-reads g c = (leads_none c.args.line.now c.args.self.now (g.W.Devices.standing c.args.world.now) c.requires.ready c.rest.new.self c.rest.ensures.same (sym c.is_silent.ensures ∙ c.if-is_silent.false) (sym c.read_line.ensures ∙ c.in-None.is)).reads
+
+pub returns-in-Some-clause-reads : goal.returns-in-Some-clause-reads
+returns-in-Some-clause-reads g c = (leads_some c.args.line.now c.args.self.now (g.W.Devices.standing c.args.world.now) c.requires.ready c.rest.new.self c.rest.ensures.same c.in-Some.command c.answer.new.self (g.W.Devices.standing c.answer.new.world) c.answer.result (sym c.is_silent.ensures ∙ c.if-is_silent.false) (sym c.read_line.ensures ∙ c.in-Some.is) c.answer.ensures).reads
