@@ -57,7 +57,7 @@ by_catalog limits count held lines buffer (Log offset line tail check) same it =
 by_catalog limits count held lines buffer (Walk page kept found check) same it = tt
 
 by_node : (count : ℕ) (held lines : Lines) (buffer : List ℕ) (e : Evidence) → held ≡ lines → IsNodeDamage count held buffer e → IsPageOf lines buffer e
-by_node count held lines buffer (Page page level low high check) same it = it.1.0 ∙ ap (λ (l : Lines). bytes_of l page) same
+by_node count held lines buffer (Page page level low high check) same it = it.1 ∙ ap (λ (l : Lines). bytes_of l page) same
 by_node count held lines buffer (Super words check) same it = tt
 by_node count held lines buffer (Frames first second entry check) same it = tt
 by_node count held lines buffer (Log offset line tail check) same it = tt

@@ -4,5 +4,6 @@ pub mod WriteLaws
 pub mod RowsLaws
 pub mod TablesLaws
 pub mod ByteLaws
+pub mod RestLaws
 pub mod StartLaws
 pub mod StatusLaws

@@ -1,10 +1,11 @@
 -- The statuses of a script's run, where damage was found.
-use Rattle.std.proofs.Common.{◌≡◌, ◌⊎◌, inl, inr, ℕ, ◌≤◌, List, [], ◌∷◌, Ok, refl, sym, ◌∙◌, ap, subst, arith, false, IsTrue}
+use Rattle.std.proofs.Common.{◌≡◌, ◌⊎◌, inl, inr, ℕ, ◌≤◌, List, [], ◌∷◌, ◌++◌, Ok, refl, sym, ◌∙◌, ap, subst, arith, false, IsTrue}
 use Rattle.std.specs.Prelude.{◌==◌}
 use Rattle.std.specs.List.{list_any}
 use Rattle.std.proofs.lemmas.Bool.{eqb-true, or_cases}
 use Rattle.devices.specs.World.{Standing, WorldCall, Rose, sent}
 use Rattle.line_pages.specs.declared.stop.Evidence.{Evidence}
+use Rattle.line_pages.specs.Lines.{Lines}
 use Rattle.line_pages.specs.declared.stop.Stop.{Stop}
 use Rattle.line_pages.specs.declared.stop.Stop.TheVariants.{Damaged}
 use Rattle.script.specs.Machine.{State}
@@ -16,17 +17,21 @@ use Rattle.script_run.specs.declared.stop.Halt.TheVariants.{Store}
 use Rattle.script_run.specs.Cause.{Shown, Caused, IsFault}
 use Rattle.script_run.specs.Sent.{Writes}
 use Rattle.script_run.proofs.CauseLaws.{shown_later}
-use Rattle.script_run.specs.Statuses.{IsOneOf, Told, ScriptCauses}
+use Rattle.engine.specs.Resting.{IsPageOf}
+use Rattle.script_run.specs.Resting.{IsHaltOf}
+use Rattle.script_run.specs.Statuses.{IsOneOf, IsFirstPage, Told, ScriptCauses}
 
 -- ---- the text of damage
 
 -- what was shown is told
-pub told_by : {T E : Type 0} {v : T} (page bytes : List ℕ) (kept : Evidence) (engine : Engine) (begin old new : Standing) → bytes ≡ page → WorldCall old new → (IsTrue old.told → Writes {T = T} {E = E} (damage_text kept bytes) old new (Ok v))
-    → Shown page kept engine begin old → Told engine begin new
-told_by page bytes kept engine begin old new is call writes shown = record {
+pub told_by : {T E : Type 0} {v : T} (page bytes : List ℕ) (kept : Evidence) (before engine : Engine) (begin old new : Standing) → bytes ≡ page → WorldCall old new → new.outside.input ≡ old.outside.input → (IsTrue old.told → Writes {T = T} {E = E} (damage_text kept bytes) old new (Ok v))
+    → Shown page kept engine begin old → IsFirstPage before begin page kept old → Told before begin engine new
+told_by page bytes kept before engine begin old new is call same writes shown first = record {
   kept = kept;
   page = bytes;
   shown = subst (λ (p : List ℕ). Shown p kept engine begin new) (sym is) (shown_later page kept engine begin old new call.goes shown);
+  first = λ told lines taken rests input are.
+      subst (λ (p : List ℕ). IsPageOf lines p kept) (sym is) (first told lines taken rests (input ∙ ap (λ (l : List ℕ). taken ++ l) same) are);
   ends = λ told. (sent old, (writes (subst IsTrue call.goes.told told)).ok);
 }
 
@@ -44,6 +49,10 @@ module _ (why : Halt) (stop : Stop) (kept : Evidence) (first : why ≡ Store sto
   pub shown_of : (old : Standing) (engine : Engine) (new : Standing) → Caused why old engine new → Shown engine.work.page kept engine old new
   shown_of old engine new caused = subst (λ (x : Halt). Caused x old engine new) is_damage caused
 
+  -- and of these lines, if it is so of the error
+  pub page_of : (lines : Lines) (buffer : List ℕ) → IsHaltOf lines buffer why → IsPageOf lines buffer kept
+  page_of lines buffer shows = subst (λ (x : Halt). IsHaltOf lines buffer x) is_damage shows
+
 -- ---- its status
 
 -- a count that rose behind other calls
@@ -59,7 +68,7 @@ two_of status is =
     ]
 
 module _ (limit : ℕ) (before : Engine) (old : Standing) (after : Engine) (new : Standing) where
-  damage_told : Told after old new → (IsTrue old.told → (s : State) → Shows before old s → ⊥) → ScriptCauses limit before old after new 5
+  damage_told : Told before old after new → (IsTrue old.told → (s : State) → Shows before old s → ⊥) → ScriptCauses limit before old after new 5
   damage_told told sound = record {
     known = refl;
     done = λ e. absurd (omega arith);
@@ -86,7 +95,7 @@ module _ (limit : ℕ) (before : Engine) (old : Standing) (after : Engine) (new 
   }
 
   -- where damage was found, and its text was sent or not
-  pub damaged_causes : (status : ℕ) → IsOneOf status (5 ∷ 9 ∷ []) → (status ≡ 5 → Told after old new) → (status ≡ 9 → Rose old.outside.sink_faults new.outside.sink_faults)
+  pub damaged_causes : (status : ℕ) → IsOneOf status (5 ∷ 9 ∷ []) → (status ≡ 5 → Told before old after new) → (status ≡ 9 → Rose old.outside.sink_faults new.outside.sink_faults)
       → (IsTrue old.told → (s : State) → Shows before old s → ⊥) → ScriptCauses limit before old after new status
   damaged_causes status is told sink sound =
       elim (two_of status is) [

@@ -1,4 +1,5 @@
 pub mod Cause
 pub mod Sent
 pub mod Run
+pub mod Resting
 pub mod Statuses

@@ -3,9 +3,12 @@ use Rattle.std.specs.Prelude.{◌≡◌, ◌≢◌, ℕ, ◌<◌, ◌==◌, List
 use Rattle.std.specs.List.{list_any}
 use Rattle.devices.specs.World.{Standing, Rose, NoFault, sent}
 use Rattle.line_pages.specs.declared.stop.Evidence.{Evidence}
+use Rattle.line_pages.specs.Lines.{Lines}
+use Rattle.script.specs.Grammar.{commands}
 use Rattle.script.specs.Machine.{State}
 use Rattle.engine.specs.declared.engine.Engine.{Engine}
 use Rattle.engine.specs.Engine.{Shows}
+use Rattle.engine.specs.Resting.{AreReads, Rests, IsPageOf}
 use Rattle.app_texts.specs.DamageText.{damage_text}
 use Rattle.script_run.specs.Cause.{Shown}
 
@@ -18,18 +21,25 @@ pub record Exactly (status code : ℕ) (condition : Type 0) (earlier : List ℕ)
   pub only : status ≡ code → condition
   pub comes : condition → IsOneOf status (code ∷ earlier)
 
+-- Where no command was taken that writes, and the current and the committed lines were the same at first, a page of the evidence
+-- is one of theirs.
+abbrev pub IsFirstPage : Engine → Standing → List ℕ → Evidence → Standing → Type 0
+IsFirstPage before old page kept new =
+    IsTrue old.told → (lines : Lines) (taken : List ℕ) → Rests lines before old → old.outside.input ≡ taken ++ new.outside.input → AreReads (commands taken) → IsPageOf lines page kept
+
 -- Damage was found, and what was sent ends with its text.
-pub record Told (engine : Engine) (old new : Standing) : Type 0 where
+pub record Told (before : Engine) (old : Standing) (engine : Engine) (new : Standing) : Type 0 where
   pub kept : Evidence
   pub page : List ℕ
   pub shown : Shown page kept engine old new
+  pub first : IsFirstPage before old page kept new
   pub ends : IsTrue new.told → (front : List ℕ) × (sent new ≡ front ++ damage_text kept page)
 
 -- The statuses of a script's run with this limit.
 pub record ScriptCauses (limit : ℕ) (before : Engine) (old : Standing) (after : Engine) (new : Standing) (status : ℕ) : Type 0 where
   pub known : IsOneOf status (0 ∷ 5 ∷ 6 ∷ 7 ∷ 8 ∷ 9 ∷ 12 ∷ [])
   pub done : status ≡ 0 → NoFault old new
-  pub damage : status ≡ 5 → Told after old new
+  pub damage : status ≡ 5 → Told before old after new
   pub nvm : status ≡ 6 → Rose old.nvm_faults new.nvm_faults
   pub ssd : status ≡ 7 → Rose old.ssd_faults new.ssd_faults
   pub source : status ≡ 8 → Rose old.outside.source_faults new.outside.source_faults

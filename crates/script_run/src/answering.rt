@@ -11,6 +11,9 @@ ghost use Rattle.engine.specs.Engine.{engine_sizes, StandsFor};
 ghost use Rattle.engine.specs.Steps.{after_line, scan_replies};
 ghost use Rattle.script_run.specs.Cause.{HasCause};
 ghost use Rattle.script_run.specs.Run.{Aim, IsFew, Owes, Proceeds};
+ghost use Rattle.script_run.specs.Resting.{ReadsOn};
+ghost use Rattle.engine.specs.Resting.{AreReads, Rests};
+ghost use Rattle.line_pages.specs.Lines.{Lines};
 
 use crate::sending::say;
 use crate::stop::Halt;
@@ -24,6 +27,7 @@ pub(crate) fn answer<W: World>(engine: &mut Engine, world: &mut W, line: &[u8]) 
     requires low { reach engine.old.book ≤ 2 ^ 61 + 2 ^ 46 }
     ensures goes { GoesOn (W.Devices.standing world.old) (W.Devices.standing world.new) }
     ensures cause { HasCause (W.Devices.standing world.old) engine.new (W.Devices.standing world.new) result }
+    ensures reads { (lines : Lines) → IsTrue (W.Devices.standing world.old).told → Rests lines engine.old (W.Devices.standing world.old) → AreReads (command_in line.now) → ReadsOn lines engine.new [] (W.Devices.standing world.new) result }
     ensures input { (W.Devices.standing world.new).outside.input ≡ (W.Devices.standing world.old).outside.input }
     ensures sizes { engine_sizes engine.new ≡ engine_sizes engine.old }
     ensures ready { OnOk result (StandsFor engine.new (W.Devices.standing world.new)) }
@@ -44,6 +48,7 @@ fn give_rows<W: World>(engine: &mut Engine, world: &mut W, scan: &mut Scan) -> R
     requires ready { StandsFor engine.old (W.Devices.standing world.old) }
     ensures goes { GoesOn (W.Devices.standing world.old) (W.Devices.standing world.new) }
     ensures cause { HasCause (W.Devices.standing world.old) engine.new (W.Devices.standing world.new) result }
+    ensures reads { (lines : Lines) → IsTrue (W.Devices.standing world.old).told → Rests lines engine.old (W.Devices.standing world.old) → ReadsOn lines engine.new [] (W.Devices.standing world.new) result }
     ensures input { (W.Devices.standing world.new).outside.input ≡ (W.Devices.standing world.old).outside.input }
     ensures sizes { engine_sizes engine.new ≡ engine_sizes engine.old }
     ensures ready { OnOk result (StandsFor engine.new (W.Devices.standing world.new)) }

@@ -9,6 +9,9 @@ ghost use Rattle.engine.specs.declared.engine.Engine.{Engine};
 ghost use Rattle.engine.specs.Engine.{engine_sizes, StandsFor};
 ghost use Rattle.script_run.specs.Cause.{HasCause, IsFault};
 ghost use Rattle.script_run.specs.Run.{Aim, Owes, AreSafe, Proceeds, Comes, Reaches, Ends};
+ghost use Rattle.script_run.specs.Resting.{IsHaltOf, ReadsOn, Follows, TakesOn};
+ghost use Rattle.engine.specs.Resting.{AreReads, Rests};
+ghost use Rattle.line_pages.specs.Lines.{Lines};
 
 use crate::answering::answer;
 use crate::stop::{Ending, Halt};
@@ -31,6 +34,8 @@ fn take_byte<W: World>(
     requires one { IsOneLine kept.old.items }
     ensures goes { GoesOn (W.Devices.standing world.old) (W.Devices.standing world.new) }
     ensures cause { HasCause (W.Devices.standing world.old) engine.new (W.Devices.standing world.new) result }
+    ensures reads { (lines : Lines) (more : List ℕ) → IsTrue (W.Devices.standing world.old).told → Rests lines engine.old (W.Devices.standing world.old) → AreReads (commands (kept.old.items ++ byte ∷ more))
+        → ReadsOn lines engine.new (commands (kept.new.items ++ more)) (W.Devices.standing world.new) result }
     ensures input { (W.Devices.standing world.new).outside.input ≡ (W.Devices.standing world.old).outside.input }
     ensures sizes { engine_sizes engine.new ≡ engine_sizes engine.old }
     ensures ready { OnOk result (StandsFor engine.new (W.Devices.standing world.new)) }
@@ -61,6 +66,8 @@ fn take_piece<W: World>(
     requires one { IsOneLine kept.old.items }
     ensures goes { GoesOn (W.Devices.standing world.old) (W.Devices.standing world.new) }
     ensures cause { HasCause (W.Devices.standing world.old) engine.new (W.Devices.standing world.new) result }
+    ensures reads { (lines : Lines) (more : List ℕ) → IsTrue (W.Devices.standing world.old).told → Rests lines engine.old (W.Devices.standing world.old) → AreReads (commands (kept.old.items ++ (piece.now ++ more)))
+        → ReadsOn lines engine.new (commands (kept.new.items ++ more)) (W.Devices.standing world.new) result }
     ensures input { (W.Devices.standing world.new).outside.input ≡ (W.Devices.standing world.old).outside.input }
     ensures sizes { engine_sizes engine.new ≡ engine_sizes engine.old }
     ensures ready { OnOk result (StandsFor engine.new (W.Devices.standing world.new)) }
@@ -83,6 +90,7 @@ fn read_script<W: World>(world: &mut W, into: &mut [u8]) -> Result<usize, Halt>
     ensures rest { OnlyChanges false true false (W.Devices.standing world.old) (W.Devices.standing world.new) }
     ensures cause { (engine : Engine) → HasCause (W.Devices.standing world.old) engine (W.Devices.standing world.new) result }
     ensures fault { IfErr result IsFault }
+    ensures source { IfErr result (λ why. why ≡ Halt.Source) }
     ensures bound { IfOk result (λ count. count ≤ length into.new) }
     ensures reads { ReadsNext (W.Devices.standing world.old).told (W.Devices.standing world.old).outside.input (W.Devices.standing world.new).outside.input result into.new }
 {
@@ -105,6 +113,8 @@ fn take_some<W: World>(
     requires room { 0 < length buffer.old }
     ensures goes { GoesOn (W.Devices.standing world.old) (W.Devices.standing world.new) }
     ensures cause { HasCause (W.Devices.standing world.old) engine.new (W.Devices.standing world.new) result }
+    ensures reads { (lines : Lines) (before : List ℕ) → IsTrue (W.Devices.standing world.old).told → Follows lines before kept.old.items engine.old (W.Devices.standing world.old)
+        → TakesOn lines before kept.new.items engine.new (W.Devices.standing world.old) (W.Devices.standing world.new) result }
     ensures sizes { engine_sizes engine.new ≡ engine_sizes engine.old }
     ensures ready { OnOk result (StandsFor engine.new (W.Devices.standing world.new)) }
     ensures reaches { IfOk result (λ count. reach engine.new.book ≤ reach engine.old.book + 1921 * count) }
@@ -128,6 +138,8 @@ fn end_run<W: World>(engine: &mut Engine, world: &mut W, line: &[u8]) -> Result<
     requires one { IsOneLine line.now }
     ensures goes { GoesOn (W.Devices.standing world.old) (W.Devices.standing world.new) }
     ensures cause { HasCause (W.Devices.standing world.old) engine.new (W.Devices.standing world.new) result }
+    ensures reads { (lines : Lines) (before : List ℕ) → IsTrue (W.Devices.standing world.old).told → Follows lines before line.now engine.old (W.Devices.standing world.old) → AreReads (commands before)
+        → IfErr result (IsHaltOf lines engine.new.work.page) }
     ensures input { (W.Devices.standing world.new).outside.input ≡ (W.Devices.standing world.old).outside.input }
     ensures sizes { engine_sizes engine.new ≡ engine_sizes engine.old }
     ensures end { IfOk result (λ ending. ending ≡ Ending.End) }
@@ -155,6 +167,8 @@ pub(crate) fn run_lines<W: World>(
     requires few { limit ≤ 2 ^ 32 }
     ensures goes { GoesOn (W.Devices.standing world.old) (W.Devices.standing world.new) }
     ensures cause { HasCause (W.Devices.standing world.old) engine.new (W.Devices.standing world.new) result }
+    ensures reads { (lines : Lines) (taken : List ℕ) → IsTrue (W.Devices.standing world.old).told → Rests lines engine.old (W.Devices.standing world.old) → (W.Devices.standing world.old).outside.input ≡ taken ++ (W.Devices.standing world.new).outside.input → AreReads (commands taken)
+        → IfErr result (IsHaltOf lines engine.new.work.page) }
     ensures sizes { engine_sizes engine.new ≡ engine_sizes engine.old }
     ensures reaches { IsTrue (W.Devices.standing world.old).told → IfOk result (λ ending. Reaches limit ending (W.Devices.standing world.old) (W.Devices.standing world.new)) }
     ensures ready { IfOk result (λ ending. ending ≡ Ending.End → StandsFor engine.new (W.Devices.standing world.new)) }

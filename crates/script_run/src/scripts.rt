@@ -50,7 +50,8 @@ pub fn run_script<W: World>(engine: &mut Engine, world: &mut W, limit: u64) -> u
 ghost use Rattle.std.specs.Prelude.{◌∷◌, true, false};
 ghost use Rattle.devices.specs.World.{WorldCall, OnlyChanges, Rose};
 ghost use Rattle.script_run.specs.Cause.{Shown};
-ghost use Rattle.script_run.specs.Statuses.{IsOneOf, Told};
+ghost use Rattle.engine.specs.declared.engine.Engine.{Engine};
+ghost use Rattle.script_run.specs.Statuses.{IsOneOf, IsFirstPage, Told};
 
 /// Tells of damage that a call of the engine showed. Statuses: 5, and 9 a fault of the output.
 fn show_damage<W: World>(engine: &Engine, world: &mut W, evidence: &Evidence) -> u8
@@ -58,7 +59,8 @@ fn show_damage<W: World>(engine: &Engine, world: &mut W, evidence: &Evidence) ->
     ensures rest { OnlyChanges false false true (W.Devices.standing world.old) (W.Devices.standing world.new) }
     ensures known { IsOneOf result (5 ∷ 9 ∷ []) }
     ensures sink { result ≡ 9 → Rose (W.Devices.standing world.old).outside.sink_faults (W.Devices.standing world.new).outside.sink_faults }
-    ensures told { (begin : Standing) → Shown engine.now.work.page evidence.now engine.now begin (W.Devices.standing world.old) → result ≡ 5 → Told engine.now begin (W.Devices.standing world.new) }
+    ensures told { (before : Engine) (begin : Standing) → Shown engine.now.work.page evidence.now engine.now begin (W.Devices.standing world.old)
+        → IsFirstPage before begin engine.now.work.page evidence.now (W.Devices.standing world.old) → result ≡ 5 → Told before begin engine.now (W.Devices.standing world.new) }
 {
     match tell_damage(world, evidence, engine.evidence_page()) {
         Ok(()) => 5,

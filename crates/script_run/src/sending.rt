@@ -1,5 +1,5 @@
 //! Sending bytes whole.
-ghost use Rattle.std.specs.Prelude.{◌≡◌, ℕ, List, [], ◌++◌, true, false, IsTrue, IfOk, OnOk, Option};
+ghost use Rattle.std.specs.Prelude.{◌≡◌, ℕ, List, [], ◌++◌, true, false, IsTrue, IfOk, IfErr, OnOk, Option};
 ghost use Rattle.devices.specs.World.{Standing, WorldCall, OwnCause, OnlyChanges, GoesOn, Stays};
 ghost use Rattle.script.specs.declared.command.Command.{Command};
 ghost use Rattle.script.specs.Machine.{State};
@@ -33,6 +33,7 @@ pub(crate) fn say<W: World>(world: &mut W, bytes: &[u8]) -> Result<(), Halt>
     ensures call { WorldCall (W.Devices.standing world.old) (W.Devices.standing world.new) }
     ensures rest { OnlyChanges false false true (W.Devices.standing world.old) (W.Devices.standing world.new) }
     ensures cause { (engine : Engine) → HasCause (W.Devices.standing world.old) engine (W.Devices.standing world.new) result }
+    ensures sink { IfErr result (λ why. why ≡ Halt.Sink) }
     ensures stands { (engine : Engine) → StandsFor engine (W.Devices.standing world.old) → StandsFor engine (W.Devices.standing world.new) }
     ensures proceeds { (aim : Aim) (engine : Engine) (s : State) (more : List ℕ) (commands : List (Option Command)) → IsTrue (W.Devices.standing world.old).told
         → StandsFor engine (W.Devices.standing world.old) → IsWhole bytes.now → IsWhole more → Owes aim engine s (bytes.now ++ more) commands (W.Devices.standing world.old)

@@ -22,7 +22,10 @@ use Rattle.recovery.specs.Opening.{Answers, FindsInLog, HoldsStore}
 use Rattle.recovery.specs.declared.opening.Parts.{Parts}
 use Rattle.recovery.specs.declared.errors.OpenError.{OpenError}
 use Rattle.recovery.specs.declared.errors.OpenError.TheVariants.{Nvm, TooSmall, Damaged, NoMemory}
+use Rattle.line_pages.specs.Lines.{Lines}
+use Rattle.store_laws.specs.ShownPages.{committed_in}
 use Rattle.engine.specs.Holds.{Holds}
+use Rattle.engine.specs.Resting.{IsPageOf}
 use Rattle.engine.specs.Opening.{Opens as IsOpening}
 use Rattle.app_texts.specs.DamageText.{damage_text}
 use Rattle.script_run.specs.Statuses.{IsOneOf}
@@ -108,6 +111,13 @@ module _ (old mid : Standing) (goes : Goes old mid) (kept : Evidence) (opening :
     stays = Stays-trans (Goes-on goes) call.goes stays_mid call.stays;
   }
 
+  -- it is of no page
+  no_page : (lines : Lines) → IsPageOf lines zero_page kept
+  no_page lines = elim damage_answers.answer [
+    | inl words ↦ subst (λ (e : Evidence). IsPageOf lines zero_page e) (sym words.keeps) tt
+    | inr line ↦ subst (λ (e : Evidence). IsPageOf lines zero_page e) (sym ((line.1).fault).keeps) tt
+  ]
+
   -- it is none over devices that hold tables
   pub unsound : {A : Type 0} → IsTrue old.told → (g : Sizes) (T : List Table) → Holds g T (now old) → A
   unsound told g T holds = no_damage old told g T holds kept damage_answers damage_finds
@@ -131,6 +141,7 @@ module _ (old mid : Standing) (goes : Goes old mid) (kept : Evidence) (opening :
         kept = kept;
         page = zero_page;
         shows = inl (opening_damage new tells.call);
+        first = λ told taken same are. no_page (committed_in (now old));
         ends = λ told. (sent mid, tells.ends (subst IsTrue tells.call.goes.told told) is);
       };
       refused = λ among. none_of status (5 ∷ 9 ∷ []) (3 ∷ 4 ∷ 11 ∷ 13 ∷ []) refl tells.known among;

@@ -9,7 +9,9 @@ use Rattle.script.specs.Machine.{opening as at_start}
 use Rattle.recovery.specs.declared.opening.Parts.{Parts}
 use Rattle.recovery.specs.declared.errors.OpenError.{OpenError}
 use Rattle.engine.specs.declared.engine.Engine.{Engine}
+use Rattle.store_laws.specs.ShownPages.{committed_in}
 use Rattle.engine.specs.Holds.{Holds}
+use Rattle.engine.specs.Resting.{Rests}
 use Rattle.engine.specs.Opening.{Opens as IsOpening, ShowsHeld}
 use Rattle.script_run.specs.Statuses.{IsOneOf, Exactly, Told, ScriptCauses}
 use Rattle.script_run.proofs.CauseLaws.{shown_since}
@@ -18,7 +20,7 @@ use Rattle.spitfire_app.proofs.StatusLaws.{first_or, only_one, none_of, quiet, r
 use Rattle.spitfire_app.proofs.CauseLaws.{found_ok, Ran, causes_of}
 
 module _ (old mid : Standing) (goes : Goes old mid) (engine : Engine) (opening : IsOpening old mid (Ok engine))
-    (shows : IsTrue old.told → (g : Sizes) (T : List Table) → Holds g T (now old) → ShowsHeld g T mid engine)
+    (shows : IsTrue old.told → (g : Sizes) (T : List Table) → Holds g T (now old) → ShowsHeld g T mid engine) (rests : IsTrue old.told → Rests (committed_in (now old)) engine mid)
     (behind : Engine) (new : Standing) (next : GoesOn mid new) (status : ℕ) (script : ScriptCauses (2 ^ 32) engine mid behind new status)
     (read_all : IsTrue mid.told → status ≡ 0 → new.outside.input ≡ []) where
   found_parts : (parts : Parts) × (opening.found ≡ Ok parts)
@@ -57,8 +59,14 @@ module _ (old mid : Standing) (goes : Goes old mid) (engine : Engine) (opening :
         };
     read = λ told is. read_all (told_mid told) is;
     damage = λ is.
-        let told : Told behind mid new = script.damage is in
-        record { kept = told.kept; page = told.page; shows = inr (behind, shown_since told.page told.kept behind old mid new goes.clock told.shown); ends = told.ends };
+        let told : Told engine mid behind new = script.damage is in
+        record {
+          kept = told.kept;
+          page = told.page;
+          shows = inr (behind, shown_since told.page told.kept behind old mid new goes.clock told.shown);
+          first = λ is_told taken same are. told.first (told_mid is_told) (committed_in (now old)) taken (rests is_told) (ap (λ (o : Outside). o.input) same_outside ∙ same) are;
+          ends = told.ends;
+        };
     refused = λ among. none_of status (0 ∷ 5 ∷ 6 ∷ 7 ∷ 8 ∷ 9 ∷ 12 ∷ []) (3 ∷ 4 ∷ 11 ∷ 13 ∷ []) refl script.known among;
     nvm = λ is. rose_before old.nvm_faults mid.nvm_faults new.nvm_faults goes.nvm_faults (script.nvm is);
     ssd = λ is. rose_before old.ssd_faults mid.ssd_faults new.ssd_faults goes.ssd_faults (script.ssd is);

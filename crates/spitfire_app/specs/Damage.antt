@@ -7,7 +7,10 @@ use Rattle.nvm_layout.specs.Opening.{Finding, finding, super_from, sizes_from, w
 use Rattle.nvm_layout.specs.Opening.Finding.{sound}
 use Rattle.recovery.specs.Heads.{IsLogEvidence}
 use Rattle.recovery.specs.Opening.{IsSuper, IsFirstIn}
+use Rattle.store_laws.specs.ShownPages.{committed_in}
+use Rattle.script.specs.Grammar.{commands}
 use Rattle.engine.specs.declared.engine.Engine.{Engine}
+use Rattle.engine.specs.Resting.{AreReads, IsPageOf}
 use Rattle.app_texts.specs.DamageText.{damage_text}
 use Rattle.script_run.specs.Cause.{Shown}
 
@@ -32,4 +35,6 @@ pub record IsDamaged (old new : Standing) : Type 0 where
   pub kept : Evidence
   pub page : List ℕ
   pub shows : IsOpeningDamage old new kept ⊎ ((engine : Engine) × Shown page kept engine old new)
+  -- where no command was taken that writes, a page of the evidence is that of the pages that recovery gave
+  pub first : IsTrue old.told → (taken : List ℕ) → old.outside.input ≡ taken ++ new.outside.input → AreReads (commands taken) → IsPageOf (committed_in (now old)) page kept
   pub ends : IsTrue new.told → (front : List ℕ) × (sent new ≡ front ++ damage_text kept page)

@@ -21,6 +21,7 @@ use Rattle.script_run.specs.Run.{Aim, Owes, AreSafe}
 use Rattle.script_run.proofs.RunLaws.{step_safe, answered, proceeds_then, proceeds_stop}
 use Rattle.script_run.proofs.CauseLaws.{OnOk-any, cause_then, cause_stopped, quiet_step}
 use Rattle.script_run.proofs.RowsLaws.{scan_owed, scan_few}
+use Rattle.script_run.proofs.RestLaws.{rests_still, well, halted, said_on}
 use Rattle.script_run.proofs.answering.answer.Goals as goal
 use Rattle.script_run.proofs.answering.answer.Goals.{After-step, In_ok-step}
 use Rattle.script_run.proofs.answering.answer.Given as given
@@ -115,3 +116,21 @@ returns-in-Scanning-clause-proceeds g c = λ aim s commands told owes.
     let few = scan_few aim c.args.engine.now c.step.new.self s c.args.line.now commands _ owes (g.W.Devices.standing c.step.new.world) c.in-Scanning.scan (g.met.W.World.timed c.args.world.now) told is_owed begun.1 in
     proceeds_then (safe g (goal.at.returns-in-Scanning-clause-proceeds g c).After-step aim s commands told owes) c.give_rows.ensures.goes
     (c.give_rows.ensures.proceeds aim (after_line c.args.engine.now (command_in c.args.line.now) s) commands (subst IsTrue (sym does.goes.told) told) few is_owed)
+
+-- ---- where nothing was written so far
+
+pub returns-in_err-step-clause-reads : goal.returns-in_err-step-clause-reads
+returns-in_err-step-clause-reads g c = λ lines told rests are. halted c.from_residual.result _ c.from_residual.ensures ((c.in_err-step.ensures.reads are).shows told lines rests)
+
+pub returns-in-Silent-clause-reads : goal.returns-in-Silent-clause-reads
+returns-in-Silent-clause-reads g c = λ lines told rests are. well _ ((c.in_ok-step.ensures.reads are).stays told lines rests) refl
+
+pub returns-in-Said-clause-reads : goal.returns-in-Said-clause-reads
+returns-in-Said-clause-reads g c = λ lines told rests are.
+    let told_new = subst IsTrue (sym c.in_ok-step.ensures.does.goes.told) told in
+    said_on c.say.result c.say.ensures.sink
+    (rests_still lines c.step.new.self _ _ (Stays-now c.say.ensures.call.goes c.say.ensures.call.stays told_new) ((c.in_ok-step.ensures.reads are).stays told lines rests))
+
+pub returns-in-Scanning-clause-reads : goal.returns-in-Scanning-clause-reads
+returns-in-Scanning-clause-reads g c = λ lines told rests are.
+    c.give_rows.ensures.reads lines (subst IsTrue (sym c.in_ok-step.ensures.does.goes.told) told) ((c.in_ok-step.ensures.reads are).stays told lines rests)

@@ -2,7 +2,7 @@
 use Rattle.std.proofs.Common.{◌≡◌, ◌∙◌, ◌∷◌, ℕ, List, Option, Ok, Err, IsTrue, refl, sym, ap, subst, []}
 use Rattle.devices.specs.World.{Outside, NoFault}
 use Rattle.devices.proofs.MomentLaws.{Goes-on, GoesOn-trans}
-use Rattle.devices.proofs.JoinLaws.{GoesOn-refl, NoFault-refl, NoFault-trans}
+use Rattle.devices.proofs.JoinLaws.{Stays-now, GoesOn-refl, NoFault-refl, NoFault-trans}
 use Rattle.slotted_page.specs.Rows.{Row}
 use Rattle.texts.specs.Output.{IsWhole}
 use Rattle.texts.proofs.OutputLaws.{IsWhole-line}
@@ -16,6 +16,7 @@ use Rattle.script_run.specs.Run.{Aim, IsFew, Owes, Proceeds}
 use Rattle.script_run.proofs.RunLaws.{idle_safe, proceeds_then, proceeds_err, proceeds_stop}
 use Rattle.script_run.proofs.CauseLaws.{cause_then, cause_err, cause_stopped, quiet_step}
 use Rattle.script_run.proofs.RowsLaws.{Gave, asked_safe, asked_owes, sent_row, row_stops, few_count, none_left, same_name}
+use Rattle.script_run.proofs.RestLaws.{rests_still, well, halted, sink_halt}
 use Rattle.script_run.proofs.answering.give_rows.Goals as goal
 use Rattle.script_run.proofs.answering.give_rows.Goals.{After-say}
 use Rattle.script_run.proofs.answering.give_rows.Given as given
@@ -29,6 +30,7 @@ loop-scan-init g c = record {
   ready = c.requires.ready;
   reaches = refl;
   name = refl;
+  rests = λ lines told rests. rests;
   gave = λ aim s commands told few owes. record { few = few; safe = idle_safe aim _ s _ commands _ c.requires.ready told owes; owes = owes };
 }
 
@@ -92,6 +94,9 @@ loop-scan-preserved g c =
       sizes = does.sizes ∙ inv.sizes;
       ready = c.say.ensures.stands c.next_row.new.self does.ready;
       reaches = c.in_ok-reply.ensures.same_reach ∙ inv.reaches;
+      rests = λ lines told rests.
+          let told_mid = subst IsTrue (sym inv.goes.told) told in
+          rests_still lines c.next_row.new.self _ _ (Stays-now c.say.ensures.call.goes c.say.ensures.call.stays (subst IsTrue (sym does.goes.told) told_mid)) (c.in_ok-reply.ensures.reads.stays told_mid lines (inv.rests lines told rests));
       name = same_name c.loop-scan.scan c.next_row.new.scan c.in_ok-reply.reply c.in_ok-reply.ensures.gives ∙ inv.name;
       gave = λ aim s commands told few owes.
           let at = (goal.at.loop-scan-preserved g c).After-say in
@@ -124,3 +129,16 @@ returns-clause-proceeds g c = λ aim s commands told few owes.
       sound = tt;
       ok = subst (λ (l : List ℕ). Owes aim c.loop-scan.engine s l commands (g.W.Devices.standing c.loop-scan.world)) (none_left c.loop-scan.scan (rows_or_none c.args.scan.now.name (current s)) c.loop-scan-test.false) gave.owes;
     }
+
+-- ---- where nothing was written so far
+
+pub returns-in_err-reply-clause-reads : goal.returns-in_err-reply-clause-reads
+returns-in_err-reply-clause-reads g c = λ lines told rests.
+    halted c.from_residual.result _ c.from_residual.ensures (c.in_err-reply.ensures.reads.shows (subst IsTrue (sym c.loop-scan.invariant.goes.told) told) lines (c.loop-scan.invariant.rests lines told rests))
+
+pub returns-in_err-say-clause-reads : goal.returns-in_err-say-clause-reads
+returns-in_err-say-clause-reads g c = λ lines told rests.
+    halted c.from_residual-in_err-say.result _ c.from_residual-in_err-say.ensures (sink_halt lines c.next_row.new.self.work.page _ c.in_err-say.ensures.sink)
+
+pub returns-clause-reads : goal.returns-clause-reads
+returns-clause-reads g c = λ lines told rests. well _ (c.loop-scan.invariant.rests lines told rests) refl

@@ -6,7 +6,9 @@ use Rattle.script.specs.Machine.{State, current}
 use Rattle.script.specs.Replies.{text}
 use Rattle.script.specs.Tables.{rows_or_none}
 use Rattle.transactions.specs.StoreStanding.{reach}
+use Rattle.line_pages.specs.Lines.{Lines}
 use Rattle.engine.specs.Engine.{engine_sizes, StandsFor}
+use Rattle.engine.specs.Resting.{Rests}
 use Rattle.engine.specs.Steps.{scan_replies, calls_left}
 use Rattle.script_run.specs.Run.{Aim, IsFew, Owes}
 use Rattle.script_run.proofs.RowsLaws.{Gave}
@@ -24,6 +26,7 @@ invariant-loop-scan g l =
       ready : StandsFor l.engine mid;
       reaches : reach l.engine.book ≡ reach l.fn.engine.book;
       name : l.scan.name ≡ l.fn.scan.name;
+      rests : (lines : Lines) → IsTrue old.told → Rests lines l.fn.engine old → Rests lines l.engine mid;
       gave : (aim : Aim) (s : State) (commands : List (Option Command)) → IsTrue old.told → IsFew l.fn.scan (rows_or_none l.fn.scan.name (current s))
           → Owes aim l.fn.engine s (text (scan_replies l.fn.scan (rows_or_none l.fn.scan.name (current s)))) commands old
           → Gave aim l.engine s l.scan (rows_or_none l.fn.scan.name (current s)) commands old mid;

@@ -9,6 +9,7 @@ use Rattle.script_run.specs.Run.{Aim, Owes, Proceeds, AreSafe}
 use Rattle.script_run.proofs.RunLaws.{safe_then, proceeds_ok, does_safe, done_by}
 use Rattle.script_run.proofs.CauseLaws.{cause_then, cause_stopped, quiet_step}
 use Rattle.script_run.proofs.ByteLaws.{owes_same, line_whole, fault_err, store_fault}
+use Rattle.script_run.proofs.RestLaws.{last_follows, shows_on}
 use Rattle.script_run.proofs.running.end_run.Given as given
 use Rattle.script_run.proofs.running.end_run.Goals.{After-answer, After-finish}
 use Rattle.script_run.proofs.running.end_run.Goals as goal
@@ -67,3 +68,17 @@ returns-clause-ends g c = λ aim s told owes.
     let told_mid : IsTrue (g.W.Devices.standing c.answer.new.world).told = subst IsTrue (sym c.answer.ensures.goes.told) told in
     let owed = proceeds_ok (last g at.After-answer aim s told owes) c.in_ok-answer.was in
     done_by aim _ _ _ _ _ tt owed (g.met.W.World.timed c.answer.new.world) told_mid c.in_ok-finish.ensures.does
+
+-- ---- where nothing was written so far
+
+pub returns-in_err-answer-clause-reads : goal.returns-in_err-answer-clause-reads
+returns-in_err-answer-clause-reads g c = λ lines before told follows are.
+    let on = last_follows before c.args.line.now follows c.requires.one are in
+    shows_on lines c.answer.new.engine.work.page c.from_residual.result _ c.from_residual.ensures (c.in_err-answer.ensures.reads lines told on.0 on.1).shows
+
+pub returns-in_err-finish-clause-reads : goal.returns-in_err-finish-clause-reads
+returns-in_err-finish-clause-reads g c = λ lines before told follows are.
+    let on = last_follows before c.args.line.now follows c.requires.one are in
+    let told_mid : IsTrue (g.W.Devices.standing c.answer.new.world).told = subst IsTrue (sym c.answer.ensures.goes.told) told in
+    shows_on lines c.finish.new.self.work.page c.from_residual-in_err-finish.result _ c.from_residual-in_err-finish.ensures
+    (c.in_err-finish.ensures.reads.shows told_mid lines (c.in_ok-answer.ensures.reads lines told on.0 on.1).stays)

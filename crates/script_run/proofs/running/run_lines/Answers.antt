@@ -1,5 +1,5 @@
 -- One piece after the other, and then the last line.
-use Rattle.std.proofs.Common.{rules, arith, ◌≡◌, ◌≤◌, ℕ, List, [], ◌++◌, IsTrue, Ok, subst, sym, refl, ◌∙◌, ap}
+use Rattle.std.proofs.Common.{rules, arith, ◌≡◌, ◌≤◌, ℕ, List, [], ◌++◌, take, append_assoc, IsTrue, Ok, subst, sym, refl, ◌∙◌, ap}
 use Rattle.std.proofs.lemmas.Grind.{common_steps}
 use Rattle.devices.proofs.JoinLaws.{GoesOn-refl, NoFault-refl, NoFault-trans}
 use Rattle.devices.proofs.MomentLaws.{GoesOn-trans}
@@ -12,8 +12,12 @@ use Rattle.devices.proofs.JoinLaws.{Stays-now}
 use Rattle.script_run.proofs.RunLaws.{stands_still, safe_then}
 use Rattle.script_run.proofs.CauseLaws.{cause_then, cause_err}
 use Rattle.script_run.proofs.ByteLaws.{line_last, comes_same, comes_on, comes_well, comes_stopped, idle, fault_err, read_comes}
+use Rattle.line_pages.specs.Lines.{Lines}
+use Rattle.engine.specs.Resting.{AreReads, Rests}
+use Rattle.script_run.specs.Resting.{Follows}
+use Rattle.script_run.proofs.RestLaws.{rests_still, taken_all, shows_on, read_halt}
 use Rattle.script_run.proofs.running.run_lines.Given as given
-use Rattle.script_run.proofs.running.run_lines.Goals.{After-take_some, After-end_run, After-read_script, After-end_run-2}
+use Rattle.script_run.proofs.running.run_lines.Goals.{After-take_some, In_ok-count, After-end_run, After-read_script, After-end_run-2}
 use Rattle.script_run.proofs.running.run_lines.Goals as goal
 
 pub loop-left-init : goal.loop-left-init
@@ -29,6 +33,7 @@ loop-left-init g c =
       reaches = omega arith;
       counted = λ told. refl;
       comes = λ aim s told owes. idle c.requires.ready told (ap (λ (l : List ℕ). commands (l ++ (g.W.Devices.standing c.args.world.now).outside.input)) none) owes;
+      reads = λ lines told rests. ([], refl, λ later are. (rests, subst (λ (l : List ℕ). AreReads (commands (l ++ later))) none are));
     }
 
 -- the next piece
@@ -38,6 +43,15 @@ took : (g : given.Over) (c : After-take_some g) (aim : Aim) (s : State) → IsTr
 took g c aim s told owes =
     let inv = c.loop-left.invariant in
     comes_on (inv.comes aim s told owes) c.take_some.ensures.goes (λ t owed. c.take_some.ensures.comes aim t (subst IsTrue (sym inv.goes.told) told) owed)
+
+-- where nothing was written so far, the next piece
+next_piece : (g : given.Over) (c : In_ok-count g) (lines : Lines) → IsTrue (g.W.Devices.standing c.args.world.now).told → Rests lines c.args.engine.now (g.W.Devices.standing c.args.world.now)
+    → (taken : List ℕ) × ((g.W.Devices.standing c.args.world.now).outside.input ≡ taken ++ (g.W.Devices.standing c.take_some.new.world).outside.input) × Follows lines taken c.take_some.new.kept.items c.take_some.new.engine (g.W.Devices.standing c.take_some.new.world)
+next_piece g c lines told rests =
+    let inv = c.loop-left.invariant in
+    let come = inv.reads lines told rests in
+    let next = (c.in_ok-count.ensures.reads lines come.0 (subst IsTrue (sym inv.goes.told) told) come.2).on in
+    (come.0 ++ next.0, come.1 ∙ ap (λ (l : List ℕ). come.0 ++ l) next.1 ∙ sym (append_assoc come.0 next.0 (g.W.Devices.standing c.take_some.new.world).outside.input), next.2)
 
 pub loop-left-preserved : goal.loop-left-preserved
 loop-left-preserved g c =
@@ -54,6 +68,7 @@ loop-left-preserved g c =
       reaches = omega (arith, inv.reaches, c.in_ok-count.ensures.reaches);
       counted = λ told. omega (arith, inv.counted told, c.in_ok-count.ensures.taken (subst IsTrue (sym inv.goes.told) told));
       comes = λ aim s told owes. comes_well tt c.in_ok-count.was (took g at aim s told owes);
+      reads = λ lines told rests. next_piece g (goal.at.loop-left-preserved g c).In_ok-count lines told rests;
     }
 
 pub returns-in_err-count-clause-safe : goal.returns-in_err-count-clause-safe
@@ -157,3 +172,40 @@ returns-clause-ends g c = λ aim s told owes.
     let at = goal.at.returns-clause-ends g c in
     let came = last_read g at.After-end_run-2 aim s told (read g at.After-read_script aim s told owes) in
     c.end_run-2.ensures.ends aim came.s (told_read g at.After-end_run-2 told) came.proceeds.ok
+
+-- ---- where nothing was written so far
+
+pub returns-in_err-count-clause-reads : goal.returns-in_err-count-clause-reads
+returns-in_err-count-clause-reads g c = λ lines taken told rests same are.
+    let come = c.loop-left.invariant.reads lines told rests in
+    let told_mid = subst IsTrue (sym c.loop-left.invariant.goes.told) told in
+    shows_on lines c.take_some.new.engine.work.page c.from_residual.result _ c.from_residual.ensures
+    ((c.in_err-count.ensures.reads lines come.0 told_mid come.2).shows taken (sym come.1 ∙ same) are)
+
+pub returns-then-count-eq0-clause-reads : goal.returns-then-count-eq0-clause-reads
+returns-then-count-eq0-clause-reads g c = λ lines taken told rests same are.
+    let at = goal.at.returns-then-count-eq0-clause-reads g c in
+    let come = next_piece g at.In_ok-count lines told rests in
+    let is = taken_all come.0 taken _ _ _ come.1 same c.end_run.ensures.input in
+    c.end_run.ensures.reads lines come.0 (told_last g at.After-end_run told)
+    (subst (λ (l : List ℕ). Follows lines come.0 l c.take_some.new.engine (g.W.Devices.standing c.take_some.new.world)) (sym c.as_slice.ensures.value) come.2)
+    (subst (λ (l : List ℕ). AreReads (commands l)) is are)
+
+pub returns-in_err-read_script-clause-reads : goal.returns-in_err-read_script-clause-reads
+returns-in_err-read_script-clause-reads g c = λ lines taken told rests same are.
+    shows_on lines c.loop-left.engine.work.page c.from_residual-in_err-read_script.result _ c.from_residual-in_err-read_script.ensures (read_halt lines c.loop-left.engine.work.page _ c.in_err-read_script.ensures.source)
+
+pub returns-clause-reads : goal.returns-clause-reads
+returns-clause-reads g c = λ lines taken told rests same are.
+    let at = goal.at.returns-clause-reads g c in
+    let come = c.loop-left.invariant.reads lines told rests in
+    let told_mid : IsTrue (g.W.Devices.standing c.loop-left.world).told = subst IsTrue (sym c.loop-left.invariant.goes.told) told in
+    let zero_read : c.in_ok-read_script.field-0 ≡ 0 = omega arith in
+    let input : (g.W.Devices.standing c.loop-left.world).outside.input ≡ (g.W.Devices.standing c.read_script.new.world).outside.input =
+        (c.in_ok-read_script.ensures.reads told_mid).bytes ∙ ap (λ (n : ℕ). take n c.read_script.new.into ++ (g.W.Devices.standing c.read_script.new.world).outside.input) zero_read in
+    let is = taken_all come.0 taken _ _ _ come.1 same (c.end_run-2.ensures.input ∙ sym input) in
+    c.end_run-2.ensures.reads lines come.0 (told_read g at.After-end_run-2 told)
+    (λ later all.
+    let on = come.2 later (subst (λ (l : List ℕ). AreReads (commands (come.0 ++ l))) refl all) in
+    (rests_still lines c.loop-left.engine _ _ (Stays-now c.read_script.ensures.call.goes c.read_script.ensures.call.stays told_mid) on.0, subst (λ (l : List ℕ). AreReads (commands (l ++ later))) (sym c.as_slice-2.ensures.value) on.1))
+    (subst (λ (l : List ℕ). AreReads (commands l)) is are)

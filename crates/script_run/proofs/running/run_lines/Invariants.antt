@@ -1,12 +1,15 @@
 -- What was read so far was answered, but for the line that is kept.
-use Rattle.std.proofs.Common.{◌≡◌, ◌+◌, ◌*◌, ◌≤◌, IsTrue, [], ◌++◌, length, Ok}
+use Rattle.std.proofs.Common.{◌≡◌, ◌+◌, ◌*◌, ◌≤◌, IsTrue, ℕ, List, [], ◌++◌, length, Ok}
 use Rattle.devices.specs.World.{GoesOn, NoFault}
 use Rattle.texts.specs.Lines.{IsOneLine}
 use Rattle.script.specs.Grammar.{commands}
 use Rattle.script.specs.Machine.{State}
 use Rattle.transactions.specs.StoreStanding.{reach}
+use Rattle.line_pages.specs.Lines.{Lines}
 use Rattle.engine.specs.Engine.{engine_sizes, StandsFor}
+use Rattle.engine.specs.Resting.{Rests}
 use Rattle.script_run.specs.Run.{Aim, Owes, Comes}
+use Rattle.script_run.specs.Resting.{Follows}
 use Rattle.script_run.proofs.running.run_lines.Given as goal
 
 abbrev pub invariant-loop-left : goal.invariant-loop-left
@@ -24,6 +27,8 @@ invariant-loop-left g l =
       counted : IsTrue old.told → length mid.outside.input + l.fn.limit ≡ length old.outside.input + l.left;
       comes : (aim : Aim) (s : State) → IsTrue old.told → Owes aim l.fn.engine s [] (commands old.outside.input) old
           → Comes {T = Unit {0}} aim l.engine [] (commands (l.kept.items ++ mid.outside.input)) old mid (Ok tt);
+      reads : (lines : Lines) → IsTrue old.told → Rests lines l.fn.engine old
+          → (taken : List ℕ) × (old.outside.input ≡ taken ++ mid.outside.input) × Follows lines taken l.kept.items l.engine mid;
     }
 
 abbrev pub decreases-loop-left : goal.decreases-loop-left

@@ -9,6 +9,8 @@ use Rattle.script.specs.Machine.{State}
 use Rattle.script_run.specs.Run.{Aim, Owes, Comes}
 use Rattle.script_run.proofs.CauseLaws.{cause_then, cause_err}
 use Rattle.script_run.proofs.ByteLaws.{owes_same, comes_same, comes_on, comes_well, comes_stopped, idle}
+use Rattle.engine.specs.Resting.{AreReads}
+use Rattle.script_run.proofs.RestLaws.{well, halted}
 use Rattle.script_run.proofs.running.take_piece.Given as given
 use Rattle.script_run.proofs.running.take_piece.Goals.{After-take_byte}
 use Rattle.script_run.proofs.running.take_piece.Goals as goal
@@ -23,6 +25,7 @@ loop-byte-init g c = record {
   reaches = omega arith;
   one = c.requires.one;
   comes = λ aim s more told owes. idle c.requires.ready told refl owes;
+  reads = λ lines more told rests are. (rests, are);
 }
 
 -- the next byte
@@ -55,6 +58,11 @@ loop-byte-preserved g c =
       reaches = omega (arith, c.in_ok-take_byte.ensures.reaches, inv.reaches);
       one = c.in_ok-take_byte.ensures.one;
       comes = λ aim s more told owes. comes_well tt c.in_ok-take_byte.was (comes g before aim s more told owes);
+      reads = λ lines more told rests are.
+          let so_far = inv.reads lines more told rests are in
+          let next = ap (λ (l : List ℕ). commands (c.loop-byte.kept.items ++ (l ++ more))) (drop_more c.args.piece.now c.loop-byte.byte-index 0 c.loop-byte-test.true) in
+          let here = c.in_ok-take_byte.ensures.reads lines (drop (c.loop-byte.byte-index + 1) c.args.piece.now ++ more) (subst IsTrue (sym inv.goes.told) told) so_far.0 (subst AreReads next so_far.1) in
+          (here.stays, here.left);
     }
 
 pub returns-clause-comes : goal.returns-clause-comes
@@ -62,3 +70,19 @@ returns-clause-comes g c = λ aim s more told owes.
     let inv = c.loop-byte.invariant in
     let none : drop c.loop-byte.byte-index c.args.piece.now ≡ [] = grind (arith, common_steps) in
     comes_same (ap (λ (l : List ℕ). commands (c.loop-byte.kept.items ++ (l ++ more))) none) (inv.comes aim s more told owes)
+
+-- ---- where nothing was written so far
+
+pub returns-in_err-take_byte-clause-reads : goal.returns-in_err-take_byte-clause-reads
+returns-in_err-take_byte-clause-reads g c = λ lines more told rests are.
+    let inv = c.loop-byte.invariant in
+    let so_far = inv.reads lines more told rests are in
+    let next = ap (λ (l : List ℕ). commands (c.loop-byte.kept.items ++ (l ++ more))) (drop_more c.args.piece.now c.loop-byte.byte-index 0 c.loop-byte-test.true) in
+    halted c.from_residual.result _ c.from_residual.ensures
+    (c.in_err-take_byte.ensures.reads lines (drop (c.loop-byte.byte-index + 1) c.args.piece.now ++ more) (subst IsTrue (sym inv.goes.told) told) so_far.0 (subst AreReads next so_far.1)).shows
+
+pub returns-clause-reads : goal.returns-clause-reads
+returns-clause-reads g c = λ lines more told rests are.
+    let so_far = c.loop-byte.invariant.reads lines more told rests are in
+    let none : drop c.loop-byte.byte-index c.args.piece.now ≡ [] = grind (arith, common_steps) in
+    well _ so_far.0 (subst AreReads (ap (λ (l : List ℕ). commands (c.loop-byte.kept.items ++ (l ++ more))) none) so_far.1)

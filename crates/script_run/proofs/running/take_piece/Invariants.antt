@@ -5,7 +5,9 @@ use Rattle.texts.specs.Lines.{IsOneLine}
 use Rattle.script.specs.Grammar.{commands}
 use Rattle.script.specs.Machine.{State}
 use Rattle.transactions.specs.StoreStanding.{reach}
+use Rattle.line_pages.specs.Lines.{Lines}
 use Rattle.engine.specs.Engine.{engine_sizes, StandsFor}
+use Rattle.engine.specs.Resting.{AreReads, Rests}
 use Rattle.script_run.specs.Run.{Aim, Owes, Comes}
 use Rattle.script_run.proofs.running.take_piece.Given as goal
 
@@ -23,4 +25,6 @@ invariant-loop-byte g l =
       one : IsOneLine l.kept.items;
       comes : (aim : Aim) (s : State) (more : List ℕ) → IsTrue old.told → Owes aim l.fn.engine s [] (commands (l.fn.kept.items ++ (l.fn.piece ++ more))) old
           → Comes {T = Unit {0}} aim l.engine [] (commands (l.kept.items ++ (drop l.byte-index l.piece ++ more))) old mid (Ok tt);
+      reads : (lines : Lines) (more : List ℕ) → IsTrue old.told → Rests lines l.fn.engine old → AreReads (commands (l.fn.kept.items ++ (l.fn.piece ++ more)))
+          → Rests lines l.engine mid × AreReads (commands (l.kept.items ++ (drop l.byte-index l.piece ++ more)));
     }

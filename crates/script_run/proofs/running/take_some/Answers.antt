@@ -1,5 +1,5 @@
 -- What was read is taken.
-use Rattle.std.proofs.Common.{ℕ, List, [], ◌++◌, IsTrue, Ok, subst, sym, refl, ap}
+use Rattle.std.proofs.Common.{◌≡◌, ◌∙◌, ℕ, List, [], ◌++◌, take, IsTrue, Ok, subst, sym, refl, ap}
 use Rattle.script.specs.Grammar.{commands}
 use Rattle.script.specs.Machine.{State}
 use Rattle.script_run.specs.Run.{Aim, Owes, Comes}
@@ -7,6 +7,11 @@ use Rattle.devices.proofs.JoinLaws.{Stays-now, NoFault-trans}
 use Rattle.script_run.proofs.RunLaws.{stands_still}
 use Rattle.script_run.proofs.CauseLaws.{cause_then, cause_err}
 use Rattle.script_run.proofs.ByteLaws.{owes_same, comes_on, comes_well, comes_stopped, read_comes, read_fails}
+use Rattle.std.proofs.lemmas.List.{append-nil}
+use Rattle.line_pages.specs.Lines.{Lines}
+use Rattle.engine.specs.Resting.{AreReads, Rests}
+use Rattle.script_run.specs.Resting.{Follows}
+use Rattle.script_run.proofs.RestLaws.{rests_still, follows_piece, taken_is, on_error, shows_on, read_halt}
 use Rattle.script_run.proofs.running.take_some.Given as given
 use Rattle.script_run.proofs.running.take_some.Goals.{After-read_script, After-take_piece}
 use Rattle.script_run.proofs.running.take_some.Goals as goal
@@ -51,3 +56,51 @@ pub returns-clause-comes : goal.returns-clause-comes
 returns-clause-comes g c = λ aim s told owes.
     let at = goal.at.returns-clause-comes g c in
     comes_well _ c.in_ok-take_piece.was (took g at.After-take_piece aim told (read g at.After-read_script aim s told owes))
+
+-- ---- where nothing was written so far
+
+-- the piece that was read
+module _ (g : given.Over) (c : After-take_piece g) (lines : Lines) (before : List ℕ) (told : IsTrue (g.W.Devices.standing c.args.world.now).told)
+    (follows : Follows lines before c.args.kept.now.items c.args.engine.now (g.W.Devices.standing c.args.world.now)) where
+  abbrev piece : List ℕ
+  piece = take c.in_ok-count.count c.read_script.new.into
+
+  piece_is : (g.W.Devices.standing c.args.world.now).outside.input ≡ piece ++ (g.W.Devices.standing c.take_piece.new.world).outside.input
+  piece_is = (c.in_ok-count.ensures.reads told).bytes ∙ ap (λ (l : List ℕ). piece ++ l) (sym c.take_piece.ensures.input)
+
+  rest_of : (later : List ℕ) → AreReads (commands ((before ++ piece) ++ later)) → Rests lines c.args.engine.now (g.W.Devices.standing c.read_script.new.world) × AreReads (commands (c.args.kept.now.items ++ (piece ++ later)))
+  rest_of later are =
+      let on = follows (piece ++ later) (follows_piece before piece later are) in
+      (rests_still lines c.args.engine.now _ _ (Stays-now c.read_script.ensures.call.goes c.read_script.ensures.call.stays told) on.0, on.1)
+
+  told_mid : IsTrue (g.W.Devices.standing c.read_script.new.world).told
+  told_mid = subst IsTrue (sym c.read_script.ensures.call.goes.told) told
+
+pub returns-in_err-count-clause-reads : goal.returns-in_err-count-clause-reads
+returns-in_err-count-clause-reads g c = λ lines before told follows. record {
+  on = on_error c.from_residual.result c.from_residual.ensures.0;
+  shows = λ taken same are. shows_on lines c.args.engine.now.work.page c.from_residual.result _ c.from_residual.ensures (read_halt lines c.args.engine.now.work.page _ c.in_err-count.ensures.source);
+}
+
+pub returns-in_err-take_piece-clause-reads : goal.returns-in_err-take_piece-clause-reads
+returns-in_err-take_piece-clause-reads g c = λ lines before told follows.
+    let at = (goal.at.returns-in_err-take_piece-clause-reads g c).After-take_piece in
+    record {
+      on = on_error c.from_residual-in_err-take_piece.result c.from_residual-in_err-take_piece.ensures.0;
+      shows = λ taken same are.
+          let is = taken_is before (piece g at lines before told follows) taken _ _ (piece_is g at lines before told follows) same in
+          let on = rest_of g at lines before told follows [] (subst (λ (l : List ℕ). AreReads (commands l)) (is ∙ sym (append-nil _)) are) in
+          shows_on lines c.take_piece.new.engine.work.page c.from_residual-in_err-take_piece.result _ c.from_residual-in_err-take_piece.ensures
+          (c.in_err-take_piece.ensures.reads lines [] (told_mid g at lines before told follows) on.0 on.1).shows;
+    }
+
+pub returns-clause-reads : goal.returns-clause-reads
+returns-clause-reads g c = λ lines before told follows.
+    let at = (goal.at.returns-clause-reads g c).After-take_piece in
+    record {
+      on = (piece g at lines before told follows, piece_is g at lines before told follows, λ later are.
+          let on = rest_of g at lines before told follows later are in
+          let here = c.in_ok-take_piece.ensures.reads lines later (told_mid g at lines before told follows) on.0 on.1 in
+          (here.stays, here.left));
+      shows = λ taken same are. tt;
+    }

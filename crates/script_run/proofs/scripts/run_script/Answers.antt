@@ -5,7 +5,7 @@ use Rattle.engine.specs.Engine.{Shows}
 use Rattle.script_run.specs.declared.stop.Ending.{Ending}
 use Rattle.script_run.specs.Run.{Ends}
 use Rattle.script_run.proofs.StartLaws.{aim_of, begun_read}
-use Rattle.script_run.proofs.StatusLaws.{damaged_causes, no_fault, shown_of, rose_on}
+use Rattle.script_run.proofs.StatusLaws.{damaged_causes, no_fault, shown_of, page_of, rose_on}
 use Rattle.script_run.proofs.scripts.run_script.Given as given
 use Rattle.script_run.proofs.scripts.run_script.Goals.{After-show_damage}
 use Rattle.script_run.proofs.scripts.run_script.Goals as goal
@@ -24,7 +24,8 @@ pub returns-in-Err-Store-Damaged-clause-causes : goal.returns-in-Err-Store-Damag
 returns-in-Err-Store-Damaged-clause-causes g c =
     let found = c.in-Err-Store-Damaged in
     damaged_causes c.args.limit c.args.engine.now (g.W.Devices.standing c.args.world.now) c.run_lines.new.engine (g.W.Devices.standing c.show_damage.new.world) c.show_damage.result c.show_damage.ensures.known
-    (λ five. c.show_damage.ensures.told (g.W.Devices.standing c.args.world.now) (shown_of found.field-0 found.field-0-0 found.evidence found.field-0-is found.field-0-0-is (g.W.Devices.standing c.args.world.now) c.run_lines.new.engine (g.W.Devices.standing c.run_lines.new.world) found.ensures.cause.failed) five)
+    (λ five. c.show_damage.ensures.told c.args.engine.now (g.W.Devices.standing c.args.world.now) (shown_of found.field-0 found.field-0-0 found.evidence found.field-0-is found.field-0-0-is (g.W.Devices.standing c.args.world.now) c.run_lines.new.engine (g.W.Devices.standing c.run_lines.new.world) found.ensures.cause.failed)
+    (λ told lines taken rests same are. page_of found.field-0 found.field-0-0 found.evidence found.field-0-is found.field-0-0-is lines c.run_lines.new.engine.work.page (found.ensures.reads lines taken told rests same are)) five)
     (λ nine. rose_on c.run_lines.ensures.goes.sink_faults (c.show_damage.ensures.sink nine))
     (no_damage g (goal.at.returns-in-Err-Store-Damaged-clause-causes g c).After-show_damage)
 

@@ -28,7 +28,7 @@ runs_of g c told =
 
 pub returns-in-Ok-clause-causes : goal.returns-in-Ok-clause-causes
 returns-in-Ok-clause-causes g c =
-    script_causes (g.W.Devices.standing c.args.world.now) (g.W.Devices.standing c.open.new.world) c.open.ensures.goes c.in-Ok.engine c.in-Ok.ensures.opens (λ told sizes T holds. c.in-Ok.ensures.shows told sizes T holds)
+    script_causes (g.W.Devices.standing c.args.world.now) (g.W.Devices.standing c.open.new.world) c.open.ensures.goes c.in-Ok.engine c.in-Ok.ensures.opens (λ told sizes T holds. c.in-Ok.ensures.shows told sizes T holds) c.in-Ok.ensures.rests
     c.run_script.new.engine (g.W.Devices.standing c.run_script.new.world) c.run_script.ensures.goes c.run_script.result c.run_script.ensures.causes c.run_script.ensures.read
 
 pub returns-in-Ok-clause-replies : goal.returns-in-Ok-clause-replies
@@ -45,7 +45,7 @@ returns-in-Ok-clause-survives g c = λ sizes T told order.
 
 pub returns-in-Ok-clause-complete : goal.returns-in-Ok-clause-complete
 returns-in-Ok-clause-complete g c = λ sizes T store holds few none.
-    inl (script_complete (g.W.Devices.standing c.args.world.now) (g.W.Devices.standing c.open.new.world) c.open.ensures.goes c.in-Ok.engine c.in-Ok.ensures.opens (λ told sizes T holds. c.in-Ok.ensures.shows told sizes T holds)
+    inl (script_complete (g.W.Devices.standing c.args.world.now) (g.W.Devices.standing c.open.new.world) c.open.ensures.goes c.in-Ok.engine c.in-Ok.ensures.opens (λ told sizes T holds. c.in-Ok.ensures.shows told sizes T holds) c.in-Ok.ensures.rests
     c.run_script.new.engine (g.W.Devices.standing c.run_script.new.world) c.run_script.ensures.goes c.run_script.result c.run_script.ensures.causes c.run_script.ensures.read store.told sizes T holds few none)
 
 -- ---- damage
