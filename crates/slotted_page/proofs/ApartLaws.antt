@@ -11,7 +11,7 @@ use Rattle.slotted_page.proofs.MarkLaws.{free_each, free_from, run_in, run_below
 
 -- a record is free of another one's bytes where it is apart from it
 module _ (marked : Marked) (one other : Slot) (some : 1 ≤ one.size) (some_other : 1 ≤ other.size) where
-  with_one : Marked
+  abbrev with_one : Marked
   with_one = with_run one.place one.size marked
 
   is_apart : one.place + one.size ≤ other.place ⊎ other.place + other.size ≤ one.place → are_apart one other ≡ true
@@ -67,7 +67,7 @@ module _ (marked : Marked) (one other : Slot) (some : 1 ≤ one.size) (some_othe
             | inr late ↦ run_below marked one.place one.size byte (omega arith) ∙ was
           ]
 
-  pub free_of_one : is_free with_one other ≡ (is_free marked other && are_apart one other)
+  pub free_of_one : is_free (with_run one.place one.size marked) other ≡ (is_free marked other && are_apart one other)
   free_of_one = both_ways (is_free with_one other) (is_free marked other && are_apart one other) free_parts free_again
 
 -- the same for all that are left
@@ -89,17 +89,21 @@ free_of_all marked heap one (other ∷ rest) some placed =
 abbrev pub left_apart : Marked → List Slot → Bool
 left_apart marked left = list_all (is_free marked) left && all_apart left
 
-pub left_step : (whole : Bool) (old new : Marked) (heap : ℕ) (left rest : List Slot) (one : Slot) → whole ≡ left_apart old left → left ≡ one ∷ rest → 1 ≤ one.size → list_all (is_in_heap heap) rest ≡ true
-    → is_free old one ≡ true → new ≡ with_run one.place one.size old → whole ≡ left_apart new rest
-left_step whole old new heap left rest one so_far is some placed free step =
-    so_far ∙ ap (left_apart old) is ∙ rw (free, step, free_of_all old heap one rest some placed) (moved (list_all (is_free old) rest) (list_all (are_apart one) rest) (all_apart rest))
+pub left_step : (whole : Bool) (old new : Marked) (heap : ℕ) (left rest : List Slot) (one : Slot) (place size : ℕ) → whole ≡ left_apart old left → left ≡ one ∷ rest → 1 ≤ one.size → list_all (is_in_heap heap) rest ≡ true
+    → place ≡ one.place → size ≡ one.size → all_free old place size ≡ true → new ≡ with_run place size old → whole ≡ left_apart new rest
+left_step whole old new heap left rest one place size so_far is some placed place_is size_is free step =
+    let is_one : is_free old one ≡ true = rw (sym place_is, sym size_is) free in
+    let marked : new ≡ with_run one.place one.size old = rw (sym place_is, sym size_is) step in
+    so_far ∙ ap (left_apart old) is ∙ rw (is_one, marked, free_of_all old heap one rest some placed) (moved (list_all (is_free old) rest) (list_all (are_apart one) rest) (all_apart rest))
   where
     moved : (a b c : Bool) → (true && a && (b && c)) ≡ (a && b && c)
     moved true b c = refl
     moved false b c = refl
 
-pub left_stop : (whole : Bool) (old : Marked) (left rest : List Slot) (one : Slot) → whole ≡ left_apart old left → left ≡ one ∷ rest → is_free old one ≡ false → false ≡ whole
-left_stop whole old left rest one so_far is taken = sym (so_far ∙ ap (left_apart old) is ∙ rw taken refl)
+pub left_stop : (whole : Bool) (old : Marked) (left rest : List Slot) (one : Slot) (place size : ℕ) → whole ≡ left_apart old left → left ≡ one ∷ rest → place ≡ one.place → size ≡ one.size → all_free old place size ≡ false → false ≡ whole
+left_stop whole old left rest one place size so_far is place_is size_is taken =
+    let is_one : is_free old one ≡ false = rw (sym place_is, sym size_is) taken in
+    sym (so_far ∙ ap (left_apart old) is ∙ rw is_one refl)
 
 -- at the start nothing is marked
 pub left_first : (all : List Slot) → all_apart all ≡ left_apart no_marks all
