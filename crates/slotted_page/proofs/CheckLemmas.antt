@@ -29,12 +29,6 @@ all_stop p whole left rest x so_far is no_it = sym (so_far ∙ ap (list_all p) i
 pub all_done : {X : Type 0} (p : X → Bool) (whole : Bool) (left : List X) → whole ≡ list_all p left → left ≡ [] → true ≡ whole
 all_done p whole left so_far is = sym (so_far ∙ ap (list_all p) is)
 
-pub apart_step : (whole : Bool) (left rest : List Slot) (x : Slot) → whole ≡ all_apart left → left ≡ x ∷ rest → list_all (are_apart x) rest ≡ true → whole ≡ all_apart rest
-apart_step whole left rest x so_far is yes_it = so_far ∙ ap all_apart is ∙ rw yes_it refl
-
-pub apart_stop : (whole : Bool) (left rest : List Slot) (x : Slot) → whole ≡ all_apart left → left ≡ x ∷ rest → list_all (are_apart x) rest ≡ false → false ≡ whole
-apart_stop whole left rest x so_far is no_it = sym (so_far ∙ ap all_apart is ∙ rw no_it refl)
-
 pub used_step : (bytes : List ℕ) (i total : ℕ) → i < entry_count bytes → total + bytes_used (drop i (slots bytes)) ≡ bytes_used (slots bytes)
     → total + (4 + (slot_of bytes i).size) + bytes_used (drop (i + 1) (slots bytes)) ≡ bytes_used (slots bytes)
 used_step bytes i total h so_far =

@@ -7,3 +7,6 @@ pub mod BranchLemmas
 pub mod PageFacts
 pub mod KeyLaws
 pub mod ChildLaws
+pub mod MarkLaws
+pub mod MarkBits
+pub mod ApartLaws

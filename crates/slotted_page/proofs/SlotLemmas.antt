@@ -51,8 +51,11 @@ each_in_heap heap [] i d ok h = absurd (omega arith)
 each_in_heap heap (slot ∷ rest) zero d ok h = (and_parts (is_in_heap heap slot) (list_all (is_in_heap heap) rest) ok).0
 each_in_heap heap (slot ∷ rest) (suc i) d ok h = each_in_heap heap rest i d (and_parts (is_in_heap heap slot) (list_all (is_in_heap heap) rest) ok).1 (omega arith)
 
+pub slot_in_heap : (bytes : List ℕ) (i : ℕ) → list_all (is_in_heap (heap_start bytes)) (slots bytes) ≡ true → i < entry_count bytes → InHeap (heap_start bytes) (slot_of bytes i)
+slot_in_heap bytes i placed inside =
+    let d : Slot = record { place = 0; size = 0 } in
+    in_heap_one (heap_start bytes) (slot_of bytes i) (ap (is_in_heap (heap_start bytes)) (sym (slot_at bytes i d inside)) ∙ each_in_heap (heap_start bytes) (slots bytes) i d placed (omega (arith, length-slots bytes)))
+
 -- each slot of a sound leaf lies in the page, and its record in the heap
 pub slot_inside : (bytes : List ℕ) (i : ℕ) → IsSound bytes → i < entry_count bytes → InHeap (heap_start bytes) (slot_of bytes i)
-slot_inside bytes i sound inside =
-    let d : Slot = record { place = 0; size = 0 } in
-    in_heap_one (heap_start bytes) (slot_of bytes i) (ap (is_in_heap (heap_start bytes)) (sym (slot_at bytes i d inside)) ∙ each_in_heap (heap_start bytes) (slots bytes) i d sound.in_heap (omega (arith, length-slots bytes)))
+slot_inside bytes i sound inside = slot_in_heap bytes i sound.in_heap inside

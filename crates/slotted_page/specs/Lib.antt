@@ -2,6 +2,7 @@ pub mod Checks
 pub mod Rows
 pub mod Room
 pub mod Node
+pub mod Marks
 pub mod Sound
 pub mod Inner
 pub mod Value

@@ -2,13 +2,14 @@
 ghost use Rattle.std.specs.Prelude.{◌≡◌, ◌+◌, ◌-◌, ◌*◌, ◌<◌, ◌≤◌, ◌==◌, ◌&&◌, ◌||◌, ◌^◌, ℕ, List, Option, None, Some, true, length, drop, get_or, nat_le, nat_lt, OnOk, IfErr};
 ghost use Rattle.std.specs.List.{list_all};
 ghost use Rattle.slotted_page.specs.Rows.{Row, ascends, keys};
-ghost use Rattle.slotted_page.specs.Node.{Child, page_kind, page_level, entry_count, heap_start, slots, bytes_used, is_in_heap, all_apart, are_apart, is_printable, has_printable_value, begins_at, first_keys, is_page_below, first_failing, leaf_rows as rows_of, children as children_of};
+ghost use Rattle.slotted_page.specs.Node.{Child, page_kind, page_level, entry_count, heap_start, slots, bytes_used, is_in_heap, all_apart, is_printable, has_printable_value, begins_at, first_keys, is_page_below, first_failing, leaf_rows as rows_of, children as children_of};
 ghost use Rattle.slotted_page.specs.Sound.{IsSound, slot_of, row_bytes};
 ghost use Rattle.line_pages.specs.Bytes.{u64_at};
 ghost use Rattle.slotted_page.specs.Inner.{IsInner};
 
 use crate::entries::{child, child_key};
 use crate::leaf::{leaf_key, leaf_value};
+use crate::marks::Marks;
 use crate::root::Expect;
 use crate::value::all_printable;
 use line_pages::{page_half, page_word};
@@ -48,42 +49,18 @@ fn all_placed(page: &PageBuf, count: usize, heap: usize) -> bool
     true
 }
 
-/// Whether two records share no byte.
-fn are_parted(page: &PageBuf, at: usize, other: usize) -> bool
-    requires at { 68 + 4 * at ≤ 4096 }
-    requires other { 68 + 4 * other ≤ 4096 }
-    ensures { result ≡ are_apart (slot_of page.now at) (slot_of page.now other) }
-{
-    let one = page_half(page, 64 + 4 * at) as usize;
-    let one_size = page_half(page, 64 + 4 * at + 2) as usize;
-    let two = page_half(page, 64 + 4 * other) as usize;
-    let two_size = page_half(page, 64 + 4 * other + 2) as usize;
-    one + one_size <= two || two + two_size <= one
-}
-
-/// Whether a record shares no byte with those of the later slots.
-fn apart_from_later(page: &PageBuf, at: usize, count: usize) -> bool
-    requires count { count ≡ entry_count page.now }
-    requires few { count ≤ 1008 }
-    requires at { at < count }
-    ensures { result ≡ list_all (are_apart (slot_of page.now at)) (drop (at + 1) (slots page.now)) }
-{
-    for i in at + 1..count {
-        if !are_parted(page, at, i) {
-            return false;
-        }
-    }
-    true
-}
-
-/// Whether no two records share a byte.
+/// Whether no two records share a byte: each marks its bytes, and finds none of them marked.
 fn all_separate(page: &PageBuf, count: usize) -> bool
     requires count { count ≡ entry_count page.now }
     requires few { count ≤ 1008 }
+    requires placed { list_all (is_in_heap (heap_start page.now)) (slots page.now) ≡ true }
     ensures { result ≡ all_apart (slots page.now) }
 {
+    let mut marks = Marks::new();
     for i in 0..count {
-        if !apart_from_later(page, i, count) {
+        let place = page_half(page, 64 + 4 * i) as usize;
+        let size = page_half(page, 64 + 4 * i + 2) as usize;
+        if !marks.take(place, size) {
             return false;
         }
     }

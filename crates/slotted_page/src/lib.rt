@@ -8,6 +8,7 @@
 mod check;
 mod entries;
 mod leaf;
+mod marks;
 mod root;
 mod scan;
 mod spot;
