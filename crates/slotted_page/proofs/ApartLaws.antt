@@ -1,11 +1,10 @@
 -- Records that share no byte, by the bytes that they mark.
-use Rattle.std.proofs.Common.{◌≡◌, ℕ, ◌+◌, ◌<◌, ◌≤◌, inl, inr, ◌⊎◌, Bool, true, false, List, [], ◌∷◌, nat_le, nat_lt, ◌&&◌, ◌||◌, refl, ap, sym, ◌∙◌, arith}
+use Rattle.std.proofs.Common.{◌≡◌, ℕ, ◌+◌, ◌<◌, ◌≤◌, inl, inr, ◌⊎◌, Bool, true, false, List, [], ◌∷◌, nat_le, ◌&&◌, refl, ap, sym, ◌∙◌, arith}
 use Rattle.std.specs.List.{list_all}
 use Rattle.std.specs.Cmp.{both_ways}
 use Rattle.std.proofs.lemmas.Bool.{and_parts, and_from, or_left, or_right, cases_lt, leb-true, le-leb, or_cases, true≢false}
 use Rattle.slotted_page.specs.Marks.{Marked, no_marks, with_run, all_free, is_free}
 use Rattle.slotted_page.specs.Node.{Slot, is_in_heap, are_apart, all_apart}
-use Rattle.slotted_page.specs.Sound.{InHeap}
 use Rattle.slotted_page.proofs.SlotLemmas.{in_heap_one}
 use Rattle.slotted_page.proofs.MarkLaws.{free_each, free_from, run_in, run_below, run_above}
 
@@ -37,12 +36,12 @@ module _ (marked : Marked) (one other : Slot) (some : 1 ≤ one.size) (some_othe
           elim (cases_lt other.place (one.place + one.size)) [
             | inr before ↦ inl before
             | inl reaches ↦ elim (cases_lt one.place (other.place + other.size)) [
-                | inr after ↦ inr after
-                | inl reached ↦ elim (cases_lt one.place other.place) [
-                    | inl low ↦ absurd (shared other.place free (omega arith) reaches (omega arith) (omega arith))
-                    | inr high ↦ absurd (shared one.place free (omega arith) (omega arith) high reached)
-                  ]
+              | inr after ↦ inr after
+              | inl reached ↦ elim (cases_lt one.place other.place) [
+                | inl low ↦ absurd (shared other.place free (omega arith) reaches (omega arith) (omega arith))
+                | inr high ↦ absurd (shared one.place free (omega arith) (omega arith) high reached)
               ]
+            ]
           ]
 
       before : (byte : ℕ) → other.place ≤ byte → byte < other.place + other.size → marked byte ≡ false

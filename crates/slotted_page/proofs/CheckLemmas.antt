@@ -5,7 +5,7 @@ use Rattle.std.proofs.lemmas.List.{drop_more, drop_all}
 use Rattle.std.proofs.lemmas.Bool.{eqb-true, leb-true, and_parts}
 use Rattle.std.proofs.lemmas.List.Sums.{sum_by-cons}
 use Rattle.slotted_page.specs.Rows.{Row, keys, ascends}
-use Rattle.slotted_page.specs.Node.{Slot, Child, slots, children, entry_count, bytes_used, all_apart, are_apart, first_keys, begins_at, is_in_heap, page_kind, page_level, heap_start}
+use Rattle.slotted_page.specs.Node.{Slot, Child, slots, children, entry_count, bytes_used, all_apart, first_keys, begins_at, is_in_heap, page_kind, page_level, heap_start}
 use Rattle.slotted_page.specs.Sound.{slot_of, IsSound}
 use Rattle.slotted_page.specs.Inner.{IsInner}
 use Rattle.slotted_page.proofs.SlotLemmas.{length-slots, slot_at}

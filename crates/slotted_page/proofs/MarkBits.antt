@@ -1,5 +1,5 @@
 -- Marks in words of bits.
-use Rattle.std.proofs.Common.{◌≡◌, ℕ, zero, suc, ◌≢◌, ◌+◌, ◌-◌, ◌*◌, ◌/◌, ◌%◌, ◌^◌, ◌<◌, ◌≤◌, inl, inr, Bool, true, false, List, length, get_or, replicate, min, max, nat_eq, nat_le, nat_lt, ◌==◌, ◌&&◌, ◌||◌, slice_set, get_or-set_same, get_or-set_other, refl, ap, sym, ◌∙◌, arith}
+use Rattle.std.proofs.Common.{◌≡◌, ℕ, zero, suc, ◌≢◌, ◌+◌, ◌-◌, ◌*◌, ◌/◌, ◌%◌, ◌^◌, ◌<◌, ◌≤◌, inl, inr, true, false, List, length, get_or, replicate, min, max, nat_eq, slice_set, get_or-set_same, get_or-set_other, refl, ap, sym, ◌∙◌, arith}
 use Rattle.std.specs.Int.{bit_at}
 use Rattle.std.specs.Int.RustNames.{bit_or}
 use lib.Bits.{bit_and}
@@ -9,8 +9,8 @@ use Rattle.std.proofs.lemmas.Nat.Bits.{bit_at_and, bit_at_or, bit_at-zero, bit_a
 use Rattle.std.proofs.Math.Pow.{high_ones, pow-sub-lt, pow_mono}
 use Rattle.std.proofs.Math.Nat.{mod-eq_of_lt}
 use Rattle.std.proofs.lemmas.Nat.{pow_pos}
-use Rattle.slotted_page.specs.Marks.{Marked, no_marks, with_run, all_free, marked_in}
-use Rattle.slotted_page.proofs.MarkLaws.{free_each, free_from, run_in, run_below, run_above, Side, below, inside, above, side}
+use Rattle.slotted_page.specs.Marks.{no_marks, with_run, all_free, marked_in}
+use Rattle.slotted_page.proofs.MarkLaws.{free_each, free_from, run_in, run_below, run_above, below, inside, above, side}
 
 -- a byte of a word is its bit there
 pub marked_bit : (words : List ℕ) (word bit byte x : ℕ) → byte ≡ 64 * word + bit → bit < 64 → x ≡ get_or words word 0 → marked_in words byte ≡ nat_eq (bit_at x bit) 1
@@ -86,7 +86,7 @@ module _ (words : List ℕ) (word from until x mask : ℕ) (few : until ≤ 64) 
       each bit =
           bit_at_and x mask bit ∙ elim (side from (until - from) bit) [
             | below low ↦ least_off (bit_at x bit) (bit_at mask bit) (bit_at 0 bit) (zero_below bit low) (bit_at-zero bit)
-            | inside low high ↦ 
+            | inside low high ↦
                 let off : bit_at x bit ≡ 0 = bit_free bit (omega arith) (free_each (marked_in words) (64 * word + from) (until - from) (64 * word + bit) free (omega arith) (omega arith)) in
                 least_first (bit_at x bit) (bit_at mask bit) (bit_at 0 bit) off (bit_at-zero bit)
             | above past ↦ least_off (bit_at x bit) (bit_at mask bit) (bit_at 0 bit) (zero_above bit (omega arith)) (bit_at-zero bit)

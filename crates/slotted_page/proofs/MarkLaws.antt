@@ -1,7 +1,7 @@
 -- Runs of marked bytes: which of them are free, and how they add up.
-use Rattle.std.proofs.Common.{◌≡◌, ℕ, zero, suc, ◌+◌, ◌<◌, ◌≤◌, inl, inr, ◌⊎◌, Bool, true, false, not, nat_le, nat_lt, ◌&&◌, ◌||◌, refl, ap, sym, ◌∙◌, arith}
-use Rattle.std.proofs.lemmas.Bool.{and_parts, and_from, and_left, and_right, cases_eq, cases_lt, cases_Bool, lt-ltb, le-ltb, le-leb, lt-leb, not_from_false, false_from_ne_true, true≢false}
-use Rattle.slotted_page.specs.Marks.{Marked, no_marks, with_run, all_free}
+use Rattle.std.proofs.Common.{◌≡◌, ℕ, zero, suc, ◌+◌, ◌<◌, ◌≤◌, inl, inr, Bool, true, false, not, nat_le, refl, ap, sym, ◌∙◌, arith}
+use Rattle.std.proofs.lemmas.Bool.{and_parts, and_from, and_right, cases_eq, cases_lt, lt-ltb, le-ltb, le-leb, lt-leb, not_from_false, false_from_ne_true, true≢false}
+use Rattle.slotted_page.specs.Marks.{Marked, with_run, all_free}
 
 not_back : (x : Bool) → not x ≡ true → x ≡ false
 not_back true e = sym e
@@ -42,9 +42,9 @@ side place size byte =
     elim (cases_lt byte place) [
       | inl low ↦ below low
       | inr from ↦ elim (cases_lt byte (place + size)) [
-          | inl until ↦ inside from until
-          | inr past ↦ above past
-        ]
+        | inl until ↦ inside from until
+        | inr past ↦ above past
+      ]
     ]
 
 pub run_none : (marked : Marked) (place : ℕ) → with_run place 0 marked ≡ marked
@@ -67,9 +67,9 @@ run_more marked place k n = λ i byte. at byte i
           | below low ↦ run_below (with_run place k marked) (place + k) n byte (omega arith) ∙ run_below marked place k byte low ∙ sym (run_below marked place (k + n) byte low)
           | inside from until ↦ run_below (with_run place k marked) (place + k) n byte until ∙ run_in marked place k byte from until ∙ sym (run_in marked place (k + n) byte from (omega arith))
           | above past ↦ elim (cases_lt byte (place + k + n)) [
-              | inl until ↦ run_in (with_run place k marked) (place + k) n byte past until ∙ sym (run_in marked place (k + n) byte (omega arith) (omega arith))
-              | inr over ↦ run_above (with_run place k marked) (place + k) n byte over ∙ run_above marked place k byte past ∙ sym (run_above marked place (k + n) byte (omega arith))
-            ]
+            | inl until ↦ run_in (with_run place k marked) (place + k) n byte past until ∙ sym (run_in marked place (k + n) byte (omega arith) (omega arith))
+            | inr over ↦ run_above (with_run place k marked) (place + k) n byte over ∙ run_above marked place k byte past ∙ sym (run_above marked place (k + n) byte (omega arith))
+          ]
         ]
 
 -- one part of a record marked after another

@@ -57,7 +57,11 @@ fn part_of(word: usize, end: usize) -> usize
     ensures before { 64 * word + result ≤ end }
     ensures whole { 64 * word + result < end → result ≡ 64 }
 {
-    if 64 < end - 64 * word { 64 } else { end - 64 * word }
+    if 64 < end - 64 * word {
+        64
+    } else {
+        end - 64 * word
+    }
 }
 
 /// A word whose bits from a first one up to an end are set.

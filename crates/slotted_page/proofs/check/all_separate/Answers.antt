@@ -1,4 +1,4 @@
-use Rattle.std.proofs.Common.{◌≡◌, ◌∙◌, ap, sym, refl, arith, true, drop}
+use Rattle.std.proofs.Common.{◌∙◌, ap, sym, arith}
 use Rattle.slotted_page.specs.Node.{slots, heap_start, is_in_heap}
 use Rattle.slotted_page.specs.Marks.{marked_in}
 use Rattle.slotted_page.specs.Sound.{slot_of, InHeap}
@@ -26,7 +26,7 @@ take-requires-clause-within c = omega (arith, (in_heap_at (goal.at.take-requires
 pub returns-then-not-take : goal.returns-then-not-take
 returns-then-not-take c =
     left_stop _ (marked_in c.loop-i.marks.words) _ _ (slot_of c.args.page.now c.loop-i.i) c.page_half-place.result c.page_half-size.result c.loop-i.invariant.so_far (slots_step c.args.page.now c.loop-i.i (omega arith))
-      c.page_half-place.ensures.value c.page_half-size.ensures.value (sym c.take.ensures.free ∙ c.if-not-take.true)
+    c.page_half-place.ensures.value c.page_half-size.ensures.value (sym c.take.ensures.free ∙ c.if-not-take.true)
 
 pub loop-i-preserved : goal.loop-i-preserved
 loop-i-preserved c =
@@ -37,7 +37,7 @@ loop-i-preserved c =
     let placed = all_step (is_in_heap (heap_start bytes)) _ _ _ slot c.loop-i.invariant.placed step (in_heap_is (heap_start bytes) slot is) in
     record {
       so_far = left_step _ (marked_in c.loop-i.marks.words) (marked_in c.take.new.self.words) (heap_start bytes) _ _ slot c.page_half-place.result c.page_half-size.result c.loop-i.invariant.so_far step (omega (arith, is.key)) (sym placed)
-        c.page_half-place.ensures.value c.page_half-size.ensures.value (sym c.take.ensures.free ∙ c.if-not-take.false) (c.take.ensures.marks c.if-not-take.false);
+          c.page_half-place.ensures.value c.page_half-size.ensures.value (sym c.take.ensures.free ∙ c.if-not-take.false) (c.take.ensures.marks c.if-not-take.false);
       placed = placed;
     }
 
