@@ -22,6 +22,7 @@ free_from marked place zero each = refl
 free_from marked place (suc n) each =
     and_from (not (marked place)) (all_free marked (place + 1) n) (not_from_false (marked place) (each place (omega arith) (omega arith))) (free_from marked (place + 1) n (λ byte low high. each byte (omega arith) (omega arith)))
 
+-- a run at a byte of it, below it and above it
 pub run_in : (marked : Marked) (place size byte : ℕ) → place ≤ byte → byte < place + size → with_run place size marked byte ≡ true
 run_in marked place size byte low high = rw (le-leb place byte low, lt-ltb byte (place + size) high) refl
 
@@ -46,16 +47,6 @@ side place size byte =
         | inr past ↦ above past
       ]
     ]
-
-pub run_none : (marked : Marked) (place : ℕ) → with_run place 0 marked ≡ marked
-run_none marked place = λ i byte. at byte i
-  where
-    at : (byte : ℕ) → with_run place 0 marked byte ≡ marked byte
-    at byte =
-        elim (cases_lt byte place) [
-          | inl low ↦ run_below marked place 0 byte low
-          | inr from ↦ run_above marked place 0 byte (omega arith)
-        ]
 
 -- one run after another is one longer run
 pub run_more : (marked : Marked) (place k n : ℕ) → with_run (place + k) n (with_run place k marked) ≡ with_run place (k + n) marked

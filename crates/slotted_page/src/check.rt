@@ -1,5 +1,5 @@
 //! The numbered checks of one page, in ascending order.
-ghost use Rattle.std.specs.Prelude.{◌≡◌, ◌+◌, ◌-◌, ◌*◌, ◌<◌, ◌≤◌, ◌==◌, ◌&&◌, ◌||◌, ◌^◌, ℕ, List, Option, None, Some, true, length, drop, get_or, nat_le, nat_lt, OnOk, IfErr};
+ghost use Rattle.std.specs.Prelude.{◌≡◌, ◌+◌, ◌-◌, ◌*◌, ◌<◌, ◌≤◌, ◌==◌, ◌&&◌, ◌||◌, ◌^◌, ℕ, List, Option, None, Some, true, length, get_or, nat_le, nat_lt, OnOk, IfErr};
 ghost use Rattle.std.specs.List.{list_all};
 ghost use Rattle.slotted_page.specs.Rows.{Row, ascends, keys};
 ghost use Rattle.slotted_page.specs.Node.{Child, page_kind, page_level, entry_count, heap_start, slots, bytes_used, is_in_heap, all_apart, is_printable, has_printable_value, begins_at, first_keys, is_page_below, first_failing, leaf_rows as rows_of, children as children_of};

@@ -4,7 +4,7 @@ use Rattle.slotted_page.proofs.MarkLaws.{marks_step, free_step, free_stop}
 use Rattle.slotted_page.proofs.marks.Marks.take.Goals.{In-loop-word}
 use Rattle.slotted_page.proofs.marks.Marks.take.Goals as goal
 
--- where the part of a word begins and ends
+-- what is left of the record begins in the word, and the part runs on from what is marked
 record IsPart (place size at word until : ℕ) : Type 0 where
   low : 64 * word ≤ at
   some : at < 64 * word + until
