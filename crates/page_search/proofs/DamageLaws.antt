@@ -10,7 +10,7 @@ use Rattle.slotted_page.specs.Checks.{first_failure, fails}
 use Rattle.slotted_page.specs.Rows.{keys, ascends}
 use Rattle.slotted_page.specs.Room.{leaf_room, leaf_floor, inner_room, inner_floor}
 use Rattle.slotted_page.specs.Node.{page_kind, page_level, entry_count, heap_start, slots, bytes_used, is_in_heap, all_apart, has_printable_value, begins_at, first_keys, is_page_below, leaf_rows, children, checks, first_failing}
-use Rattle.slotted_page.specs.Search.{is_root_span, IsNodeDamage}
+use Rattle.slotted_page.specs.Search.{is_root_span, IsNodeDamage, FailsNode}
 
 -- the same page, expected as a root or not
 abbrev pub as_root : Expect → Bool → Expect
@@ -62,14 +62,20 @@ by_bounds bytes expect check root e =
       ]
     ]
 
--- what read_page answers
-pub damage_of : (count page check : ℕ) (expect : Expect) (lines : Lines) (buffer : List ℕ) → page < count → expect.pages ≡ count → (is_root_span expect.low expect.high ≡ true → expect.root ≡ true)
-    → buffer ≡ bytes_of lines page → first_failing buffer expect ≡ Some check → IsNodeDamage count lines buffer (Page page expect.level expect.low expect.high check)
-damage_of count page check expect lines buffer inside pages root is first = (
+-- what read_page answers, whatever the store holds
+pub fails_of : (count page check : ℕ) (expect : Expect) (buffer : List ℕ) → page < count → expect.pages ≡ count → (is_root_span expect.low expect.high ≡ true → expect.root ≡ true)
+    → first_failing buffer expect ≡ Some check → FailsNode count buffer (Page page expect.level expect.low expect.high check)
+fails_of count page check expect buffer inside pages root first = (
   inside,
-  is,
   subst (λ n. first_failing buffer (record { level = expect.level; low = expect.low; high = expect.high; root = is_root_span expect.low expect.high; pages = n }) ≡ Some check) pages (by_bounds buffer expect check root first),
 )
+
+-- and where the buffer has the page's bytes
+pub damage_of : (count page check : ℕ) (expect : Expect) (lines : Lines) (buffer : List ℕ) → page < count → expect.pages ≡ count → (is_root_span expect.low expect.high ≡ true → expect.root ≡ true)
+    → buffer ≡ bytes_of lines page → first_failing buffer expect ≡ Some check → IsNodeDamage count lines buffer (Page page expect.level expect.low expect.high check)
+damage_of count page check expect lines buffer inside pages root is first =
+    let failing = fails_of count page check expect buffer inside pages root first in
+    (failing.0, is, failing.1)
 
 or_last : (x y : Bool) → y ≡ true → (x || y) ≡ true
 or_last true y e = refl

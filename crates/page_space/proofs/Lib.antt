@@ -6,3 +6,4 @@ pub mod LackLaws
 pub mod SoundLaws
 pub mod WrittenLaws
 pub mod TouchedLaws
+pub mod FailLaws

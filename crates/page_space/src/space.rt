@@ -1,34 +1,42 @@
 //! The pages that trees take and give back: the free list and the high water in the header of page 0.
-ghost use Rattle.std.specs.Prelude.{◌≡◌, ◌≢◌, ◌+◌, ◌<◌, ◌≤◌, ℕ, List, IsTrue, OnOk, IfOk, IfErr};
+ghost use Rattle.std.specs.Prelude.{◌≡◌, ◌≢◌, true, ◌+◌, ◌<◌, ◌≤◌, ℕ, List, IsTrue, OnOk, IfOk, IfErr};
 ghost use Rattle.line_pages.specs.Bytes.{bytes_of};
 ghost use Rattle.line_pages.specs.Lines.{IsLine};
 ghost use Rattle.line_pages.specs.Standing.{Continues, HasCause, IsCause, Never, KeepsLines};
 ghost use Rattle.page_space.specs.Stops.{IsFault, IsShort, spare_pages};
 ghost use Rattle.page_space.specs.Moves.{Takes, Gives};
-ghost use Rattle.page_space.specs.Space.{word, FitsHeader, IsFreeList, IsPageEvidence, IsSpaceDamage, header_checks, take_checks, page_taken, after_take, after_give};
+ghost use Rattle.page_space.specs.Space.{word, FitsHeader, IsFreeList, IsPageEvidence, IsSpaceDamage, FailsSpace, header_checks, take_checks, space_checks, page_taken, after_take, after_give};
+ghost use Rattle.slotted_page.specs.Checks.{fails};
+ghost use Rattle.slotted_page.specs.Search.{Keeps};
 
-use line_pages::{Evidence, Pages, Stop, copy_page};
+use line_pages::{Evidence, Pages, Stop, copy_page, set_page_line};
 use nvm_model::Line;
 use slotted_page::Work;
 
-/// The stop for a check that a page outside the trees fails: its bytes are kept.
-fn damage<P: Pages>(pages: &mut P, work: &mut Work, page: u64, check: u8) -> Stop
+/// The stop for a check that a page outside the trees fails by its first line: the page's bytes are kept, with that line as
+/// it was read.
+fn damage<P: Pages>(pages: &mut P, work: &mut Work, page: u64, line: &Line, check: u8) -> Stop
     requires ready { P.is_ready pages.old }
     requires page { page < (P.standing pages.old).count }
+    requires line { IsLine line.now }
+    requires is { IsTrue (P.standing pages.old).told → line.now ≡ (P.standing pages.old).current page 0 }
+    requires fails { fails (space_checks (P.standing pages.old).count line.now) check ≡ true }
     ensures cause { IsCause (λ e. IsPageEvidence page check e × (IsTrue (P.standing pages.old).told → work.new.page ≡ bytes_of (P.standing pages.old).current page)) (P.standing pages.old) (P.standing pages.new) result }
+    ensures fails { Keeps (FailsSpace (P.standing pages.old).count work.new.page) result }
     ensures continues { Continues (P.may_leave pages.old) (P.may_leave pages.new) (P.is_steady pages.old) (P.standing pages.old) (P.standing pages.new) }
     ensures few { (P.standing pages.new).visits ≤ (P.standing pages.old).visits + 1 }
 {
-    match copy_page(pages, page, &mut work.page) {
-        Ok(()) => Stop::Damaged(Evidence::Page {
-            page,
-            level: 0,
-            low: 0,
-            high: u64::MAX,
-            check,
-        }),
-        Err(stop) => stop,
+    if let Err(stop) = copy_page(pages, page, &mut work.page) {
+        return stop;
     }
+    set_page_line(&mut work.page, 0, line);
+    Stop::Damaged(Evidence::Page {
+        page,
+        level: 0,
+        low: 0,
+        high: u64::MAX,
+        check,
+    })
 }
 
 /// Reads the header of page 0 and makes its checks.
@@ -39,6 +47,7 @@ fn read_header<P: Pages>(pages: &mut P, work: &mut Work) -> Result<Line, Stop>
     ensures line { IfOk result IsLine }
     ensures keeps { OnOk result (KeepsLines (P.standing pages.old) (P.standing pages.new)) }
     ensures cause { HasCause (λ e. IsTrue (P.standing pages.old).told → IsSpaceDamage (header_checks (P.standing pages.old).count (P.standing pages.old).current) (P.standing pages.old).current work.new.page e) (P.standing pages.old) (P.standing pages.new) result }
+    ensures fails { IfErr result (Keeps (FailsSpace (P.standing pages.old).count work.new.page)) }
     ensures continues { Continues (P.may_leave pages.old) (P.may_leave pages.new) (P.is_steady pages.old) (P.standing pages.old) (P.standing pages.new) }
     ensures few { (P.standing pages.new).visits ≤ (P.standing pages.old).visits + 2 }
     ensures work { OnOk result (work.new ≡ work.old) }
@@ -49,13 +58,13 @@ fn read_header<P: Pages>(pages: &mut P, work: &mut Work) -> Result<Line, Stop>
     let header = pages.read_line(0, 0)?;
     let high = header.words[2];
     if header.words[0] != 4 {
-        return Err(damage(pages, work, 0, 31));
+        return Err(damage(pages, work, 0, &header, 31));
     }
     if high < 1 || high > count {
-        return Err(damage(pages, work, 0, 33));
+        return Err(damage(pages, work, 0, &header, 33));
     }
     if header.words[3] >= high {
-        return Err(damage(pages, work, 0, 34));
+        return Err(damage(pages, work, 0, &header, 34));
     }
     Ok(header)
 }
@@ -74,6 +83,7 @@ fn take_fresh<P: Pages>(pages: &mut P, header: Line, work: &mut Work) -> Result<
     ensures in_range { IfOk result (λ page. (1 ≤ page) × (page < (P.standing pages.old).count)) }
     ensures room { OnOk result ((P.standing pages.new).room + 1 ≡ (P.standing pages.old).room) }
     ensures cause { HasCause (λ e. IsTrue (P.standing pages.old).told → IsSpaceDamage (take_checks (P.standing pages.old).count (P.standing pages.old).current) (P.standing pages.old).current work.new.page e) (P.standing pages.old) (P.standing pages.new) result }
+    ensures fails { IfErr result (Keeps (FailsSpace (P.standing pages.old).count work.new.page)) }
     ensures continues { Continues (P.may_leave pages.old) (P.may_leave pages.new) (P.is_steady pages.old) (P.standing pages.old) (P.standing pages.new) }
     ensures few { (P.standing pages.new).visits ≤ (P.standing pages.old).visits + 1 }
     ensures work { OnOk result (work.new ≡ work.old) }
@@ -82,7 +92,7 @@ fn take_fresh<P: Pages>(pages: &mut P, header: Line, work: &mut Work) -> Result<
 {
     let high = header.words[2];
     if high == pages.page_count() {
-        return Err(damage(pages, work, 0, 37));
+        return Err(damage(pages, work, 0, &header, 37));
     }
     let mut after = header;
     after.words[2] = high + 1;
@@ -103,6 +113,7 @@ fn take_free<P: Pages>(pages: &mut P, header: Line, work: &mut Work) -> Result<u
     ensures in_range { IfOk result (λ page. (1 ≤ page) × (page < (P.standing pages.old).count)) }
     ensures room { OnOk result ((P.standing pages.new).room + 1 ≡ (P.standing pages.old).room) }
     ensures cause { HasCause (λ e. IsTrue (P.standing pages.old).told → IsSpaceDamage (take_checks (P.standing pages.old).count (P.standing pages.old).current) (P.standing pages.old).current work.new.page e) (P.standing pages.old) (P.standing pages.new) result }
+    ensures fails { IfErr result (Keeps (FailsSpace (P.standing pages.old).count work.new.page)) }
     ensures continues { Continues (P.may_leave pages.old) (P.may_leave pages.new) (P.is_steady pages.old) (P.standing pages.old) (P.standing pages.new) }
     ensures few { (P.standing pages.new).visits ≤ (P.standing pages.old).visits + 2 }
     ensures work { OnOk result (work.new ≡ work.old) }
@@ -112,7 +123,7 @@ fn take_free<P: Pages>(pages: &mut P, header: Line, work: &mut Work) -> Result<u
     let head = header.words[3];
     let free = pages.read_line(head, 0)?;
     if free.words[0] != 3 || free.words[1] >= header.words[2] {
-        return Err(damage(pages, work, head, 36));
+        return Err(damage(pages, work, head, &free, 36));
     }
     let mut after = header;
     after.words[3] = free.words[1];
@@ -134,6 +145,7 @@ pub fn take_page<P: Pages>(pages: &mut P, work: &mut Work) -> Result<u64, Stop>
     ensures room { OnOk result ((P.standing pages.new).room + 1 ≡ (P.standing pages.old).room) }
     ensures sound { IsTrue (P.standing pages.old).told → FitsHeader (P.standing pages.old).count ((P.standing pages.old).current 0 0) → (free : List ℕ) → IsFreeList (P.standing pages.old).current free → IfErr result (IsShort (spare_pages (P.standing pages.old).count (P.standing pages.old).current free) 0) }
     ensures cause { HasCause (λ e. IsTrue (P.standing pages.old).told → IsSpaceDamage (take_checks (P.standing pages.old).count (P.standing pages.old).current) (P.standing pages.old).current work.new.page e) (P.standing pages.old) (P.standing pages.new) result }
+    ensures fails { IfErr result (Keeps (FailsSpace (P.standing pages.old).count work.new.page)) }
     // what stays
     ensures continues { Continues (P.may_leave pages.old) (P.may_leave pages.new) (P.is_steady pages.old) (P.standing pages.old) (P.standing pages.new) }
     ensures few { (P.standing pages.new).visits ≤ (P.standing pages.old).visits + 4 }
@@ -161,6 +173,7 @@ pub fn give_page<P: Pages>(pages: &mut P, work: &mut Work, page: u64) -> Result<
     ensures room { OnOk result ((P.standing pages.new).room + 2 ≡ (P.standing pages.old).room) }
     ensures sound { IsTrue (P.standing pages.old).told → FitsHeader (P.standing pages.old).count ((P.standing pages.old).current 0 0) → IfErr result IsFault }
     ensures cause { HasCause (λ e. IsTrue (P.standing pages.old).told → IsSpaceDamage (header_checks (P.standing pages.old).count (P.standing pages.old).current) (P.standing pages.old).current work.new.page e) (P.standing pages.old) (P.standing pages.new) result }
+    ensures fails { IfErr result (Keeps (FailsSpace (P.standing pages.old).count work.new.page)) }
     // what stays
     ensures continues { Continues (P.may_leave pages.old) (P.may_leave pages.new) (P.is_steady pages.old) (P.standing pages.old) (P.standing pages.new) }
     ensures few { (P.standing pages.new).visits ≤ (P.standing pages.old).visits + 4 }

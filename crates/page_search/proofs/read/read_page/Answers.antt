@@ -1,7 +1,7 @@
 use Rattle.std.proofs.Common.{sym, subst}
 use Rattle.line_pages.specs.declared.stop.Evidence.TheVariants.{Page}
-use Rattle.slotted_page.specs.Search.{IsNodeDamage}
-use Rattle.page_search.proofs.DamageLaws.{damage_of}
+use Rattle.slotted_page.specs.Search.{IsNodeDamage, FailsNode}
+use Rattle.page_search.proofs.DamageLaws.{damage_of, fails_of}
 use Rattle.page_search.proofs.read.read_page.Goals as goal
 
 pub returns-in-Err-clause-cause : goal.returns-in-Err-clause-cause
@@ -12,3 +12,9 @@ returns-in-Err-clause-cause g c =
           (damage_of old.count c.args.page c.in-Err.check c.args.expect.now old.current c.copy_page.new.into c.requires.page c.requires.pages c.requires.root (c.in_ok-copy_page.ensures.bytes told) c.in-Err.ensures.err);
       kept = tt;
     }
+
+pub returns-in-Err-clause-fails : goal.returns-in-Err-clause-fails
+returns-in-Err-clause-fails g c =
+    let old = g.P.Pages.standing c.args.pages.now in
+    subst (FailsNode old.count c.copy_page.new.into) (sym {b = Page c.args.page c.args.expect.now.level c.args.expect.now.low c.args.expect.now.high c.in-Err.check} c.page_evidence.ensures)
+    (fails_of old.count c.args.page c.in-Err.check c.args.expect.now c.copy_page.new.into c.requires.page c.requires.pages c.requires.root c.in-Err.ensures.err)
