@@ -40,7 +40,7 @@ FailsRoot count buffer (Walk page kept found check) = ⊥
 
 -- Whatever the store holds: the buffer fails the check that the evidence names, as a page of a tree, before a page is taken,
 -- or as a full root.
-abbrev pub FailsTree : ℕ → List ℕ → Evidence → Type 0
+unfoldable pub FailsTree : ℕ → List ℕ → Evidence → Type 0
 FailsTree count buffer evidence = FailsNode count buffer evidence ⊎ (FailsSpace count buffer evidence ⊎ FailsRoot count buffer evidence)
 
 -- A tree beside a free list, under a header in order.

@@ -3,7 +3,8 @@ ghost use Rattle.std.specs.Prelude.{◌≡◌, ◌≢◌, ◌+◌, ◌<◌, ◌�
 ghost use Rattle.line_pages.specs.Bytes.{bytes_of};
 ghost use Rattle.line_pages.specs.Standing.{Continues, HasCause, KeepsLines};
 ghost use Rattle.slotted_page.specs.Node.{IsWellFormed, leaf_rows as rows_of, children as children_of};
-ghost use Rattle.bplus_tree.specs.Damage.{IsTreeDamage};
+ghost use Rattle.slotted_page.specs.Search.{Keeps};
+ghost use Rattle.bplus_tree.specs.Damage.{IsTreeDamage, FailsTree};
 ghost use Rattle.page_space.specs.Stops.{IsFault};
 ghost use Rattle.page_space.specs.Space.{FitsHeader};
 ghost use Rattle.page_space.specs.Moves.{Gives};
@@ -37,6 +38,7 @@ fn fetch<P: Pages>(
     ensures keeps { OnOk result (KeepsLines (P.standing pages.old) (P.standing pages.new)) }
     ensures sound { IsTrue (P.standing pages.old).told → IsWellFormed (bytes_of (P.standing pages.old).current pair.now.left) (left_of count level pair.now) → IsWellFormed (bytes_of (P.standing pages.old).current pair.now.right) (right_of count level pair.now) → IfErr result IsFault }
     ensures cause { HasCause (IsTreeDamage (P.standing pages.old).told (P.standing pages.old).count work.new.page) (P.standing pages.old) (P.standing pages.new) result }
+    ensures fails { IfErr result (Keeps (FailsTree (P.standing pages.old).count work.new.page)) }
     ensures continues { Continues (P.may_leave pages.old) (P.may_leave pages.new) (P.is_steady pages.old) (P.standing pages.old) (P.standing pages.new) }
     ensures few { (P.standing pages.new).visits ≤ (P.standing pages.old).visits + 2 }
     ensures ready { OnOk result (P.is_ready pages.new) }
@@ -85,6 +87,7 @@ fn write_joined<P: Pages>(
     ensures room { OnOk result ((P.standing pages.old).room ≤ (P.standing pages.new).room + 128) }
     ensures sound { IsTrue (P.standing pages.old).told → work.old.spare ≡ bytes_of (P.standing pages.old).current pair.now.left → FitsHeader count ((P.standing pages.old).current 0 0) → IfErr result IsFault }
     ensures cause { HasCause (IsTreeDamage (P.standing pages.old).told (P.standing pages.old).count work.new.page) (P.standing pages.old) (P.standing pages.new) result }
+    ensures fails { IfErr result (Keeps (FailsTree (P.standing pages.old).count work.new.page)) }
     ensures continues { Continues (P.may_leave pages.old) (P.may_leave pages.new) (P.is_steady pages.old) (P.standing pages.old) (P.standing pages.new) }
     ensures few { (P.standing pages.new).visits ≤ (P.standing pages.old).visits + 5 }
     ensures ready { OnOk result (P.is_ready pages.new) }
@@ -110,6 +113,7 @@ fn write_divided<P: Pages>(
     ensures room { OnOk result ((P.standing pages.old).room ≤ (P.standing pages.new).room + 128) }
     ensures sound { IfErr result IsFault }
     ensures cause { HasCause (IsTreeDamage (P.standing pages.old).told (P.standing pages.old).count work.new.page) (P.standing pages.old) (P.standing pages.new) result }
+    ensures fails { IfErr result (Keeps (FailsTree (P.standing pages.old).count work.new.page)) }
     ensures continues { Continues (P.may_leave pages.old) (P.may_leave pages.new) (P.is_steady pages.old) (P.standing pages.old) (P.standing pages.new) }
     ensures few { (P.standing pages.new).visits ≤ (P.standing pages.old).visits + 2 }
     ensures ready { OnOk result (P.is_ready pages.new) }
@@ -136,6 +140,7 @@ pub fn join<P: Pages>(
     ensures room { OnOk result ((P.standing pages.old).room ≤ (P.standing pages.new).room + 128) }
     ensures sound { IsTrue (P.standing pages.old).told → IsWellFormed (bytes_of (P.standing pages.old).current pair.now.left) (left_of count level pair.now) → IsWellFormed (bytes_of (P.standing pages.old).current pair.now.right) (right_of count level pair.now) → FitsHeader count ((P.standing pages.old).current 0 0) → IfErr result IsFault }
     ensures cause { HasCause (IsTreeDamage (P.standing pages.old).told (P.standing pages.old).count work.new.page) (P.standing pages.old) (P.standing pages.new) result }
+    ensures fails { IfErr result (Keeps (FailsTree (P.standing pages.old).count work.new.page)) }
     ensures continues { Continues (P.may_leave pages.old) (P.may_leave pages.new) (P.is_steady pages.old) (P.standing pages.old) (P.standing pages.new) }
     ensures few { (P.standing pages.new).visits ≤ (P.standing pages.old).visits + 7 }
     ensures ready { OnOk result (P.is_ready pages.new) }

@@ -11,11 +11,12 @@ use Rattle.line_pages.specs.declared.stop.Evidence.TheVariants.{Page}
 use Rattle.line_pages.specs.Lines.{Lines}
 use Rattle.line_pages.specs.Bytes.{bytes_of}
 use Rattle.line_pages.specs.Standing.{HasCause}
-use Rattle.bplus_tree.specs.Damage.{IsTreeDamage}
+use Rattle.slotted_page.specs.Search.{Keeps}
+use Rattle.bplus_tree.specs.Damage.{IsTreeDamage, FailsTree}
 use Rattle.bplus_tree.specs.Edit.{IsOutcome, StaysBelow}
 use Rattle.page_space.proofs.WrittenLaws.{changed_most}
 use Rattle.bplus_tree.proofs.Storing.{spent_most, if_both, child_added}
-use Rattle.bplus_tree.proofs.TreeDamageLaws.{root_damage}
+use Rattle.bplus_tree.proofs.TreeDamageLaws.{root_damage, root_fails}
 use Rattle.page_space.specs.Stops.{spare_pages}
 use Rattle.bplus_tree.specs.Path.{IsFullAt}
 use Rattle.page_space.proofs.LackLaws.{stops_wider, stored_sound}
@@ -66,6 +67,16 @@ returns-then-is_full_root-clause-cause g c =
           (λ told. (c.requires.page, c.in_ok-load.ensures.bytes told, c.is_full_root.ensures.level yes_full, c.requires.span (c.is_full_root.ensures.root yes_full), refl, c.is_full_root.ensures.full yes_full));
       kept = tt;
     })
+
+pub returns-then-is_full_root-clause-fails : goal.returns-then-is_full_root-clause-fails
+returns-then-is_full_root-clause-fails g c =
+    let e = c.args.expect.now in
+    let old = g.P.Pages.standing c.args.pages.now in
+    let buffer = c.load.new.work.page in
+    let yes_full = c.if-is_full_root.true in
+    subst (λ (s : Stop). Keeps (FailsTree old.count buffer) s) (sym c.full_root.ensures)
+    (root_fails old.count buffer (Page c.args.page e.level e.low e.high 39)
+    (c.requires.page, c.is_full_root.ensures.level yes_full, c.requires.span (c.is_full_root.ensures.root yes_full), refl, c.is_full_root.ensures.full yes_full))
 
 pub returns-clause-adds : goal.returns-clause-adds
 returns-clause-adds g c = λ told.
