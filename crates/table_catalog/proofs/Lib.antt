@@ -1,4 +1,6 @@
 pub mod EntryLaws
 pub mod CatalogLaws
+pub mod CopyLaws
+pub mod FailsLaws
 pub mod TableLaws
 pub mod TouchesLaws

@@ -1,8 +1,9 @@
 use Rattle.line_pages.proofs.StandingLaws.{Continues-trans}
 use Rattle.page_search.proofs.OpenLaws.{then_reads}
-use Rattle.std.proofs.Common.{◌≡◌, ap, IsTrue, IfOk, subst, sym}
+use Rattle.std.proofs.Common.{◌≡◌, ℕ, ap, IsTrue, IfOk, IfErr, subst, sym}
 use Rattle.line_pages.specs.Lines.{Lines}
-use Rattle.table_catalog.specs.Catalog.{entries, place_of}
+use Rattle.slotted_page.specs.Search.{Keeps}
+use Rattle.table_catalog.specs.Catalog.{entries, place_of, FailsCatalog}
 use Rattle.nvm_model.specs.declared.line.Line.{Line}
 use Rattle.page_space.specs.Space.{word}
 use Rattle.table_catalog.proofs.TouchesLaws.{lines_then}
@@ -24,3 +25,7 @@ returns-clause-lines g c = λ told.
 
 pub returns-clause-continues : goal.returns-clause-continues
 returns-clause-continues g c = Continues-trans c.in_ok-header.ensures.continues c.in_ok-header.ensures.steady c.search.ensures.continues
+
+pub returns-clause-fails : goal.returns-clause-fails
+returns-clause-fails g c =
+    subst (λ (n : ℕ). IfErr c.search.result (Keeps (FailsCatalog c.args.limits.now n c.search.new.work.page))) c.in_ok-header.ensures.continues.count c.search.ensures.fails

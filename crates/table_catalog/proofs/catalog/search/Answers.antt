@@ -1,10 +1,11 @@
-use Rattle.std.proofs.Common.{◌≡◌, ◌+◌, ℕ, append-nil, IsTrue, arith, refl, ap, sym, subst, ◌∙◌}
+use Rattle.std.proofs.Common.{◌≡◌, ◌+◌, ℕ, rules, append-nil, IsTrue, arith, refl, ap, sym, subst, ◌∙◌}
 use Rattle.nvm_model.specs.declared.line.Line.{Line}
 use Rattle.line_pages.specs.Lines.{Lines}
 use Rattle.line_pages.proofs.StandingLaws.{Continues-refl, Continues-trans, ReadsPage-refl, ReadsPage-trans}
+use Rattle.slotted_page.specs.Search.{Keeps}
 use Rattle.page_space.specs.Space.{word}
 use Rattle.table_catalog.specs.declared.entry.Entry.{Entry}
-use Rattle.table_catalog.specs.Catalog.{entry_in as entry_of_line, FitsCatalog}
+use Rattle.table_catalog.specs.Catalog.{entry_in as entry_of_line, FitsCatalog, FailsCatalog}
 use Rattle.table_catalog.proofs.CatalogLaws.{place_start, place_step, place_found}
 use Rattle.table_catalog.proofs.TouchesLaws.{touches_step}
 use Rattle.table_catalog.proofs.catalog.search.Goals as goal
@@ -81,3 +82,9 @@ returns-then-has_name-clause-lines g c = touches_step (g.P.Pages.standing c.args
 
 pub returns-in_err-entry-clause-continues : goal.returns-in_err-entry-clause-continues
 returns-in_err-entry-clause-continues g c = Continues-trans c.loop-at.invariant.continues c.loop-at.invariant.steady c.in_err-entry.ensures.continues
+
+pub returns-in_err-entry-clause-fails : goal.returns-in_err-entry-clause-fails
+returns-in_err-entry-clause-fails g c =
+    let here : Keeps (FailsCatalog c.args.limits.now (g.P.Pages.standing c.args.pages.now).count c.read_entry.new.work.page) c.in_err-entry.field-0.0 =
+    subst (λ (n : ℕ). Keeps (FailsCatalog c.args.limits.now n c.read_entry.new.work.page) c.in_err-entry.field-0.0) c.loop-at.invariant.continues.count c.in_err-entry.ensures.fails in
+    search (rules, here)

@@ -1,0 +1,27 @@
+use Rattle.std.proofs.Common.{sym}
+use Rattle.table_catalog.specs.Catalog.{catalog_checks, lines_in}
+use Rattle.table_catalog.proofs.CatalogLaws.{odd_header}
+use Rattle.table_catalog.proofs.FailsLaws.{first_fails}
+use Rattle.table_catalog.proofs.catalog.damaged_header.Goals as goal
+
+pub returns-in-Ok-clause-cause : goal.returns-in-Ok-clause-cause
+returns-in-Ok-clause-cause g c = λ told.
+    let old = g.P.Pages.standing c.args.pages.now in
+    let there = c.requires.header told in
+    record {
+      number = c.args.check;
+      first = odd_header c.args.limits.now old.count old.current c.args.header.now c.args.check there c.requires.fails;
+      shown = c.evidence_of.ensures;
+      bytes = c.in-Ok.ensures.bytes told there;
+    }
+
+pub returns-in-Ok-clause-fails : goal.returns-in-Ok-clause-fails
+returns-in-Ok-clause-fails g c =
+    let count = (g.P.Pages.standing c.args.pages.now).count in
+    let shown = lines_in c.copy_catalog.new.copy in
+    record {
+      number = c.args.check;
+      some = c.requires.some;
+      shown = c.evidence_of.ensures;
+      fails = first_fails (catalog_checks c.args.limits.now count shown) c.args.check (odd_header c.args.limits.now count shown c.args.header.now c.args.check (sym c.in-Ok.ensures.header) c.requires.fails);
+    }
