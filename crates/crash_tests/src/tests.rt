@@ -145,12 +145,7 @@ fn left(alloc: Global, world: &MemWorld, events: u64, choice: Choice) -> Result<
 }
 
 /// What a recovery finds on lines 0 and 5 of page 3 after such a crash.
-fn found(
-    alloc: Global,
-    world: &MemWorld,
-    events: u64,
-    choice: Choice,
-) -> Result<[Line; 2], Fail> {
+fn found(alloc: Global, world: &MemWorld, events: u64, choice: Choice) -> Result<[Line; 2], Fail> {
     let mut again = left(alloc, world, events, choice)?;
     let mut book = opened(alloc, &mut again)?;
     read_two(&mut book, &mut again)
@@ -256,13 +251,14 @@ fn interrupted(alloc: Global, geometry: &Geometry) -> Result<MemWorld, Fail> {
     left(alloc, &world, world.events(), Choice::Newest)
 }
 
-/// Stops a recovery after its first 40 events, its last 8, and those this far apart in between, with each choice of versions. A
-/// second recovery finds what the first one did.
+/// Stops a recovery with this choice of versions: after each of its first 40 events and its last 8, and in between this far
+/// apart. A second recovery finds what the first one did.
 fn recoveries(
     rt: &impl Abort,
     alloc: Global,
     geometry: &Geometry,
     apart: u64,
+    choice: Choice,
 ) -> Result<(), Fail>
     requires { 1 ≤ apart }
 {
@@ -272,24 +268,37 @@ fn recoveries(
     assert!(rt; read_two(&mut book, &mut world)? == lines_of(OLD));
     for events in 0..=last {
         if events < 40 || events % apart == 0 || last - events < 8 {
-            for choice in [Choice::Oldest, Choice::Newest, Choice::Alternating] {
-                let lines = found(alloc, &world, events, choice)?;
-                assert!(rt; lines == lines_of(OLD), "at {events}");
-            }
+            let lines = found(alloc, &world, events, choice)?;
+            assert!(rt; lines == lines_of(OLD), "at {events}");
         }
     }
     Ok(())
 }
 
-/// All moments.
+/// Each of its moments.
 #[test]
-fn a_recovery_of_a_small_store_is_recovered(rt: HostRuntime) -> Result<(), Fail> {
-    recoveries(&rt, rt.alloc(), &small(), 1)
+fn a_recovery_of_a_small_store(rt: HostRuntime) -> Result<(), Fail> {
+    for choice in [Choice::Oldest, Choice::Newest, Choice::Alternating] {
+        recoveries(&rt, rt.alloc(), &small(), 1, choice)?;
+    }
+    Ok(())
 }
 
-/// A sample of moments, since there are 16,000 of a thousandth of a second and more each: the reading of the log, its replay, the
-/// end, and 16 within the flushes of all lines.
+/// A sample of its 15,000 moments, since each costs a recovery more: those while the log is read and replayed, those at the end,
+/// and each thousandth while all lines are flushed.
 #[test]
-fn a_recovery_of_a_large_store_is_recovered(rt: HostRuntime) -> Result<(), Fail> {
-    recoveries(&rt, rt.alloc(), &large(), 1021)
+fn a_recovery_that_leaves_the_oldest_versions(rt: HostRuntime) -> Result<(), Fail> {
+    recoveries(&rt, rt.alloc(), &large(), 1000, Choice::Oldest)
+}
+
+/// The same sample.
+#[test]
+fn a_recovery_that_leaves_the_newest_versions(rt: HostRuntime) -> Result<(), Fail> {
+    recoveries(&rt, rt.alloc(), &large(), 1000, Choice::Newest)
+}
+
+/// The same sample.
+#[test]
+fn a_recovery_that_leaves_old_and_new_versions(rt: HostRuntime) -> Result<(), Fail> {
+    recoveries(&rt, rt.alloc(), &large(), 1000, Choice::Alternating)
 }
