@@ -1,7 +1,7 @@
 -- The entry in a line of the catalog.
-use Rattle.std.proofs.Common.{◌≡◌, ℕ, zero, suc, ◌+◌, ◌-◌, ◌≤◌, List, [], ◌∷◌, ◌++◌, append-nil, take-add, drop-drop, take_all, length, take, drop, refl, sym, ap, ◌∙◌, arith}
+use Rattle.std.proofs.Common.{◌≡◌, ℕ, zero, suc, ◌+◌, ◌-◌, List, [], ◌∷◌, ◌++◌, length, take, drop, refl, ap, ◌∙◌, arith}
 use Rattle.std.proofs.lemmas.List.{drop-replicate, take-replicate, take_at}
-use Rattle.std.specs.Prelude.{true, replicate, nat_le, ◌&&◌, slice_index, slice_range}
+use Rattle.std.specs.Prelude.{true, replicate, nat_le, ◌&&◌}
 use Rattle.std.specs.List.{list_all}
 use Rattle.std.proofs.lemmas.Bool.{and_parts, and_from}
 use borrow.Rule.Slice.PartMut.{post_of}

@@ -1,3 +1,4 @@
+pub mod FailsLaws
 pub mod EntryLaws
 pub mod LookupLaws
 pub mod FrameLaws

@@ -2,13 +2,14 @@
 ghost use Rattle.std.specs.Prelude.{◌≡◌, ◌+◌, ◌*◌, ◌/◌, ◌<◌, ◌≤◌, None, IsTrue, OnOk, IfOk, IfErr, IfSome};
 ghost use Rattle.line_pages.specs.Lines.{with_line};
 ghost use Rattle.line_pages.specs.Standing.{Continues, HasCause, Never, ReadsPage};
-ghost use Rattle.page_space.specs.Space.{with_word, take_checks, IsSpaceDamage};
+ghost use Rattle.slotted_page.specs.Search.{Keeps};
+ghost use Rattle.page_space.specs.Space.{with_word, take_checks, IsSpaceDamage, FailsSpace};
 ghost use Rattle.page_space.specs.Moves.{Takes};
 ghost use Rattle.page_space.specs.Stops.{IsFault};
 ghost use Rattle.table_catalog.specs.Names.{is_name};
-ghost use Rattle.table_catalog.specs.Catalog.{entry_in as entry_of_line, entries, table_count, place_of, IsCatalogDamage};
+ghost use Rattle.table_catalog.specs.Catalog.{entry_in as entry_of_line, entries, table_count, place_of, IsCatalogDamage, FailsCatalog};
 ghost use Rattle.table_catalog.specs.Stored.{IsStore};
-ghost use Rattle.table_store.specs.Created.{field_of as field_of_name, new_entry, Written, Makes, IsCreated, KeepsUnlessMade, IsSlot, IsCreateDamage};
+ghost use Rattle.table_store.specs.Created.{field_of as field_of_name, new_entry, Written, Makes, IsCreated, KeepsUnlessMade, IsSlot, IsCreateDamage, FailsCreate};
 
 use crate::answer::Created;
 use line_pages::{Pages, Stop};
@@ -97,6 +98,7 @@ fn take_one<P: Pages>(pages: &mut P, _limits: &Limits, work: &mut Work) -> Resul
     ensures room { OnOk result ((P.standing pages.new).room + 1 ≡ (P.standing pages.old).room) }
     ensures sound { IsTrue (P.standing pages.old).told → IsStore _limits.now (P.standing pages.old).count (P.standing pages.old).current → table_count (P.standing pages.old).current < _limits.now.tables → 1 + _limits.now.tables * (_limits.now.rows / 2 + 8) ≤ (P.standing pages.old).count → IfErr result IsFault }
     ensures cause { HasCause (λ e. IsTrue (P.standing pages.old).told → IsSpaceDamage (take_checks (P.standing pages.old).count (P.standing pages.old).current) (P.standing pages.old).current work.new.page e) (P.standing pages.old) (P.standing pages.new) result }
+    ensures fails { IfErr result (Keeps (FailsSpace (P.standing pages.old).count work.new.page)) }
     ensures continues { Continues (P.may_leave pages.old) (P.may_leave pages.new) (P.is_steady pages.old) (P.standing pages.old) (P.standing pages.new) }
     ensures few { (P.standing pages.new).visits ≤ (P.standing pages.old).visits + 4 }
     ensures ready { OnOk result (P.is_ready pages.new) }
@@ -119,6 +121,7 @@ fn add_table<P: Pages>(
     ensures makes { IsTrue (P.standing pages.old).told → at ≡ table_count (P.standing pages.old).current → place_of name.now 0 (entries (P.standing pages.old).current) ≡ None → IsStore limits.now (P.standing pages.old).count (P.standing pages.old).current → OnOk result (Makes limits.now (P.standing pages.old).count (P.standing pages.old).current (P.standing pages.new).current name.now) }
     ensures sound { IsTrue (P.standing pages.old).told → at ≡ table_count (P.standing pages.old).current → IsStore limits.now (P.standing pages.old).count (P.standing pages.old).current → 1 + limits.now.tables * (limits.now.rows / 2 + 8) ≤ (P.standing pages.old).count → IfErr result IsFault }
     ensures cause { HasCause (λ e. IsTrue (P.standing pages.old).told → IsSpaceDamage (take_checks (P.standing pages.old).count (P.standing pages.old).current) (P.standing pages.old).current work.new.page e) (P.standing pages.old) (P.standing pages.new) result }
+    ensures fails { IfErr result (Keeps (FailsSpace (P.standing pages.old).count work.new.page)) }
     ensures continues { Continues (P.may_leave pages.old) (P.may_leave pages.new) (P.is_steady pages.old) (P.standing pages.old) (P.standing pages.new) }
     ensures room { OnOk result ((P.standing pages.old).room ≤ (P.standing pages.new).room + 4) }
     ensures few { (P.standing pages.new).visits ≤ (P.standing pages.old).visits + 8 }
@@ -142,6 +145,7 @@ fn find_slot<P: Pages>(
     ensures at { IfOk result (λ slot. IfSome slot (λ at. at ≤ limits.now.tables)) }
     ensures sound { IsTrue (P.standing pages.old).told → IsStore limits.now (P.standing pages.old).count (P.standing pages.old).current → IfErr result IsFault }
     ensures cause { HasCause (λ e. IsTrue (P.standing pages.old).told → IsCatalogDamage limits.now (P.standing pages.old).count (P.standing pages.old).current work.new.page e) (P.standing pages.old) (P.standing pages.new) result }
+    ensures fails { IfErr result (Keeps (FailsCatalog limits.now (P.standing pages.old).count work.new.page)) }
     ensures continues { Continues (P.may_leave pages.old) (P.may_leave pages.new) (P.is_steady pages.old) (P.standing pages.old) (P.standing pages.new) }
     ensures reads { OnOk result (ReadsPage 0 (P.standing pages.old) (P.standing pages.new)) }
     ensures few { (P.standing pages.new).visits ≤ (P.standing pages.old).visits + 1 }
@@ -169,6 +173,7 @@ fn create_at<P: Pages>(
     ensures created { IsTrue (P.standing pages.old).told → at ≡ table_count (P.standing pages.old).current → place_of name.now 0 (entries (P.standing pages.old).current) ≡ None → IsStore limits.now (P.standing pages.old).count (P.standing pages.old).current → IfOk result (IsCreated limits.now (P.standing pages.old).count (P.standing pages.old).current (P.standing pages.new).current name.now) }
     ensures sound { IsTrue (P.standing pages.old).told → at ≡ table_count (P.standing pages.old).current → IsStore limits.now (P.standing pages.old).count (P.standing pages.old).current → 1 + limits.now.tables * (limits.now.rows / 2 + 8) ≤ (P.standing pages.old).count → IfErr result IsFault }
     ensures cause { HasCause (λ e. IsTrue (P.standing pages.old).told → IsSpaceDamage (take_checks (P.standing pages.old).count (P.standing pages.old).current) (P.standing pages.old).current work.new.page e) (P.standing pages.old) (P.standing pages.new) result }
+    ensures fails { IfErr result (Keeps (FailsSpace (P.standing pages.old).count work.new.page)) }
     ensures keeps { IfOk result (KeepsUnlessMade (P.standing pages.old) (P.standing pages.new)) }
     ensures continues { Continues (P.may_leave pages.old) (P.may_leave pages.new) (P.is_steady pages.old) (P.standing pages.old) (P.standing pages.new) }
     ensures room { OnOk result ((P.standing pages.old).room ≤ (P.standing pages.new).room + 4) }
@@ -199,6 +204,7 @@ pub fn create<P: Pages>(
     // why it stops
     ensures sound { IsTrue (P.standing pages.old).told → IsStore limits.now (P.standing pages.old).count (P.standing pages.old).current → 1 + limits.now.tables * (limits.now.rows / 2 + 8) ≤ (P.standing pages.old).count → IfErr result IsFault }
     ensures cause { HasCause (λ e. IsTrue (P.standing pages.old).told → IsCreateDamage limits.now (P.standing pages.old).count (P.standing pages.old).current work.new.page e) (P.standing pages.old) (P.standing pages.new) result }
+    ensures fails { IfErr result (Keeps (FailsCreate limits.now (P.standing pages.old).count work.new.page)) }
     // what stays
     ensures continues { Continues (P.may_leave pages.old) (P.may_leave pages.new) (P.is_steady pages.old) (P.standing pages.old) (P.standing pages.new) }
     ensures room { OnOk result ((P.standing pages.old).room ≤ (P.standing pages.new).room + 4) }

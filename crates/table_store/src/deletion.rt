@@ -2,12 +2,13 @@
 ghost use Rattle.std.specs.Prelude.{◌≡◌, ◌+◌, ◌-◌, ◌≤◌, ℕ, List, Some, true, false, not, is_some, IsTrue, OnOk, IfOk, IfErr};
 ghost use Rattle.line_pages.specs.Standing.{Continues, HasCause};
 ghost use Rattle.slotted_page.specs.Rows.{row_get, row_delete};
+ghost use Rattle.slotted_page.specs.Search.{Keeps};
 ghost use Rattle.page_space.specs.Stops.{IsFault};
-ghost use Rattle.bplus_tree.specs.Damage.{IsTreeDamage};
+ghost use Rattle.bplus_tree.specs.Damage.{IsTreeDamage, FailsTree};
 ghost use Rattle.table_catalog.specs.declared.entry.Place.{Place};
 ghost use Rattle.table_catalog.specs.Catalog.{entry_in as entry_of_line, entries, tables, place_of, entry_rows, FitsRoot};
 ghost use Rattle.table_catalog.specs.Stored.{is_known, rows_of, IsStore};
-ghost use Rattle.table_store.specs.Changed.{ChangesTable, IsChangeDamage};
+ghost use Rattle.table_store.specs.Changed.{ChangesTable, IsChangeDamage, FailsChange};
 ghost use Rattle.table_store.specs.Deleting.{deleted_of, is_no_table, DeletesIfDone, CountsIfDone, KeepsUnlessDone};
 
 use crate::answer::Deleted;
@@ -32,6 +33,7 @@ fn remove_row<P: Pages>(
     ensures counted { IsTrue (P.standing pages.old).told → OnOk result ((entry_of_line ((P.standing pages.new).current 0 (2 + place.now.at))).rows ≡ place.now.entry.rows - 1) }
     ensures sound { IsTrue (P.standing pages.old).told → (name : List ℕ) → IsStore limits.now (P.standing pages.old).count (P.standing pages.old).current → place_of name 0 (entries (P.standing pages.old).current) ≡ Some place.now → IfErr result IsFault }
     ensures cause { HasCause (IsTreeDamage (P.standing pages.old).told (P.standing pages.old).count work.new.page) (P.standing pages.old) (P.standing pages.new) result }
+    ensures fails { IfErr result (Keeps (FailsTree (P.standing pages.old).count work.new.page)) }
     ensures continues { Continues (P.may_leave pages.old) (P.may_leave pages.new) (P.is_steady pages.old) (P.standing pages.old) (P.standing pages.new) }
     ensures room { OnOk result ((P.standing pages.old).room ≤ (P.standing pages.new).room + 601) }
     ensures few { (P.standing pages.new).visits ≤ (P.standing pages.old).visits + 53 }
@@ -62,6 +64,7 @@ fn delete_at<P: Pages>(
     ensures keeps { IfOk result (KeepsUnlessDone (P.standing pages.old) (P.standing pages.new)) }
     ensures sound { IsTrue (P.standing pages.old).told → (name : List ℕ) → IsStore limits.now (P.standing pages.old).count (P.standing pages.old).current → place_of name 0 (entries (P.standing pages.old).current) ≡ Some place.now → IfErr result IsFault }
     ensures cause { HasCause (IsTreeDamage (P.standing pages.old).told (P.standing pages.old).count work.new.page) (P.standing pages.old) (P.standing pages.new) result }
+    ensures fails { IfErr result (Keeps (FailsTree (P.standing pages.old).count work.new.page)) }
     ensures continues { Continues (P.may_leave pages.old) (P.may_leave pages.new) (P.is_steady pages.old) (P.standing pages.old) (P.standing pages.new) }
     ensures room { OnOk result ((P.standing pages.old).room ≤ (P.standing pages.new).room + 601) }
     ensures few { (P.standing pages.new).visits ≤ (P.standing pages.old).visits + 57 }
@@ -96,6 +99,7 @@ pub fn delete<P: Pages>(
     // why it stops
     ensures sound { IsTrue (P.standing pages.old).told → IsStore limits.now (P.standing pages.old).count (P.standing pages.old).current → IfErr result IsFault }
     ensures cause { HasCause (IsChangeDamage (P.standing pages.old).told limits.now (P.standing pages.old).count (P.standing pages.old).current work.new.page) (P.standing pages.old) (P.standing pages.new) result }
+    ensures fails { IfErr result (Keeps (FailsChange limits.now (P.standing pages.old).count work.new.page)) }
     // what stays
     ensures continues { Continues (P.may_leave pages.old) (P.may_leave pages.new) (P.is_steady pages.old) (P.standing pages.old) (P.standing pages.new) }
     ensures room { OnOk result ((P.standing pages.old).room ≤ (P.standing pages.new).room + 601) }

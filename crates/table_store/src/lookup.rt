@@ -3,13 +3,13 @@ ghost use Rattle.std.specs.Prelude.{◌≡◌, ◌+◌, ◌∷◌, ◌++◌, ◌
 ghost use Rattle.line_pages.specs.Touch.{Touch, begins, touch_of};
 ghost use Rattle.line_pages.specs.Standing.{Continues, HasCause, KeepsLines, AddsReads};
 ghost use Rattle.slotted_page.specs.Rows.{Row, row_get};
-ghost use Rattle.slotted_page.specs.Search.{IsNodeDamage};
+ghost use Rattle.slotted_page.specs.Search.{IsNodeDamage, FailsNode, Keeps};
 ghost use Rattle.tree_search.specs.Tree.{IsRooted};
 ghost use Rattle.page_space.specs.Stops.{IsFault};
 ghost use Rattle.tree_search.specs.Way.{IsPath};
 ghost use Rattle.table_catalog.specs.Catalog.{entries, tables, place_of};
 ghost use Rattle.table_catalog.specs.Stored.{rows_of, is_known, IsStore};
-ghost use Rattle.table_store.specs.Getting.{is_no_table, found_value, got_of, place_levels, IsLookup, IsLookupDamage};
+ghost use Rattle.table_store.specs.Getting.{is_no_table, found_value, got_of, place_levels, IsLookup, IsLookupDamage, FailsLookup};
 
 use crate::answer::Got;
 use line_pages::{Pages, Stop};
@@ -28,6 +28,7 @@ fn get_in<P: Pages>(pages: &mut P, root: &Root, key: u64, work: &mut Work) -> Re
     ensures named { IfOk result (λ got. is_no_table got ≡ false) }
     ensures sound { IsTrue (P.standing pages.old).told → (rows : List Row) (used : List ℕ) → IsRooted (P.standing pages.old).count (P.standing pages.old).current root.now rows used → IfErr result IsFault }
     ensures cause { HasCause (λ e. IsTrue (P.standing pages.old).told → IsNodeDamage (P.standing pages.old).count (P.standing pages.old).current work.new.page e) (P.standing pages.old) (P.standing pages.new) result }
+    ensures fails { IfErr result (Keeps (FailsNode (P.standing pages.old).count work.new.page)) }
     ensures way { IsTrue (P.standing pages.old).told → begins (P.standing pages.old).access root.now.page false ≡ true → OnOk result (AddsReads (IsPath (P.standing pages.old).count (P.standing pages.old).current root.now key) (P.standing pages.old) (P.standing pages.new)) }
     ensures visits { IsTrue (P.standing pages.old).told → begins (P.standing pages.old).access root.now.page false ≡ true → OnOk result ((P.standing pages.new).visits ≡ (P.standing pages.old).visits + root.now.levels) }
     ensures continues { Continues (P.may_leave pages.old) (P.may_leave pages.new) (P.is_steady pages.old) (P.standing pages.old) (P.standing pages.new) }
@@ -58,6 +59,7 @@ pub fn get<P: Pages>(
     // why it stops
     ensures sound { IsTrue (P.standing pages.old).told → IsStore limits.now (P.standing pages.old).count (P.standing pages.old).current → IfErr result IsFault }
     ensures cause { HasCause (λ e. IsTrue (P.standing pages.old).told → IsLookupDamage limits.now (P.standing pages.old).count (P.standing pages.old).current work.new.page e) (P.standing pages.old) (P.standing pages.new) result }
+    ensures fails { IfErr result (Keeps (FailsLookup limits.now (P.standing pages.old).count work.new.page)) }
     // what is read
     ensures way { IsTrue (P.standing pages.old).told → (P.standing pages.old).access ≡ None → OnOk result (AddsReads (IsLookup limits.now (P.standing pages.old).count (P.standing pages.old).current name.now key) (P.standing pages.old) (P.standing pages.new)) }
     ensures visits { IsTrue (P.standing pages.old).told → (P.standing pages.old).access ≡ None → OnOk result ((P.standing pages.new).visits ≡ (P.standing pages.old).visits + 1 + place_levels (place_of name.now 0 (entries (P.standing pages.old).current))) }

@@ -2,9 +2,10 @@
 ghost use Rattle.std.specs.Prelude.{◌≡◌, ◌+◌, ◌<◌, ◌≤◌, ℕ, List, is_some, IsTrue, OnOk, IfOk, IfErr};
 ghost use Rattle.line_pages.specs.Standing.{Continues, HasCause, KeepsLines, Never};
 ghost use Rattle.slotted_page.specs.Rows.{Row, row_get};
+ghost use Rattle.slotted_page.specs.Search.{Keeps};
 ghost use Rattle.tree_search.specs.Tree.{IsRooted};
 ghost use Rattle.page_space.specs.Stops.{IsFault};
-ghost use Rattle.bplus_tree.specs.Damage.{IsTreeDamage};
+ghost use Rattle.bplus_tree.specs.Damage.{IsTreeDamage, FailsTree};
 ghost use Rattle.table_catalog.specs.Catalog.{FitsRoot};
 ghost use Rattle.table_store.specs.Changed.{root_at, Enters};
 
@@ -26,6 +27,7 @@ fn value_at<P: Pages>(
     ensures value { IsTrue (P.standing pages.old).told → (rows : List Row) (used : List ℕ) → IsRooted (P.standing pages.old).count (P.standing pages.old).current (root_at place.now) rows used → IfOk result (λ value. value ≡ row_get key rows) }
     ensures sound { IsTrue (P.standing pages.old).told → (rows : List Row) (used : List ℕ) → IsRooted (P.standing pages.old).count (P.standing pages.old).current (root_at place.now) rows used → IfErr result IsFault }
     ensures cause { HasCause (IsTreeDamage (P.standing pages.old).told (P.standing pages.old).count work.new.page) (P.standing pages.old) (P.standing pages.new) result }
+    ensures fails { IfErr result (Keeps (FailsTree (P.standing pages.old).count work.new.page)) }
     ensures continues { Continues (P.may_leave pages.old) (P.may_leave pages.new) (P.is_steady pages.old) (P.standing pages.old) (P.standing pages.new) }
     ensures keeps { OnOk result (KeepsLines (P.standing pages.old) (P.standing pages.new)) }
     ensures few { (P.standing pages.new).visits ≤ (P.standing pages.old).visits + 4 }
@@ -49,6 +51,7 @@ pub(crate) fn has_row<P: Pages>(
     ensures found { IsTrue (P.standing pages.old).told → (rows : List Row) (used : List ℕ) → IsRooted (P.standing pages.old).count (P.standing pages.old).current (root_at place.now) rows used → IfOk result (λ found. found ≡ is_some (row_get key rows)) }
     ensures sound { IsTrue (P.standing pages.old).told → (rows : List Row) (used : List ℕ) → IsRooted (P.standing pages.old).count (P.standing pages.old).current (root_at place.now) rows used → IfErr result IsFault }
     ensures cause { HasCause (IsTreeDamage (P.standing pages.old).told (P.standing pages.old).count work.new.page) (P.standing pages.old) (P.standing pages.new) result }
+    ensures fails { IfErr result (Keeps (FailsTree (P.standing pages.old).count work.new.page)) }
     ensures continues { Continues (P.may_leave pages.old) (P.may_leave pages.new) (P.is_steady pages.old) (P.standing pages.old) (P.standing pages.new) }
     ensures keeps { OnOk result (KeepsLines (P.standing pages.old) (P.standing pages.new)) }
     ensures few { (P.standing pages.new).visits ≤ (P.standing pages.old).visits + 4 }

@@ -3,13 +3,13 @@ ghost use Rattle.std.specs.Prelude.{◌≡◌, ◌+◌, ◌∷◌, ◌++◌, ◌
 ghost use Rattle.line_pages.specs.Touch.{Touch, touch_of};
 ghost use Rattle.line_pages.specs.Standing.{Continues, HasCause, KeepsLines, AddsReads};
 ghost use Rattle.slotted_page.specs.Rows.{Row, row_next};
-ghost use Rattle.slotted_page.specs.Search.{IsNodeDamage};
+ghost use Rattle.slotted_page.specs.Search.{IsNodeDamage, FailsNode, Keeps};
 ghost use Rattle.tree_search.specs.Tree.{IsRooted};
 ghost use Rattle.tree_search.specs.Way.{AreReadsIn};
 ghost use Rattle.page_space.specs.Stops.{IsFault};
 ghost use Rattle.table_catalog.specs.Catalog.{tables};
 ghost use Rattle.table_catalog.specs.Stored.{rows_of, is_known, IsStore};
-ghost use Rattle.table_store.specs.Getting.{IsLookupDamage};
+ghost use Rattle.table_store.specs.Getting.{IsLookupDamage, FailsLookup};
 ghost use Rattle.table_store.specs.Scanning.{row_up_to, next_of, is_no_table, IsScan};
 
 use crate::answer::Next;
@@ -36,6 +36,7 @@ fn next_in<P: Pages>(
     ensures named { IfOk result (λ next. is_no_table next ≡ false) }
     ensures sound { IsTrue (P.standing pages.old).told → (rows : List Row) (used : List ℕ) → IsRooted (P.standing pages.old).count (P.standing pages.old).current root.now rows used → IfErr result IsFault }
     ensures cause { HasCause (λ e. IsTrue (P.standing pages.old).told → IsNodeDamage (P.standing pages.old).count (P.standing pages.old).current work.new.page e) (P.standing pages.old) (P.standing pages.new) result }
+    ensures fails { IfErr result (Keeps (FailsNode (P.standing pages.old).count work.new.page)) }
     ensures continues { Continues (P.may_leave pages.old) (P.may_leave pages.new) (P.is_steady pages.old) (P.standing pages.old) (P.standing pages.new) }
     ensures keeps { OnOk result (KeepsLines (P.standing pages.old) (P.standing pages.new)) }
     ensures few { (P.standing pages.new).visits ≤ (P.standing pages.old).visits + 22 }
@@ -71,6 +72,7 @@ pub fn scan_next<P: Pages>(
     // why it stops
     ensures sound { IsTrue (P.standing pages.old).told → IsStore limits.now (P.standing pages.old).count (P.standing pages.old).current → IfErr result IsFault }
     ensures cause { HasCause (λ e. IsTrue (P.standing pages.old).told → IsLookupDamage limits.now (P.standing pages.old).count (P.standing pages.old).current work.new.page e) (P.standing pages.old) (P.standing pages.new) result }
+    ensures fails { IfErr result (Keeps (FailsLookup limits.now (P.standing pages.old).count work.new.page)) }
     // what is read, and what stays
     ensures touches { IsTrue (P.standing pages.old).told → (P.standing pages.old).access ≡ None → IsStore limits.now (P.standing pages.old).count (P.standing pages.old).current → OnOk result (AddsReads (IsScan (P.standing pages.old).current name.now) (P.standing pages.old) (P.standing pages.new)) }
     ensures first { IsTrue (P.standing pages.old).told → OnOk result ((rest : List Touch) × ((P.standing pages.new).touches ≡ (P.standing pages.old).touches ++ touch_of (P.standing pages.old).access 0 0 false ∷ rest)) }

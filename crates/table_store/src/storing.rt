@@ -2,11 +2,12 @@
 ghost use Rattle.std.specs.Prelude.{◌≡◌, ◌+◌, ◌*◌, ◌/◌, ◌≤◌, ℕ, List, Some, false, not, is_some, IsTrue, OnOk, IfOk, IfErr, if◌then◌else◌};
 ghost use Rattle.line_pages.specs.Standing.{Continues, HasCause};
 ghost use Rattle.slotted_page.specs.Rows.{row_get, row_put};
+ghost use Rattle.slotted_page.specs.Search.{Keeps};
 ghost use Rattle.page_space.specs.Stops.{IsFault};
-ghost use Rattle.bplus_tree.specs.Damage.{IsTreeDamage};
+ghost use Rattle.bplus_tree.specs.Damage.{IsTreeDamage, FailsTree};
 ghost use Rattle.table_catalog.specs.Catalog.{entries, tables, place_of, entry_rows, FitsRoot};
 ghost use Rattle.table_catalog.specs.Stored.{is_known, rows_of, IsStore};
-ghost use Rattle.table_store.specs.Changed.{ChangesTable, IsChangeDamage};
+ghost use Rattle.table_store.specs.Changed.{ChangesTable, IsChangeDamage, FailsChange};
 ghost use Rattle.table_store.specs.Putting.{stored_of, is_no_table, PutsIfDone, KeepsUnlessDone};
 
 use crate::answer::Stored;
@@ -41,6 +42,7 @@ fn store_row<P: Pages>(
     ensures changed { IsTrue (P.standing pages.old).told → (name : List ℕ) → IsStore limits.now (P.standing pages.old).count (P.standing pages.old).current → place_of name 0 (entries (P.standing pages.old).current) ≡ Some place.now → found ≡ is_some (row_get key (entry_rows (P.standing pages.old).current place.now.entry)) → OnOk result (ChangesTable limits.now (P.standing pages.old).count (P.standing pages.old).current (P.standing pages.new).current name (row_put key value.now)) }
     ensures sound { IsTrue (P.standing pages.old).told → (name : List ℕ) → IsStore limits.now (P.standing pages.old).count (P.standing pages.old).current → place_of name 0 (entries (P.standing pages.old).current) ≡ Some place.now → found ≡ is_some (row_get key (entry_rows (P.standing pages.old).current place.now.entry)) → 1 + limits.now.tables * (limits.now.rows / 2 + 8) ≤ (P.standing pages.old).count → IfErr result IsFault }
     ensures cause { HasCause (IsTreeDamage (P.standing pages.old).told (P.standing pages.old).count work.new.page) (P.standing pages.old) (P.standing pages.new) result }
+    ensures fails { IfErr result (Keeps (FailsTree (P.standing pages.old).count work.new.page)) }
     ensures continues { Continues (P.may_leave pages.old) (P.may_leave pages.new) (P.is_steady pages.old) (P.standing pages.old) (P.standing pages.new) }
     ensures room { OnOk result ((P.standing pages.old).room ≤ (P.standing pages.new).room + 601) }
     ensures few { (P.standing pages.new).visits ≤ (P.standing pages.old).visits + 59 }
@@ -71,6 +73,7 @@ fn put_at<P: Pages>(
     ensures keeps { IfOk result (KeepsUnlessDone (P.standing pages.old) (P.standing pages.new)) }
     ensures sound { IsTrue (P.standing pages.old).told → (name : List ℕ) → IsStore limits.now (P.standing pages.old).count (P.standing pages.old).current → place_of name 0 (entries (P.standing pages.old).current) ≡ Some place.now → 1 + limits.now.tables * (limits.now.rows / 2 + 8) ≤ (P.standing pages.old).count → IfErr result IsFault }
     ensures cause { HasCause (IsTreeDamage (P.standing pages.old).told (P.standing pages.old).count work.new.page) (P.standing pages.old) (P.standing pages.new) result }
+    ensures fails { IfErr result (Keeps (FailsTree (P.standing pages.old).count work.new.page)) }
     ensures continues { Continues (P.may_leave pages.old) (P.may_leave pages.new) (P.is_steady pages.old) (P.standing pages.old) (P.standing pages.new) }
     ensures room { OnOk result ((P.standing pages.old).room ≤ (P.standing pages.new).room + 601) }
     ensures few { (P.standing pages.new).visits ≤ (P.standing pages.old).visits + 63 }
@@ -106,6 +109,7 @@ pub fn put<P: Pages>(
     // why it stops
     ensures sound { IsTrue (P.standing pages.old).told → IsStore limits.now (P.standing pages.old).count (P.standing pages.old).current → 1 + limits.now.tables * (limits.now.rows / 2 + 8) ≤ (P.standing pages.old).count → IfErr result IsFault }
     ensures cause { HasCause (IsChangeDamage (P.standing pages.old).told limits.now (P.standing pages.old).count (P.standing pages.old).current work.new.page) (P.standing pages.old) (P.standing pages.new) result }
+    ensures fails { IfErr result (Keeps (FailsChange limits.now (P.standing pages.old).count work.new.page)) }
     // what stays
     ensures continues { Continues (P.may_leave pages.old) (P.may_leave pages.new) (P.is_steady pages.old) (P.standing pages.old) (P.standing pages.new) }
     ensures room { OnOk result ((P.standing pages.old).room ≤ (P.standing pages.new).room + 601) }

@@ -1,6 +1,8 @@
 use Rattle.std.proofs.Common.{IsTrue, sym, subst}
 use Rattle.line_pages.proofs.StandingLaws.{Continues-trans}
 use Rattle.table_store.proofs.CreateLaws.{makes_by}
+use Rattle.page_space.specs.Space.{FailsSpace}
+use Rattle.table_catalog.proofs.FailsLaws.{never_keeps}
 use Rattle.table_store.proofs.creation.add_table.Goals as goal
 
 pub returns-clause-makes : goal.returns-clause-makes
@@ -13,3 +15,6 @@ returns-clause-makes g c = λ told.
 
 pub returns-clause-continues : goal.returns-clause-continues
 returns-clause-continues g c = Continues-trans c.in_ok-page.ensures.continues c.in_ok-page.ensures.steady c.write_table.ensures.continues
+
+pub returns-clause-fails : goal.returns-clause-fails
+returns-clause-fails g c = never_keeps (FailsSpace (g.P.Pages.standing c.args.pages.now).count c.take_one.new.work.page) c.write_table.result c.write_table.ensures.cause

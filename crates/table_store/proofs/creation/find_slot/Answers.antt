@@ -1,8 +1,9 @@
 use Rattle.line_pages.proofs.StandingLaws.{Continues-trans, ReadsPage-trans}
-use Rattle.std.proofs.Common.{ap, sym, subst, IsTrue, ◌∙◌}
+use Rattle.std.proofs.Common.{ℕ, rules, ap, sym, subst, IsTrue, ◌∙◌}
 use Rattle.line_pages.specs.Lines.{Lines}
-use Rattle.table_catalog.specs.Catalog.{entries, place_of}
+use Rattle.table_catalog.specs.Catalog.{entries, place_of, FailsCatalog}
 use Rattle.table_store.proofs.CreateLaws.{present_is}
+use Rattle.slotted_page.specs.Search.{Keeps}
 use Rattle.table_store.proofs.creation.find_slot.Goals as goal
 
 pub returns-in-Some-clause-reads : goal.returns-in-Some-clause-reads
@@ -26,3 +27,9 @@ returns-in-Some-clause-slot g c = λ told.
     let header = c.in_ok-header.ensures in
     present_is c.args.name.now old.current c.in-Some.field-0
     (sym (c.in_ok-search.ensures.place (subst IsTrue (sym header.continues.told) told) ∙ ap (λ (all : Lines). place_of c.args.name.now 0 (entries all)) (header.reads.current told)) ∙ c.in-Some.is)
+
+pub returns-in_err-search-clause-fails : goal.returns-in_err-search-clause-fails
+returns-in_err-search-clause-fails g c =
+    let here : Keeps (FailsCatalog c.args.limits.now (g.P.Pages.standing c.args.pages.now).count c.search.new.work.page) c.in_err-search.field-0.0 =
+    subst (λ (n : ℕ). Keeps (FailsCatalog c.args.limits.now n c.search.new.work.page) c.in_err-search.field-0.0) c.in_ok-header.ensures.continues.count c.in_err-search.ensures.fails in
+    search (rules, here)

@@ -6,6 +6,8 @@ use Rattle.table_store.specs.Changed.{ChangesTable}
 use Rattle.line_pages.specs.declared.stop.Stop.{Stop}
 use Rattle.page_space.specs.Stops.{IsFault}
 use Rattle.table_store.proofs.RowsLaws.{place_rooted, as_before, is_deleted, is_absent}
+use Rattle.slotted_page.specs.Search.{Keeps}
+use Rattle.bplus_tree.specs.Damage.{FailsTree}
 use Rattle.table_store.proofs.deletion.delete_at.Goals as goal
 
 pub returns-then-not-found-clause-answer : goal.returns-then-not-found-clause-answer
@@ -53,4 +55,10 @@ returns-in_err-remove_row-clause-sound g c = λ told name store is.
     as_before (λ n all. (name : List ℕ) → IsStore c.args.limits.now n all → place_of name 0 (entries all) ≡ Some place → IfErr c.remove_row.result IsFault)
     old.count now.count old.current now.current found.continues.count (found.keeps.current told) (c.remove_row.ensures.sound (subst IsTrue (sym found.continues.told) told)) name store is in
     let here : IsFault c.in_err-remove_row.field-0.0 = subst (λ (r : Result (Unit {0}) Stop). IfErr r IsFault) c.in_err-remove_row.was fault in
+    search (rules, here)
+
+pub returns-in_err-remove_row-clause-fails : goal.returns-in_err-remove_row-clause-fails
+returns-in_err-remove_row-clause-fails g c =
+    let here : Keeps (FailsTree (g.P.Pages.standing c.args.pages.now).count c.remove_row.new.work.page) c.in_err-remove_row.field-0.0 =
+    subst (λ (n : ℕ). Keeps (FailsTree n c.remove_row.new.work.page) c.in_err-remove_row.field-0.0) c.in_ok-found.ensures.continues.count c.in_err-remove_row.ensures.fails in
     search (rules, here)

@@ -5,6 +5,8 @@ use Rattle.slotted_page.specs.Rows.{row_delete}
 use Rattle.page_space.specs.Stops.{IsFault}
 use Rattle.table_catalog.specs.Catalog.{entry_in, entry_rows, entry_pages}
 use Rattle.table_store.proofs.RowsLaws.{stands_in, stepped_by, rows_deleted, counted_by}
+use Rattle.bplus_tree.specs.Damage.{FailsTree}
+use Rattle.table_catalog.proofs.FailsLaws.{never_keeps}
 use Rattle.table_store.proofs.deletion.remove_row.Goals as goal
 
 pub returns-clause-changed : goal.returns-clause-changed
@@ -37,3 +39,6 @@ returns-in_err-delete_row-clause-sound g c = λ told name store is.
     let fault : IfErr c.delete_row.result IsFault = stops (entry_rows old.current place.entry) (entry_pages old.current place.entry) store.free (stands_in c.args.limits.now old.count old.current store name place is c.requires.fits) in
     let here : IsFault c.in_err-delete_row.field-0.0 = subst (λ (r : Result (Unit {0}) Stop). IfErr r IsFault) c.in_err-delete_row.was fault in
     search (rules, here)
+
+pub returns-clause-fails : goal.returns-clause-fails
+returns-clause-fails g c = never_keeps (FailsTree (g.P.Pages.standing c.args.pages.now).count c.delete_row.new.work.page) c.write_place.result c.write_place.ensures.cause

@@ -1,10 +1,12 @@
-use Rattle.std.proofs.Common.{not, ap, refl, IsTrue, sym, subst, ◌∙◌}
+use Rattle.std.proofs.Common.{rules, not, ap, refl, IsTrue, sym, subst, ◌∙◌}
 use Rattle.table_store.proofs.CreateLaws.{unknown_by, present_is}
 use Rattle.table_catalog.specs.Catalog.{tables}
 use Rattle.table_catalog.specs.Stored.{is_known}
-use Rattle.table_store.specs.Getting.{is_no_table, got_of}
+use Rattle.table_store.specs.Getting.{is_no_table, got_of, FailsLookup}
 use Rattle.table_store.proofs.LookupLaws.{known_some, named_none, answer_in, sound_in, way_none, way_some}
 use Rattle.table_catalog.proofs.TouchesLaws.{first_on}
+use Rattle.slotted_page.specs.Search.{Keeps}
+use Rattle.table_store.proofs.FailsLaws.{lookup_by_catalog, lookup_by_node}
 use Rattle.table_store.proofs.lookup.get.Goals as goal
 
 pub returns-in-None-clause-value : goal.returns-in-None-clause-value
@@ -59,3 +61,16 @@ returns-in-Some-clause-known g c = λ told.
     let old = g.P.Pages.standing c.args.pages.now in
     known_some is_no_table (is_known c.args.name.now (tables old.current)) c.get_in.result
     (present_is c.args.name.now old.current c.in-Some.place (sym (c.in_ok-find_entry.ensures.place told) ∙ c.in-Some.is)) c.get_in.ensures.named
+
+pub returns-in_err-find_entry-clause-fails : goal.returns-in_err-find_entry-clause-fails
+returns-in_err-find_entry-clause-fails g c =
+    let count = (g.P.Pages.standing c.args.pages.now).count in
+    let here : Keeps (FailsLookup c.args.limits.now count c.find_entry.new.work.page) c.in_err-find_entry.field-0.0 =
+    lookup_by_catalog c.args.limits.now count c.find_entry.new.work.page c.in_err-find_entry.field-0.0 c.in_err-find_entry.ensures.fails in
+    search (rules, here)
+
+pub returns-in-Some-clause-fails : goal.returns-in-Some-clause-fails
+returns-in-Some-clause-fails g c =
+    let old = g.P.Pages.standing c.args.pages.now in
+    let now = g.P.Pages.standing c.find_entry.new.pages in
+    lookup_by_node c.args.limits.now old.count now.count c.get_in.new.work.page c.get_in.result c.in_ok-find_entry.ensures.continues.count c.get_in.ensures.fails

@@ -1,10 +1,13 @@
-use Rattle.std.proofs.Common.{not, ap, refl, IsTrue, sym, subst, ◌∙◌}
+use Rattle.std.proofs.Common.{rules, not, ap, refl, IsTrue, sym, subst, ◌∙◌}
 use Rattle.table_catalog.specs.Catalog.{tables}
 use Rattle.table_catalog.specs.Stored.{is_known}
 use Rattle.table_store.specs.Scanning.{next_of, is_no_table}
 use Rattle.table_store.proofs.CreateLaws.{unknown_by, present_is}
 use Rattle.table_store.proofs.LookupLaws.{known_some, named_none, answer_in, sound_in}
 use Rattle.table_store.proofs.ScanLaws.{scan_none, scan_some}
+use Rattle.slotted_page.specs.Search.{Keeps}
+use Rattle.table_store.specs.Getting.{FailsLookup}
+use Rattle.table_store.proofs.FailsLaws.{lookup_by_catalog, lookup_by_node}
 use Rattle.table_store.proofs.scan.scan_next.Goals as goal
 
 pub returns-in-None-clause-row : goal.returns-in-None-clause-row
@@ -51,3 +54,16 @@ returns-in-Some-clause-touches g c = λ told closed.
     scan_some c.args.limits.now c.args.name.now c.in-Some.place old now (g.P.Pages.standing c.next_in.new.pages) c.next_in.result
     (sym (found.place told) ∙ c.in-Some.is) (rw c.in-Some.is at found.fits).entry closed found.continues.count (found.reads.current told) found.reads
     (rw c.root_of-root.ensures at (c.next_in.ensures.touches (subst IsTrue (sym found.continues.told) told)))
+
+pub returns-in_err-find_entry-clause-fails : goal.returns-in_err-find_entry-clause-fails
+returns-in_err-find_entry-clause-fails g c =
+    let count = (g.P.Pages.standing c.args.pages.now).count in
+    let here : Keeps (FailsLookup c.args.limits.now count c.find_entry.new.work.page) c.in_err-find_entry.field-0.0 =
+    lookup_by_catalog c.args.limits.now count c.find_entry.new.work.page c.in_err-find_entry.field-0.0 c.in_err-find_entry.ensures.fails in
+    search (rules, here)
+
+pub returns-in-Some-clause-fails : goal.returns-in-Some-clause-fails
+returns-in-Some-clause-fails g c =
+    let old = g.P.Pages.standing c.args.pages.now in
+    let now = g.P.Pages.standing c.find_entry.new.pages in
+    lookup_by_node c.args.limits.now old.count now.count c.next_in.new.work.page c.next_in.result c.in_ok-find_entry.ensures.continues.count c.next_in.ensures.fails

@@ -1,9 +1,12 @@
-use Rattle.std.proofs.Common.{not, ap, refl, sym, ◌∙◌}
+use Rattle.std.proofs.Common.{rules, not, ap, refl, sym, ◌∙◌}
 use Rattle.table_catalog.specs.Catalog.{tables}
 use Rattle.table_catalog.specs.Stored.{is_known}
 use Rattle.table_store.specs.Putting.{stored_of, is_no_table}
 use Rattle.table_store.proofs.CreateLaws.{unknown_by, present_is}
 use Rattle.table_store.proofs.LookupLaws.{named_none, known_some}
+use Rattle.slotted_page.specs.Search.{Keeps}
+use Rattle.table_store.specs.Changed.{FailsChange}
+use Rattle.table_store.proofs.FailsLaws.{change_by_catalog, change_by_tree}
 use Rattle.table_store.proofs.storing.put.Goals as goal
 
 pub returns-in-None-clause-answer : goal.returns-in-None-clause-answer
@@ -19,3 +22,16 @@ returns-in-Some-clause-known g c = λ told.
     let old = g.P.Pages.standing c.args.pages.now in
     known_some is_no_table (is_known c.args.name.now (tables old.current)) c.put_at.result
     (present_is c.args.name.now old.current c.in-Some.place (sym (c.in_ok-find_entry.ensures.place told) ∙ c.in-Some.is)) c.put_at.ensures.named
+
+pub returns-in_err-find_entry-clause-fails : goal.returns-in_err-find_entry-clause-fails
+returns-in_err-find_entry-clause-fails g c =
+    let count = (g.P.Pages.standing c.args.pages.now).count in
+    let here : Keeps (FailsChange c.args.limits.now count c.find_entry.new.work.page) c.in_err-find_entry.field-0.0 =
+    change_by_catalog c.args.limits.now count c.find_entry.new.work.page c.in_err-find_entry.field-0.0 c.in_err-find_entry.ensures.fails in
+    search (rules, here)
+
+pub returns-in-Some-clause-fails : goal.returns-in-Some-clause-fails
+returns-in-Some-clause-fails g c =
+    let old = g.P.Pages.standing c.args.pages.now in
+    let now = g.P.Pages.standing c.find_entry.new.pages in
+    change_by_tree c.args.limits.now old.count now.count c.put_at.new.work.page c.put_at.result c.in_ok-find_entry.ensures.continues.count c.put_at.ensures.fails

@@ -7,6 +7,8 @@ use Rattle.line_pages.specs.declared.stop.Stop.{Stop}
 use Rattle.page_space.specs.Stops.{IsFault}
 use Rattle.table_store.proofs.RowsLaws.{place_rooted, as_before, is_full, is_stored}
 use Rattle.table_store.proofs.storing.put_at.Goals.{else-not-found-via-then-not-found+else-place-limits, else-not-found-via-else-not-found}
+use Rattle.slotted_page.specs.Search.{Keeps}
+use Rattle.bplus_tree.specs.Damage.{FailsTree}
 use Rattle.table_store.proofs.storing.put_at.Goals as goal
 
 pub returns-then-place-limits-clause-answer : goal.returns-then-place-limits-clause-answer
@@ -61,4 +63,10 @@ returns-in_err-store_row-clause-sound g c = λ told name store is enough.
     old.count now.count old.current now.current found.continues.count (found.keeps.current told) (c.store_row.ensures.sound (subst IsTrue (sym found.continues.told) told)) name store is
     (found.found told (entry_rows old.current place.entry) (entry_pages old.current place.entry) tree) enough in
     let here : IsFault c.in_err-store_row.field-0.0 = subst (λ (r : Result (Unit {0}) Stop). IfErr r IsFault) c.in_err-store_row.was fault in
+    search (rules, here)
+
+pub returns-in_err-store_row-clause-fails : goal.returns-in_err-store_row-clause-fails
+returns-in_err-store_row-clause-fails g c =
+    let here : Keeps (FailsTree (g.P.Pages.standing c.args.pages.now).count c.store_row.new.work.page) c.in_err-store_row.field-0.0 =
+    subst (λ (n : ℕ). Keeps (FailsTree n c.store_row.new.work.page) c.in_err-store_row.field-0.0) c.in_ok-found.ensures.continues.count c.in_err-store_row.ensures.fails in
     search (rules, here)

@@ -4,6 +4,8 @@ use Rattle.page_space.specs.Stops.{IsFault}
 use Rattle.slotted_page.specs.Rows.{row_put}
 use Rattle.line_pages.proofs.StandingLaws.{Continues-trans}
 use Rattle.table_store.proofs.RowsLaws.{stepped_by, rows_put, few_after, sound_put}
+use Rattle.bplus_tree.specs.Damage.{FailsTree}
+use Rattle.table_catalog.proofs.FailsLaws.{never_keeps}
 use Rattle.table_store.proofs.storing.store_row.Goals as goal
 
 pub returns-clause-changed : goal.returns-clause-changed
@@ -32,3 +34,6 @@ returns-in_err-put_row-clause-sound g c = λ told name store is found enough.
     (few_after c.args.limits.now.rows after place.entry.rows c.args.found refl c.requires.fits.entry.rows c.requires.left) enough in
     let here : IsFault c.in_err-put_row.field-0.0 = subst (λ (r : Result (Unit {0}) Stop). IfErr r IsFault) c.in_err-put_row.was fault in
     search (rules, here)
+
+pub returns-clause-fails : goal.returns-clause-fails
+returns-clause-fails g c = never_keeps (FailsTree (g.P.Pages.standing c.args.pages.now).count c.put_row.new.work.page) c.write_place.result c.write_place.ensures.cause
