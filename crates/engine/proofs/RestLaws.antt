@@ -39,9 +39,9 @@ use Rattle.engine.proofs.CommandLaws.{with_book}
 
 -- ---- answers
 
-on_err : {T P : Type 0} (r : Result T Stop) → IsErr r → OnOk r P
-on_err (Ok v) is = let clash : false ≡ true = is in absurd (cc)
-on_err (Err why) is = tt
+on_err : {T : Type 0} (P : Type 0) (r : Result T Stop) → IsErr r → OnOk r P
+on_err P (Ok v) is = let clash : false ≡ true = is in absurd (cc)
+on_err P (Err why) is = tt
 
 on_why : {T : Type 0} (P : Stop → Type 0) (r : Result T Stop) (why : Stop) → IsErr r × IsErrAnd r (λ found. found ≡ why) → P why → IfErr r P
 on_why P (Ok v) why is p = tt
@@ -84,13 +84,13 @@ stop_page P x y lines buffer (Err (Damaged e)) page it = page e it.failed
 -- one that stopped
 pub reads_name : {T : Type 0} (old : Engine) (a : Device) (new : Engine) (b : Device) (r : Result T Stop) → IsErr r → HasCause (IsNameDamage old a new.work.page) (shown old a) (shown new b) r → Reads old a new b r
 reads_name old a new b r is cause = record {
-  stays = λ told lines rests. on_err r is;
+  stays = λ told lines rests. on_err _ r is;
   shows = λ told lines rests. stop_page (IsNameDamage old a new.work.page) (shown old a) (shown new b) lines new.work.page r (λ e it. name_page lines old a rests told new.work.page e it) cause;
 }
 
 pub reads_row : {T : Type 0} (old : Engine) (a : Device) (new : Engine) (b : Device) (r : Result T Stop) → IsErr r → HasCause (IsRowDamage old a new.work.page) (shown old a) (shown new b) r → Reads old a new b r
 reads_row old a new b r is cause = record {
-  stays = λ told lines rests. on_err r is;
+  stays = λ told lines rests. on_err _ r is;
   shows = λ told lines rests. stop_page (IsRowDamage old a new.work.page) (shown old a) (shown new b) lines new.work.page r (λ e it. row_page lines old a rests told new.work.page e it) cause;
 }
 
@@ -117,7 +117,7 @@ reads_ok old a new b v w it = record { stays = it.stays; shows = λ told lines r
 
 pub reads_err : {T U : Type 0} (old : Engine) (a : Device) (new : Engine) (b : Device) (r : Result U Stop) (why : Stop) → IsErr r × IsErrAnd r (λ found. found ≡ why) → Reads {T = T} old a new b (Err why) → Reads {T = U} old a new b r
 reads_err old a new b r why is it = record {
-  stays = λ told lines rests. on_err r is.0;
+  stays = λ told lines rests. on_err _ r is.0;
   shows = λ told lines rests. on_why (Keeps (IsPageOf lines new.work.page)) r why is (it.shows told lines rests);
 }
 
@@ -143,13 +143,13 @@ abort_page g start tail a b lines buffer (Damaged e) is = line_page g start tail
 module _ (old : Engine) (a : Device) (new : Engine) (b : Device) where
   pub reads_fault : {T : Type 0} (r : Result T Stop) (why : Stop) → IsErr r × IsErrAnd r (λ found. found ≡ why) → IsFault a b why → Reads old a new b r
   reads_fault r why is fault = record {
-    stays = λ told lines rests. on_err r is.0;
+    stays = λ told lines rests. on_err _ r is.0;
     shows = λ told lines rests. on_why (Keeps (IsPageOf lines new.work.page)) r why is (fault_page a b lines new.work.page why fault);
   }
 
   pub reads_abort : {T : Type 0} (g : Sizes) (start tail : ℕ) (r : Result T Stop) (why : Stop) → IsErr r × IsErrAnd r (λ found. found ≡ why) → StopsFor g start tail a b why → Reads old a new b r
   reads_abort g start tail r why is stop = record {
-    stays = λ told lines rests. on_err r is.0;
+    stays = λ told lines rests. on_err _ r is.0;
     shows = λ told lines rests. on_why (Keeps (IsPageOf lines new.work.page)) r why is (abort_page g start tail a b lines new.work.page why stop);
   }
 

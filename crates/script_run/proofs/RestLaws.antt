@@ -68,9 +68,9 @@ said_on {lines = lines} {engine = engine} r is rests = record { stays = OnOk-any
 pub read_halt : (lines : Lines) (buffer : List ℕ) (why : Halt) → why ≡ Source → IsHaltOf lines buffer why
 read_halt lines buffer why is = subst (λ (x : Halt). IsHaltOf lines buffer x) (sym is) tt
 
-pub on_error : {T P : Type 0} (q : Result T Halt) → IsErr q → OnOk q P
-on_error (Ok v) is = let clash : false ≡ true = is in absurd (cc)
-on_error (Err why) is = tt
+pub on_error : {T : Type 0} (P : Type 0) (q : Result T Halt) → IsErr q → OnOk q P
+on_error P (Ok v) is = let clash : false ≡ true = is in absurd (cc)
+on_error P (Err why) is = tt
 
 -- a stop by the same words of another call
 pub shows_on : {T : Type 0} (lines : Lines) (buffer : List ℕ) (q : Result T Halt) (why : Halt) → IsErr q × IsErrAnd q (λ found. found ≡ why) → IsHaltOf lines buffer why → IfErr q (IsHaltOf lines buffer)

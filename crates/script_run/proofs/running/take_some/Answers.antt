@@ -78,7 +78,7 @@ module _ (g : given.Over) (c : After-take_piece g) (lines : Lines) (before : Lis
 
 pub returns-in_err-count-clause-reads : goal.returns-in_err-count-clause-reads
 returns-in_err-count-clause-reads g c = λ lines before told follows. record {
-  on = on_error c.from_residual.result c.from_residual.ensures.0;
+  on = on_error _ c.from_residual.result c.from_residual.ensures.0;
   shows = λ taken same are. shows_on lines c.args.engine.now.work.page c.from_residual.result _ c.from_residual.ensures (read_halt lines c.args.engine.now.work.page _ c.in_err-count.ensures.source);
 }
 
@@ -86,7 +86,7 @@ pub returns-in_err-take_piece-clause-reads : goal.returns-in_err-take_piece-clau
 returns-in_err-take_piece-clause-reads g c = λ lines before told follows.
     let at = (goal.at.returns-in_err-take_piece-clause-reads g c).After-take_piece in
     record {
-      on = on_error c.from_residual-in_err-take_piece.result c.from_residual-in_err-take_piece.ensures.0;
+      on = on_error _ c.from_residual-in_err-take_piece.result c.from_residual-in_err-take_piece.ensures.0;
       shows = λ taken same are.
           let is = taken_is before (piece g at lines before told follows) taken _ _ (piece_is g at lines before told follows) same in
           let on = rest_of g at lines before told follows [] (subst (λ (l : List ℕ). AreReads (commands l)) (is ∙ sym (append-nil _)) are) in

@@ -44,14 +44,14 @@ returns-clause-replies g c = λ told s shows.
 pub returns-in_err-got-clause-cause : goal.returns-in_err-got-clause-cause
 returns-in_err-got-clause-cause g c =
     cause_fails g.W.Devices.standing _ _ c.args.self.now.book c.get.new.pages.book.now (g.W.Devices.standing c.args.world.now) _ c.get.new.pages.dev.now _ _ _ _ _ _ c.from_residual.result c.in_err-got.field-0.0 (search rules) c.from_residual.ensures
-    (rw (c.over-store.ensures.same.0, c.over-store.ensures.same.1) at c.in_err-got.ensures.fails)
+    (rw c.over-store.ensures.same.0 at c.in_err-got.ensures.fails)
     (rw (c.over-store.ensures.same.0, c.over-store.ensures.same.1) at c.in_err-got.ensures.cause)
 
 pub returns-in_err-got-clause-reads : goal.returns-in_err-got-clause-reads
 returns-in_err-got-clause-reads g c =
     reads_row _ _ _ _ c.from_residual.result c.from_residual.ensures.0
     (cause_fails g.W.Devices.standing _ _ c.args.self.now.book c.get.new.pages.book.now (g.W.Devices.standing c.args.world.now) _ c.get.new.pages.dev.now _ _ _ _ _ _ c.from_residual.result c.in_err-got.field-0.0 (search rules) c.from_residual.ensures
-    (rw (c.over-store.ensures.same.0, c.over-store.ensures.same.1) at c.in_err-got.ensures.fails)
+    (rw c.over-store.ensures.same.0 at c.in_err-got.ensures.fails)
     (rw (c.over-store.ensures.same.0, c.over-store.ensures.same.1) at c.in_err-got.ensures.cause))
 
 pub returns-clause-reads : goal.returns-clause-reads

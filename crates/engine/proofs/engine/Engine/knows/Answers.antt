@@ -20,7 +20,7 @@ returns-in_err-known-clause-does g c =
 pub returns-in_err-known-clause-cause : goal.returns-in_err-known-clause-cause
 returns-in_err-known-clause-cause g c =
     cause_fails g.W.Devices.standing _ _ c.args.self.now.book c.has_table.new.pages.book.now (g.W.Devices.standing c.args.world.now) _ c.has_table.new.pages.dev.now _ _ _ _ _ _ c.from_residual.result c.in_err-known.field-0.0 (search rules) c.from_residual.ensures
-    (rw (c.over-store.ensures.same.0, c.over-store.ensures.same.1) at c.in_err-known.ensures.fails)
+    (rw c.over-store.ensures.same.0 at c.in_err-known.ensures.fails)
     (rw (c.over-store.ensures.same.0, c.over-store.ensures.same.1) at c.in_err-known.ensures.cause)
 
 pub returns-clause-does : goal.returns-clause-does
@@ -40,7 +40,7 @@ pub returns-in_err-known-clause-reads : goal.returns-in_err-known-clause-reads
 returns-in_err-known-clause-reads g c =
     reads_name _ _ _ _ c.from_residual.result c.from_residual.ensures.0
     (cause_fails g.W.Devices.standing _ _ c.args.self.now.book c.has_table.new.pages.book.now (g.W.Devices.standing c.args.world.now) _ c.has_table.new.pages.dev.now _ _ _ _ _ _ c.from_residual.result c.in_err-known.field-0.0 (search rules) c.from_residual.ensures
-    (rw (c.over-store.ensures.same.0, c.over-store.ensures.same.1) at c.in_err-known.ensures.fails)
+    (rw c.over-store.ensures.same.0 at c.in_err-known.ensures.fails)
     (rw (c.over-store.ensures.same.0, c.over-store.ensures.same.1) at c.in_err-known.ensures.cause))
 
 pub returns-clause-reads : goal.returns-clause-reads

@@ -1,4 +1,4 @@
-use Rattle.std.proofs.Common.{ap, sym, Some, arith, false}
+use Rattle.std.proofs.Common.{ap, sym, inl, Some, arith, false}
 use Rattle.table_catalog.specs.Stored.{is_known}
 use Rattle.script.specs.Machine.{State, current}
 use Rattle.script.specs.declared.command.Command.TheVariants as command
@@ -8,6 +8,8 @@ use Rattle.engine.specs.Steps.{after_command}
 use Rattle.engine.proofs.DoesLaws.{does_same}
 use Rattle.engine.proofs.CommandLaws.{replies_by}
 use Rattle.engine.proofs.AnswerLaws.{put_spent}
+use Rattle.engine.specs.Causes.{IsNameDamage, IsNewRowsDamage}
+use Rattle.engine.proofs.CauseLaws.{causes_weaker}
 use Rattle.engine.proofs.engine.Engine.put.Goals as goal
 
 pub returns-then-accepted-self-clause-does : goal.returns-then-accepted-self-clause-does
@@ -18,3 +20,8 @@ returns-then-accepted-self-clause-does g c =
 pub returns-then-accepted-self-clause-replies : goal.returns-then-accepted-self-clause-replies
 returns-then-accepted-self-clause-replies g c = λ told s shows.
     replies_by c.refuse_write.result (reply.Refused (reason_of (is_known c.args.name.now (current s)) false)) _ (ap (λ p. p.1) (put_spent c.args.self.now (g.W.Devices.standing c.args.world.now) c.requires.stands s shows c.requires.is_open (omega (arith, c.if-accepted-self.true, c.accepted.ensures)) c.args.name.now c.args.key c.args.value.now)) (c.refuse_write.ensures.refused told s shows)
+
+pub returns-then-accepted-self-clause-cause : goal.returns-then-accepted-self-clause-cause
+returns-then-accepted-self-clause-cause g c =
+    causes_weaker (IsNameDamage c.args.self.now (g.W.Devices.standing c.args.world.now) c.refuse_write.new.self.work.page) (IsNewRowsDamage c.args.self.now (g.W.Devices.standing c.args.world.now) c.refuse_write.new.self.work.page) _ _ c.refuse_write.result
+    (λ e h. (inl h.0, inl h.1)) c.refuse_write.ensures.cause

@@ -26,7 +26,7 @@ returns-in_err-put-clause-does g c =
 pub returns-in_err-put-clause-cause : goal.returns-in_err-put-clause-cause
 returns-in_err-put-clause-cause g c =
     cause_fails g.W.Devices.standing _ _ c.args.self.now.book c.put.new.pages.book.now (g.W.Devices.standing c.args.world.now) _ c.put.new.pages.dev.now _ _ _ _ _ _ c.from_residual.result c.in_err-put.field-0.0 (search rules) c.from_residual.ensures
-    (rw (c.over-store.ensures.same.0, c.over-store.ensures.same.1) at c.in_err-put.ensures.fails)
+    (rw c.over-store.ensures.same.0 at c.in_err-put.ensures.fails)
     (rw (c.over-store.ensures.same.0, c.over-store.ensures.same.1) at c.in_err-put.ensures.cause)
 
 pub returns-in-TableFull-clause-does : goal.returns-in-TableFull-clause-does

@@ -36,7 +36,7 @@ returns-in_err-next-clause-does g c =
 pub returns-in_err-next-clause-cause : goal.returns-in_err-next-clause-cause
 returns-in_err-next-clause-cause g c =
     cause_fails g.W.Devices.standing _ _ c.args.self.now.book c.scan_next.new.pages.book.now (g.W.Devices.standing c.args.world.now) _ c.scan_next.new.pages.dev.now _ _ _ _ _ _ c.from_residual.result c.in_err-next.field-0.0 (search rules) c.from_residual.ensures
-    (rw (c.over-store.ensures.same.0, c.over-store.ensures.same.1) at c.in_err-next.ensures.fails)
+    (rw c.over-store.ensures.same.0 at c.in_err-next.ensures.fails)
     (rw (c.over-store.ensures.same.0, c.over-store.ensures.same.1) at c.in_err-next.ensures.cause)
 
 pub returns-clause-does : goal.returns-clause-does
@@ -71,7 +71,7 @@ pub returns-in_err-next-clause-reads : goal.returns-in_err-next-clause-reads
 returns-in_err-next-clause-reads g c =
     reads_row _ _ _ _ c.from_residual.result c.from_residual.ensures.0
     (cause_fails g.W.Devices.standing _ _ c.args.self.now.book c.scan_next.new.pages.book.now (g.W.Devices.standing c.args.world.now) _ c.scan_next.new.pages.dev.now _ _ _ _ _ _ c.from_residual.result c.in_err-next.field-0.0 (search rules) c.from_residual.ensures
-    (rw (c.over-store.ensures.same.0, c.over-store.ensures.same.1) at c.in_err-next.ensures.fails)
+    (rw c.over-store.ensures.same.0 at c.in_err-next.ensures.fails)
     (rw (c.over-store.ensures.same.0, c.over-store.ensures.same.1) at c.in_err-next.ensures.cause))
 
 pub returns-clause-reads : goal.returns-clause-reads
