@@ -189,13 +189,13 @@ module _ (old : Engine) (a : Device) (new : Engine) (b : Device) where
   pub reads_after_rest : {T : Type 0} (book : Book) (r : Result T Stop) → book ≡ record old.book { accesses = book.accesses } → Reads (record old { book = book }) a new b r → Reads old a new b r
   reads_after_rest book r same it =
       let from : (lines : Lines) → Rests lines old a → Rests lines (record old { book = book }) a =
-          λ lines rests. subst (λ (x : Book). Rests lines (record old { book = x }) a) (sym same) (rests_rested book.accesses lines rests) in
+      λ lines rests. subst (λ (x : Book). Rests lines (record old { book = x }) a) (sym same) (rests_rested book.accesses lines rests) in
       record { stays = λ told lines rests. it.stays told lines (from lines rests); shows = λ told lines rests. it.shows told lines (from lines rests) }
 
   pub reads_between : {T : Type 0} (between : Engine) (r : Result T Stop) → between ≡ record old { book = record old.book { accesses = between.book.accesses } } → Reads between a new b r → Reads old a new b r
   reads_between between r same it =
       let from : (lines : Lines) → Rests lines old a → Rests lines between a =
-          λ lines rests. subst (λ (x : Engine). Rests lines x a) (sym same) (rests_rested between.book.accesses lines rests) in
+      λ lines rests. subst (λ (x : Engine). Rests lines x a) (sym same) (rests_rested between.book.accesses lines rests) in
       record { stays = λ told lines rests. it.stays told lines (from lines rests); shows = λ told lines rests. it.shows told lines (from lines rests) }
 
 -- ---- the one command of a line
