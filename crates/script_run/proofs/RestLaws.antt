@@ -47,11 +47,11 @@ rests_still lines engine a b same it = record {
 
 -- one that went well, whatever its answer is
 pub well : {T : Type 0} {lines : Lines} {engine : Engine} {left : List (Option Command)} {new : Standing} (v : T) → Rests lines engine new → AreReads left → ReadsOn lines engine left new (Ok v)
-well v rests are = record { stays = rests; left = are; shows = tt }
+well v rests are = record { stays = rests; next = are; shows = tt }
 
 -- one that stopped, of which the error is handed on
 pub halted : {T : Type 0} {lines : Lines} {engine : Engine} {left : List (Option Command)} {new : Standing} (q : Result T Halt) (why : Halt) → IsErr q × IsErrAnd q (λ found. found ≡ why) → IsHaltOf lines engine.work.page why → ReadsOn lines engine left new q
-halted {T} {lines} {engine} {left} {new} q why is shows = subst (λ (x : Result T Halt). ReadsOn lines engine left new x) (sym (handed_on q why is)) (record { stays = tt; left = tt; shows = shows })
+halted {T} {lines} {engine} {left} {new} q why is shows = subst (λ (x : Result T Halt). ReadsOn lines engine left new x) (sym (handed_on q why is)) (record { stays = tt; next = tt; shows = shows })
 
 -- a fault of the output shows no page
 sink_shows : {T : Type 0} (lines : Lines) (buffer : List ℕ) (r : Result T Halt) → IfErr r (λ why. why ≡ Sink) → IfErr r (IsHaltOf lines buffer)
@@ -62,7 +62,7 @@ pub sink_halt : (lines : Lines) (buffer : List ℕ) (why : Halt) → why ≡ Sin
 sink_halt lines buffer why is = subst (λ (x : Halt). IsHaltOf lines buffer x) (sym is) tt
 
 pub said_on : {T : Type 0} {lines : Lines} {engine : Engine} {new : Standing} (r : Result T Halt) → IfErr r (λ why. why ≡ Sink) → Rests lines engine new → ReadsOn lines engine [] new r
-said_on {lines = lines} {engine = engine} r is rests = record { stays = OnOk-any r rests; left = OnOk-any r refl; shows = sink_shows lines engine.work.page r is }
+said_on {lines = lines} {engine = engine} r is rests = record { stays = OnOk-any r rests; next = OnOk-any r refl; shows = sink_shows lines engine.work.page r is }
 
 -- a fault of the script shows none either
 pub read_halt : (lines : Lines) (buffer : List ℕ) (why : Halt) → why ≡ Source → IsHaltOf lines buffer why

@@ -19,7 +19,7 @@ IsHaltOf lines buffer Sink = Unit {0}
 -- After ok all lines are these, and the commands that are left write nothing; a page that is shown is one of these lines'.
 pub record ReadsOn {T : Type 0} (lines : Lines) (engine : Engine) (left : List (Option Command)) (new : Standing) (result : Result T Halt) : Type 0 where
   pub stays : OnOk result (Rests lines engine new)
-  pub left : OnOk result (AreReads left)
+  pub next : OnOk result (AreReads left)
   pub shows : IfErr result (IsHaltOf lines engine.work.page)
 
 -- Where all commands of these bytes and of what comes behind them write nothing, all lines are these, and so are the commands

@@ -1,5 +1,5 @@
 -- The step, and then its replies.
-use Rattle.std.proofs.Common.{◌≡◌, ◌+◌, ◌≤◌, ◌∙◌, ◌++◌, [], ◌∷◌, ℕ, List, Option, IsTrue, sym, ap, subst, arith}
+use Rattle.std.proofs.Common.{refl, ◌≡◌, ◌+◌, ◌≤◌, ◌∙◌, ◌++◌, [], ◌∷◌, ℕ, List, Option, IsTrue, sym, ap, subst, arith}
 use Rattle.std.proofs.lemmas.List.{append-nil}
 use Rattle.std.proofs.lemmas.Result.{on_ok_weaker}
 use Rattle.devices.specs.World.{NoFault}
@@ -21,7 +21,8 @@ use Rattle.script_run.specs.Run.{Aim, Owes, AreSafe}
 use Rattle.script_run.proofs.RunLaws.{step_safe, answered, proceeds_then, proceeds_stop}
 use Rattle.script_run.proofs.CauseLaws.{OnOk-any, cause_then, cause_stopped, quiet_step}
 use Rattle.script_run.proofs.RowsLaws.{scan_owed, scan_few}
-use Rattle.script_run.proofs.RestLaws.{rests_still, well, halted, said_on}
+use Rattle.devices.proofs.JoinLaws.{Stays-now}
+use Rattle.script_run.proofs.RestLaws.{rests_still, halted, said_on}
 use Rattle.script_run.proofs.answering.answer.Goals as goal
 use Rattle.script_run.proofs.answering.answer.Goals.{After-step, In_ok-step}
 use Rattle.script_run.proofs.answering.answer.Given as given
@@ -123,7 +124,7 @@ pub returns-in_err-step-clause-reads : goal.returns-in_err-step-clause-reads
 returns-in_err-step-clause-reads g c = λ lines told rests are. halted c.from_residual.result _ c.from_residual.ensures ((c.in_err-step.ensures.reads are).shows told lines rests)
 
 pub returns-in-Silent-clause-reads : goal.returns-in-Silent-clause-reads
-returns-in-Silent-clause-reads g c = λ lines told rests are. well _ ((c.in_ok-step.ensures.reads are).stays told lines rests) refl
+returns-in-Silent-clause-reads g c = λ lines told rests are. record { stays = (c.in_ok-step.ensures.reads are).stays told lines rests; next = refl; shows = tt }
 
 pub returns-in-Said-clause-reads : goal.returns-in-Said-clause-reads
 returns-in-Said-clause-reads g c = λ lines told rests are.

@@ -1,5 +1,5 @@
 -- A row is asked for, and then it is sent.
-use Rattle.std.proofs.Common.{◌≡◌, ◌∙◌, ◌∷◌, ℕ, List, Option, Ok, Err, IsTrue, refl, sym, ap, subst, []}
+use Rattle.std.proofs.Common.{◌≡◌, ◌∙◌, ◌∷◌, ℕ, List, Option, Ok, Err, IsTrue, refl, sym, ap, subst, [], arith}
 use Rattle.devices.specs.World.{Outside, NoFault}
 use Rattle.devices.proofs.MomentLaws.{Goes-on, GoesOn-trans}
 use Rattle.devices.proofs.JoinLaws.{Stays-now, GoesOn-refl, NoFault-refl, NoFault-trans}

@@ -202,7 +202,7 @@ returns-clause-reads g c = λ lines taken told rests same are.
     let told_mid : IsTrue (g.W.Devices.standing c.loop-left.world).told = subst IsTrue (sym c.loop-left.invariant.goes.told) told in
     let zero_read : c.in_ok-read_script.field-0 ≡ 0 = omega arith in
     let input : (g.W.Devices.standing c.loop-left.world).outside.input ≡ (g.W.Devices.standing c.read_script.new.world).outside.input =
-        (c.in_ok-read_script.ensures.reads told_mid).bytes ∙ ap (λ (n : ℕ). take n c.read_script.new.into ++ (g.W.Devices.standing c.read_script.new.world).outside.input) zero_read in
+    (c.in_ok-read_script.ensures.reads told_mid).bytes ∙ ap (λ (n : ℕ). take n c.read_script.new.into ++ (g.W.Devices.standing c.read_script.new.world).outside.input) zero_read in
     let is = taken_all come.0 taken _ _ _ come.1 same (c.end_run-2.ensures.input ∙ sym input) in
     c.end_run-2.ensures.reads lines come.0 (told_read g at.After-end_run-2 told)
     (λ later all.

@@ -62,7 +62,7 @@ loop-byte-preserved g c =
           let so_far = inv.reads lines more told rests are in
           let next = ap (λ (l : List ℕ). commands (c.loop-byte.kept.items ++ (l ++ more))) (drop_more c.args.piece.now c.loop-byte.byte-index 0 c.loop-byte-test.true) in
           let here = c.in_ok-take_byte.ensures.reads lines (drop (c.loop-byte.byte-index + 1) c.args.piece.now ++ more) (subst IsTrue (sym inv.goes.told) told) so_far.0 (subst AreReads next so_far.1) in
-          (here.stays, here.left);
+          (here.stays, here.next);
     }
 
 pub returns-clause-comes : goal.returns-clause-comes

@@ -98,9 +98,13 @@ pub returns-clause-reads : goal.returns-clause-reads
 returns-clause-reads g c = λ lines before told follows.
     let at = (goal.at.returns-clause-reads g c).After-take_piece in
     record {
-      on = (piece g at lines before told follows, piece_is g at lines before told follows, λ later are.
-          let on = rest_of g at lines before told follows later are in
-          let here = c.in_ok-take_piece.ensures.reads lines later (told_mid g at lines before told follows) on.0 on.1 in
-          (here.stays, here.left));
+      on = (
+        piece g at lines before told follows,
+        piece_is g at lines before told follows,
+        λ later are.
+            let on = rest_of g at lines before told follows later are in
+            let here = c.in_ok-take_piece.ensures.reads lines later (told_mid g at lines before told follows) on.0 on.1 in
+            (here.stays, here.next),
+      );
       shows = λ taken same are. tt;
     }
