@@ -9,7 +9,7 @@ use Rattle.line_pages.specs.Standing.{Standing, HasCause, IsCause}
 use Rattle.transactions.specs.declared.book.Book.{Book}
 use Rattle.transactions.specs.StoreStanding.{book_sizes, standing_of}
 use Rattle.transactions.specs.StoreCalls.{FaultCause, IsFault}
-use Rattle.transactions.specs.TakenBack.{AbortCause, StopsFor, IsDamage as IsLogDamage}
+use Rattle.transactions.specs.TakenBack.{AbortCause, StopsFor, IsNvm, IsDamage as IsLogDamage}
 
 -- the same cause by weaker words for the damage
 cause_weaker : {A : Type 0} (P Q : Evidence → Type 0) (a b : Standing A) (why : Stop) → ((e : Evidence) → P e → Q e) → IsCause P a b why → IsCause Q a b why
@@ -27,11 +27,11 @@ fault_cause P old new a b x y z p q r Nvm h = h
 fault_cause P old new a b x y z p q r Ssd h = absurd h
 fault_cause P old new a b x y z p q r (Damaged e) h = absurd h
 
-abort_cause : (P : Evidence → Type 0) (old new : Book) (a b : Device) (x y z p q r : ℕ) (why : Stop) → ((e : Evidence) → IsLogDamage (book_sizes old) old.log.start old.log.tail a e → P e)
-    → StopsFor (book_sizes old) old.log.start old.log.tail a b why → IsCause P (standing_of old a x y z) (standing_of new b p q r) why
-abort_cause P old new a b x y z p q r Nvm weaker h = h
-abort_cause P old new a b x y z p q r Ssd weaker h = absurd h
-abort_cause P old new a b x y z p q r (Damaged e) weaker h = weaker e h
+abort_cause : (P : Evidence → Type 0) (old new : Book) (a b : Device) (x y z p q r : ℕ) (why : Stop) → ((e : Evidence) → IsLogDamage (book_sizes old) old.log.start old.log.tail a e × (IsTrue a.told → ⊥) → P e)
+    → (IsTrue a.told → IsNvm why) → StopsFor (book_sizes old) old.log.start old.log.tail a b why → IsCause P (standing_of old a x y z) (standing_of new b p q r) why
+abort_cause P old new a b x y z p q r Nvm weaker sound h = h
+abort_cause P old new a b x y z p q r Ssd weaker sound h = absurd h
+abort_cause P old new a b x y z p q r (Damaged e) weaker sound h = weaker e (h, λ told. let clash : ◌≡◌ {A = Stop} (Damaged e) Nvm = sound told in absurd (cc))
 
 module _ (P : Evidence → Type 0) (old new : Book) (a b : Device) where
   pub stops_fault : {T U : Type 0} (r : Result T Stop) (why : Stop) → IsErr r × IsErrAnd r (λ found. found ≡ why) → FaultCause {T = U} a b (Err why) → HasCause P (standing_of old a 0 0 0) (standing_of new b 0 0 0) r
@@ -39,8 +39,8 @@ module _ (P : Evidence → Type 0) (old new : Book) (a b : Device) where
   stops_fault (Err found) why is cause =
       record { failed = subst (λ (x : Stop). IsCause P (standing_of old a 0 0 0) (standing_of new b 0 0 0) x) (sym is.1) (fault_cause P old new a b 0 0 0 0 0 0 why cause.failed); kept = tt }
 
-  pub stops_abort : {T U : Type 0} (r : Result T Stop) (why : Stop) → IsErr r × IsErrAnd r (λ found. found ≡ why) → ((e : Evidence) → IsLogDamage (book_sizes old) old.log.start old.log.tail a e → P e)
+  pub stops_abort : {T U : Type 0} (r : Result T Stop) (why : Stop) → IsErr r × IsErrAnd r (λ found. found ≡ why) → ((e : Evidence) → IsLogDamage (book_sizes old) old.log.start old.log.tail a e × (IsTrue a.told → ⊥) → P e) → (IsTrue a.told → IsNvm why)
       → AbortCause {T = U} (book_sizes old) old.log.start old.log.tail a b (Err why) → HasCause P (standing_of old a 0 0 0) (standing_of new b 0 0 0) r
-  stops_abort (Ok v) why is weaker cause = let none : false ≡ true = is.0 in absurd (cc)
-  stops_abort (Err found) why is weaker cause =
-      record { failed = subst (λ (x : Stop). IsCause P (standing_of old a 0 0 0) (standing_of new b 0 0 0) x) (sym is.1) (abort_cause P old new a b 0 0 0 0 0 0 why weaker cause.failed); kept = tt }
+  stops_abort (Ok v) why is weaker sound cause = let none : false ≡ true = is.0 in absurd (cc)
+  stops_abort (Err found) why is weaker sound cause =
+      record { failed = subst (λ (x : Stop). IsCause P (standing_of old a 0 0 0) (standing_of new b 0 0 0) x) (sym is.1) (abort_cause P old new a b 0 0 0 0 0 0 why weaker sound cause.failed); kept = tt }

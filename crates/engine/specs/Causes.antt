@@ -37,11 +37,12 @@ IsNewRowsDamage engine d buffer kept =
     FailsChange engine.limits (pages (engine_sizes engine)) buffer kept
     × IsChangeDamage d.told engine.limits (pages (engine_sizes engine)) (pages_in (engine_sizes engine) (now d)) buffer kept
 
--- The evidence shows damage of a page, which stands in the buffer, or of a line of the log that an abort read.
+-- The evidence shows damage of a page, which stands in the buffer, or of a line of the log that an abort read, and this of no
+-- devices that are told: an engine that stands for them finds its own records.
 abbrev pub IsDamage : Engine → Device → List ℕ → Evidence → Type 0
 IsDamage engine d buffer kept =
     IsRowDamage engine d buffer kept ⊎ (IsNewTableDamage engine d buffer kept ⊎ (IsNewRowsDamage engine d buffer kept
-    ⊎ IsLogDamage (engine_sizes engine) engine.book.log.start engine.book.log.tail d kept))
+    ⊎ (IsLogDamage (engine_sizes engine) engine.book.log.start engine.book.log.tail d kept × (IsTrue d.told → ⊥))))
 
 -- A fault comes only where its count rose, damage only with such evidence, and no fault is passed over.
 abbrev pub Stops : {T : Type 0} → Engine → Device → Engine → Device → Result T Stop → Type 0

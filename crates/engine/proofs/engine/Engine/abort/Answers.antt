@@ -23,7 +23,7 @@ returns-clause-replies g c =
 pub returns-in_err-abort-clause-cause : goal.returns-in_err-abort-clause-cause
 returns-in_err-abort-clause-cause g c =
     stops_abort _ c.args.self.now.book c.abort.new.book (g.W.Devices.standing c.args.world.now) (g.W.Devices.standing c.abort.new.dev) c.from_residual.result c.in_err-abort.field-0.0 c.from_residual.ensures
-    (λ e h. inr (inr (inr h))) c.in_err-abort.ensures.cause
+    (λ e h. inr (inr (inr h))) c.in_err-abort.ensures.sound c.in_err-abort.ensures.cause
 
 pub returns-in_err-abort-clause-reads : goal.returns-in_err-abort-clause-reads
 returns-in_err-abort-clause-reads g c =
