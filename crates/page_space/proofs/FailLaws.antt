@@ -1,5 +1,5 @@
 -- A page kept with its first line as it was read.
-use Rattle.std.proofs.Common.{◌≡◌, ℕ, ◌<◌, true, false, List, length, nat_eq, inl, inr, refl, sym, ap, subst, ◌∙◌, arith}
+use Rattle.std.proofs.Common.{◌≡◌, ℕ, ◌⊎◌, ◌<◌, true, false, List, length, nat_eq, inl, inr, refl, sym, ap, subst, ◌∙◌, arith}
 use Rattle.std.proofs.lemmas.Bool.{cases_eq, eq-eqb, ne_eqb, and_right}
 use Rattle.nvm_model.specs.declared.line.Line.{Line}
 use Rattle.line_pages.specs.declared.stop.Evidence.TheVariants.{Page}
@@ -22,12 +22,13 @@ written_itself lines page l value l_in is = sym (bytes_of-with_line lines page l
         ]
 
 -- the evidence that is answered where the line fails a check
-pub fails_in : (count page check : ℕ) (bytes : List ℕ) (line : Line) → page < count → length bytes ≡ 4096 → IsLine line → fails (space_checks count line) check ≡ true
+pub fails_in : (count page check : ℕ) (bytes : List ℕ) (line : Line) → page < count → (page ≡ 0) ⊎ (check ≡ 36) → length bytes ≡ 4096 → IsLine line → fails (space_checks count line) check ≡ true
     → FailsSpace count (with_line_bytes bytes 0 line) (Page page 0 0 last_key check)
-fails_in count page check bytes line inside size is failing = record {
+fails_in count page check bytes line inside of_page size is failing = record {
   number = check;
   page = page;
   inside = inside;
+  of_page = of_page;
   shown = (refl, refl, refl, refl, refl);
   fails = subst (λ (l : Line). fails (space_checks count l) check ≡ true) (sym (line_at-written bytes 0 line size (omega arith) is)) failing;
 }

@@ -1,5 +1,5 @@
 -- The free list and the high water, as the header lines of page 0 and of the free pages have them.
-use Rattle.std.specs.Prelude.{◌≡◌, ◌≢◌, ℕ, ◌+◌, ◌<◌, ◌≤◌, Bool, true, List, [], ◌∷◌, slice_index, slice_set, nat_lt, nat_le, not, ◌==◌, ◌&&◌, ◌||◌, if◌then◌else◌, Some}
+use Rattle.std.specs.Prelude.{◌≡◌, ◌≢◌, ℕ, ◌+◌, ◌<◌, ◌≤◌, ◌⊎◌, Bool, true, List, [], ◌∷◌, slice_index, slice_set, nat_lt, nat_le, not, ◌==◌, ◌&&◌, ◌||◌, if◌then◌else◌, Some}
 use Rattle.nvm_model.specs.declared.line.Line.{Line}
 use Rattle.line_pages.specs.declared.stop.Evidence.{Evidence}
 use Rattle.line_pages.specs.declared.stop.Evidence.TheVariants.{Super, Frames, Log, Page, Walk}
@@ -122,10 +122,12 @@ space_checks count header =
     ∷ (36, (word header 0 == 3) && (word header 1 == 0))
     ∷ (37, not ((word header 3 == 0) && (word header 2 == count))) ∷ []
 
--- Whatever the store holds: the evidence names a page outside the trees, and the buffer fails the check that it names.
+-- Whatever the store holds: the evidence names a page outside the trees, page 0 unless the check is that of a free page, and
+-- the buffer fails the check that it names.
 pub record FailsSpace (count : ℕ) (buffer : List ℕ) (evidence : Evidence) : Type 0 where
   pub number : ℕ
   pub page : ℕ
   pub inside : page < count
+  pub of_page : (page ≡ 0) ⊎ (number ≡ 36)
   pub shown : IsPageEvidence page number evidence
   pub fails : fails (space_checks count (line_at buffer 0)) number ≡ true

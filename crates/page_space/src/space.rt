@@ -1,5 +1,5 @@
 //! The pages that trees take and give back: the free list and the high water in the header of page 0.
-ghost use Rattle.std.specs.Prelude.{◌≡◌, ◌≢◌, true, ◌+◌, ◌<◌, ◌≤◌, ℕ, List, IsTrue, OnOk, IfOk, IfErr};
+ghost use Rattle.std.specs.Prelude.{◌≡◌, ◌≢◌, true, ◌+◌, ◌<◌, ◌≤◌, ℕ, List, ◌⊎◌, IsTrue, OnOk, IfOk, IfErr};
 ghost use Rattle.line_pages.specs.Bytes.{bytes_of};
 ghost use Rattle.line_pages.specs.Lines.{IsLine};
 ghost use Rattle.line_pages.specs.Standing.{Continues, HasCause, IsCause, Never, KeepsLines};
@@ -18,6 +18,7 @@ use slotted_page::Work;
 fn damage<P: Pages>(pages: &mut P, work: &mut Work, page: u64, line: &Line, check: u8) -> Stop
     requires ready { P.is_ready pages.old }
     requires page { page < (P.standing pages.old).count }
+    requires of_page { (page ≡ 0) ⊎ (check ≡ 36) }
     requires line { IsLine line.now }
     requires is { IsTrue (P.standing pages.old).told → line.now ≡ (P.standing pages.old).current page 0 }
     requires fails { fails (space_checks (P.standing pages.old).count line.now) check ≡ true }

@@ -63,5 +63,9 @@ impl Value {
 pub(crate) fn all_printable(bytes: &[u8]) -> bool
     ensures { result ≡ list_all is_printable bytes.now }
 {
-    bytes.iter().all(|byte| 0x20 <= *byte && *byte <= 0x7E)
+    let mut all = true;
+    for byte in bytes {
+        all &= 0x20 <= *byte && *byte <= 0x7E;
+    }
+    all
 }

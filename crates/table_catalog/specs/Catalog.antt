@@ -114,12 +114,12 @@ pub record IsCatalogDamage (limits : Limits) (count : ℕ) (lines : Lines) (buff
 abbrev pub lines_in : List ℕ → Lines
 lines_in buffer page line = line_at buffer line
 
--- Whatever the store holds: the evidence names page 0, and the buffer fails the check of the catalog that it names.
+-- Whatever the store holds: the evidence names page 0 and the first check of the catalog that the buffer fails.
 pub record FailsCatalog (limits : Limits) (count : ℕ) (buffer : List ℕ) (evidence : Evidence) : Type 0 where
   pub number : ℕ
   pub some : 1 ≤ count
   pub shown : IsPageEvidence 0 number evidence
-  pub fails : fails (catalog_checks limits count (lines_in buffer)) number ≡ true
+  pub first : first_failure (catalog_checks limits count (lines_in buffer)) ≡ Some number
 
 -- where the first entry with the name stands, the first of these entries being that of table i
 abbrev pub place_of : List ℕ → ℕ → List Entry → Option Place

@@ -18,4 +18,4 @@ pub returns-clause-fails : goal.returns-clause-fails
 returns-clause-fails g c =
     let old = g.P.Pages.standing c.args.pages.now in
     subst (λ (bytes : List ℕ). FailsSpace old.count bytes (Page c.args.page 0 0 last_key c.args.check)) (sym c.set_page_line.ensures.bytes)
-    (fails_in old.count c.args.page c.args.check c.copy_page.new.into c.args.line.now c.requires.page c.set_page_line.ensures.size_old c.requires.line c.requires.fails)
+    (fails_in old.count c.args.page c.args.check c.copy_page.new.into c.args.line.now c.requires.page c.requires.of_page c.set_page_line.ensures.size_old c.requires.line c.requires.fails)

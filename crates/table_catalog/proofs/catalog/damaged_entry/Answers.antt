@@ -1,8 +1,7 @@
 use Rattle.std.proofs.Common.{◌≡◌, sym, ap, ◌∙◌, arith}
 use Rattle.line_pages.specs.Bytes.{line_at}
-use Rattle.table_catalog.specs.Catalog.{entry_in as entry_of_line, catalog_checks, lines_in}
+use Rattle.table_catalog.specs.Catalog.{entry_in as entry_of_line, lines_in}
 use Rattle.table_catalog.proofs.CatalogLaws.{odd_entry}
-use Rattle.table_catalog.proofs.FailsLaws.{first_fails}
 use Rattle.table_catalog.proofs.catalog.damaged_entry.Goals as goal
 
 pub returns-in-Ok-clause-cause : goal.returns-in-Ok-clause-cause
@@ -25,6 +24,5 @@ returns-in-Ok-clause-fails g c =
       number = 35;
       some = c.requires.some;
       shown = c.evidence_of.ensures;
-      fails = first_fails (catalog_checks c.args.limits.now count shown) 35
-          (odd_entry c.args.limits.now count shown c.args.header.now c.args.at (entry_of_line c.args.entry.now) header c.requires.fits c.requires.at (ap entry_of_line (sym c.keep_line.ensures.line)) c.requires.fails);
+      first = odd_entry c.args.limits.now count shown c.args.header.now c.args.at (entry_of_line c.args.entry.now) header c.requires.fits c.requires.at (ap entry_of_line (sym c.keep_line.ensures.line)) c.requires.fails;
     }

@@ -1,7 +1,6 @@
 use Rattle.std.proofs.Common.{sym}
-use Rattle.table_catalog.specs.Catalog.{catalog_checks, lines_in}
+use Rattle.table_catalog.specs.Catalog.{lines_in}
 use Rattle.table_catalog.proofs.CatalogLaws.{odd_header}
-use Rattle.table_catalog.proofs.FailsLaws.{first_fails}
 use Rattle.table_catalog.proofs.catalog.damaged_header.Goals as goal
 
 pub returns-in-Ok-clause-cause : goal.returns-in-Ok-clause-cause
@@ -23,5 +22,5 @@ returns-in-Ok-clause-fails g c =
       number = c.args.check;
       some = c.requires.some;
       shown = c.evidence_of.ensures;
-      fails = first_fails (catalog_checks c.args.limits.now count shown) c.args.check (odd_header c.args.limits.now count shown c.args.header.now c.args.check (sym c.in-Ok.ensures.header) c.requires.fails);
+      first = odd_header c.args.limits.now count shown c.args.header.now c.args.check (sym c.in-Ok.ensures.header) c.requires.fails;
     }
