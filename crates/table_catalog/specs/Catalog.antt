@@ -6,7 +6,7 @@ use Rattle.line_pages.specs.Lines.{Lines}
 use Rattle.line_pages.specs.Bytes.{word_bytes, pieces, bytes_of, line_at}
 use Rattle.line_pages.specs.Touch.{Touch, Access, touch_of}
 use Rattle.line_pages.specs.declared.stop.Evidence.{Evidence}
-use Rattle.slotted_page.specs.Checks.{first_failure, fails}
+use Rattle.slotted_page.specs.Checks.{first_failure}
 use Rattle.slotted_page.specs.Rows.{Row}
 use Rattle.page_space.specs.Space.{word, high_of, IsPageEvidence}
 use Rattle.tree_search.specs.Tree.{tree_rows, tree_pages}
