@@ -36,7 +36,7 @@ state_kept {event} {step} p q kept =
 past_more : (n m k : ℕ) (s : Sending) → n ≤ m → is_past n k s ≡ true → is_past m k s ≡ true
 past_more n m k s le h =
     let low : s.moment ≤ n = past_moment n k s h in
-    let bytes : nat_le s.upto k ≡ true = and_second (nat_le s.moment n) (nat_le s.upto k) h in
+    let bytes : nat_le s.sent_end k ≡ true = and_second (nat_le s.moment n) (nat_le s.sent_end k) h in
     let test : nat_le s.moment m ≡ true = grind (arith, nat_tests, low) in
     rw (test, bytes) refl
 

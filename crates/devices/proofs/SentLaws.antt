@@ -21,13 +21,13 @@ use Rattle.devices.proofs.PastLaws.{replay_push}
 changes_same : (sendings : List Sending) (sent bytes : List ℕ) (n : ℕ) → list_all (is_past n (length sent)) sendings ≡ true → changes_of sendings (sent ++ bytes) ≡ changes_of sendings sent
 changes_same [] sent bytes n all = refl
 changes_same (s ∷ sendings) sent bytes n all =
-    let low : s.upto ≤ length sent = past_bytes n (length sent) s (and_first (is_past n (length sent) s) (list_all (is_past n (length sent)) sendings) all) in
+    let low : s.sent_end ≤ length sent = past_bytes n (length sent) s (and_first (is_past n (length sent) s) (list_all (is_past n (length sent)) sendings) all) in
     let rest = changes_same sendings sent bytes n (and_second (is_past n (length sent) s) (list_all (is_past n (length sent)) sendings) all) in
-    λ i. (s.moment, take-append-le s.upto sent bytes low i) ∷ rest i
+    λ i. (s.moment, take-append-le s.sent_end sent bytes low i) ∷ rest i
 
-changes_push : (sendings : List Sending) (s : Sending) (sent : List ℕ) → changes_of (sendings ++ s ∷ []) sent ≡ changes_of sendings sent ++ (s.moment, take s.upto sent) ∷ []
+changes_push : (sendings : List Sending) (s : Sending) (sent : List ℕ) → changes_of (sendings ++ s ∷ []) sent ≡ changes_of sendings sent ++ (s.moment, take s.sent_end sent) ∷ []
 changes_push [] s sent = refl
-changes_push (first ∷ sendings) s sent = λ i. (first.moment, take first.upto sent) ∷ changes_push sendings s sent i
+changes_push (first ∷ sendings) s sent = λ i. (first.moment, take first.sent_end sent) ∷ changes_push sendings s sent i
 
 last_push : (before : List ℕ) (xs : List (ℕ × List ℕ)) (x : ℕ × List ℕ) (m : ℕ) → last_from before (xs ++ x ∷ []) m ≡ cond (nat_le x.0 m) x.1 (last_from before xs m)
 last_push before [] x m = refl
@@ -36,9 +36,9 @@ last_push before (y ∷ xs) x m = last_push (cond (nat_le y.0 m) y.1 before) xs 
 past_more : (n m k j : ℕ) (s : Sending) → n ≤ m → k ≤ j → is_past n k s ≡ true → is_past m j s ≡ true
 past_more n m k j s le lej h =
     let low : s.moment ≤ n = past_moment n k s h in
-    let bytes : s.upto ≤ k = past_bytes n k s h in
+    let bytes : s.sent_end ≤ k = past_bytes n k s h in
     let first : nat_le s.moment m ≡ true = grind (arith, nat_tests, low) in
-    let second : nat_le s.upto j ≡ true = grind (arith, nat_tests, bytes) in
+    let second : nat_le s.sent_end j ≡ true = grind (arith, nat_tests, bytes) in
     rw (first, second) refl
 
 all_past_more : (sendings : List Sending) (n m k j : ℕ) → n ≤ m → k ≤ j → list_all (is_past n k) sendings ≡ true → list_all (is_past m j) sendings ≡ true
@@ -48,7 +48,7 @@ all_past_more (s ∷ sendings) n m k j le lej all =
 
 module _ {event : ℕ} {bytes : List ℕ} (p q : Past) (sound : IsSound p) (is : Sent event bytes p q) where
   added : Sending
-  added = record { moment = length p.entries.items + 1; upto = length p.sent.items + length bytes }
+  added = record { moment = length p.entries.items + 1; sent_end = length p.sent.items + length bytes }
 
   pub one_more : length q.entries.items ≡ length p.entries.items + 1
   one_more = ap length is.entries ∙ length-append p.entries.items (record { event = event; step = Send } ∷ [])
@@ -104,10 +104,10 @@ module _ {event : ℕ} {bytes : List ℕ} (p q : Past) (sound : IsSound p) (is :
           rw (first, second) refl
 
 -- all changes were looked through
-pub upto_end : (sendings : List Sending) (sent : List ℕ) (moment upto index : ℕ) → upto ≤ length sent
-    → last_from [] (changes_of sendings sent) moment ≡ last_from (take upto sent) (changes_of (drop index sendings) sent) moment → length sendings ≤ index → upto ≡ length (sent_by (changes_of sendings sent) moment)
+pub sent_end_within : (sendings : List Sending) (sent : List ℕ) (moment sent_end index : ℕ) → sent_end ≤ length sent
+    → last_from [] (changes_of sendings sent) moment ≡ last_from (take sent_end sent) (changes_of (drop index sendings) sent) moment → length sendings ≤ index → sent_end ≡ length (sent_by (changes_of sendings sent) moment)
 unfolding sent_by
-upto_end sendings sent moment upto index within same end =
+sent_end_within sendings sent moment sent_end index within same end =
     let none : drop index sendings ≡ [] = grind (arith, common_steps, end) in
-    let size : length (take upto sent) ≡ upto = grind (arith, common_steps, within) in
-    sym (ap length (same ∙ ap (λ (l : List Sending). last_from (take upto sent) (changes_of l sent) moment) none) ∙ size)
+    let size : length (take sent_end sent) ≡ sent_end = grind (arith, common_steps, within) in
+    sym (ap length (same ∙ ap (λ (l : List Sending). last_from (take sent_end sent) (changes_of l sent) moment) none) ∙ size)

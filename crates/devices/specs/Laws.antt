@@ -18,10 +18,10 @@ and_second true b h = h
 and_second false b h = cc
 
 pub past_moment : (n k : ℕ) (s : Sending) → is_past n k s ≡ true → s.moment ≤ n
-past_moment n k s h = let test : nat_le s.moment n ≡ true = and_first (nat_le s.moment n) (nat_le s.upto k) h in grind (arith, nat_tests)
+past_moment n k s h = let test : nat_le s.moment n ≡ true = and_first (nat_le s.moment n) (nat_le s.sent_end k) h in grind (arith, nat_tests)
 
-pub past_bytes : (n k : ℕ) (s : Sending) → is_past n k s ≡ true → s.upto ≤ k
-past_bytes n k s h = let test : nat_le s.upto k ≡ true = and_second (nat_le s.moment n) (nat_le s.upto k) h in grind (arith, nat_tests)
+pub past_bytes : (n k : ℕ) (s : Sending) → is_past n k s ≡ true → s.sent_end ≤ k
+past_bytes n k s h = let test : nat_le s.sent_end k ≡ true = and_second (nat_le s.moment n) (nat_le s.sent_end k) h in grind (arith, nat_tests)
 
 -- at a later moment the changes are the same
 pub last_later : (before : List ℕ) (sendings : List Sending) (sent : List ℕ) (n m : ℕ) → n ≤ m → list_all (is_past n (length sent)) sendings ≡ true
@@ -31,9 +31,9 @@ last_later before (s ∷ sendings) sent n m le all =
     let low : s.moment ≤ n = past_moment n (length sent) s (and_first _ _ all) in
     let at_m : nat_le s.moment m ≡ true = grind (arith, nat_tests, low) in
     let at_n : nat_le s.moment n ≡ true = grind (arith, nat_tests, low) in
-    ap (λ (b : Bool). last_from (cond b (take s.upto sent) before) (changes_of sendings sent) m) at_m
-    ∙ last_later (take s.upto sent) sendings sent n m le (and_second _ _ all)
-    ∙ ap (λ (b : Bool). last_from (cond b (take s.upto sent) before) (changes_of sendings sent) n) (sym at_n)
+    ap (λ (b : Bool). last_from (cond b (take s.sent_end sent) before) (changes_of sendings sent) m) at_m
+    ∙ last_later (take s.sent_end sent) sendings sent n m le (and_second _ _ all)
+    ∙ ap (λ (b : Bool). last_from (cond b (take s.sent_end sent) before) (changes_of sendings sent) n) (sym at_n)
 
 pub sent_later : (p : Past) (m : ℕ) → IsSound p → length p.entries.items ≤ m → sent_by (changes_of p.sendings.items p.sent.items) m ≡ sent_by (changes_of p.sendings.items p.sent.items) (length p.entries.items)
 unfolding sent_by

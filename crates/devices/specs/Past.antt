@@ -63,11 +63,11 @@ is_within lines blocks Send = true
 
 -- each change of the output with its moment
 abbrev pub changes_of : List Sending → List ℕ → List (ℕ × List ℕ)
-changes_of sendings sent = map (λ s. (s.moment, take s.upto sent)) sendings
+changes_of sendings sent = map (λ s. (s.moment, take s.sent_end sent)) sendings
 
 -- a change of the output lies in the past
 abbrev pub is_past : ℕ → ℕ → Sending → Bool
-is_past moments bytes s = nat_le s.moment moments && nat_le s.upto bytes
+is_past moments bytes s = nat_le s.moment moments && nat_le s.sent_end bytes
 
 -- The current contents are those after the calls, each call was in range, and the last change of the output left all
 -- of it.
@@ -143,4 +143,4 @@ pub record Sent (event : ℕ) (bytes : List ℕ) (old new : Past) : Type 0 where
   pub stands : Stands old new
   pub entries : new.entries.items ≡ old.entries.items ++ record { event = event; step = Send } ∷ []
   pub sent : new.sent.items ≡ old.sent.items ++ bytes
-  pub sendings : new.sendings.items ≡ old.sendings.items ++ record { moment = length old.entries.items + 1; upto = length old.sent.items + length bytes } ∷ []
+  pub sendings : new.sendings.items ≡ old.sendings.items ++ record { moment = length old.entries.items + 1; sent_end = length old.sent.items + length bytes } ∷ []

@@ -85,7 +85,7 @@ impl MemWorld {
         })
     }
 
-    /// A world with zeros on both devices, these settings, this script, and these faults.
+    /// A world with zeros on both devices, these settings, this script, and these faults. `NoMemory` where it is not to be had.
     pub fn new(
         alloc: Global,
         nvm_lines: u64,
@@ -101,7 +101,8 @@ impl MemWorld {
         MemWorld::over(alloc, past, settings, script, fail)
     }
 
-    /// A world over a fresh pair of devices with these contents: one version of each word, and every block settled.
+    /// A world over a fresh pair of devices with these contents: one version of each word, and every block settled. `NoMemory` where
+    /// it is not to be had.
     pub fn from_images(
         alloc: Global,
         images: &Images,
@@ -132,7 +133,8 @@ impl MemWorld {
         &self.past.sent
     }
 
-    /// The image that these choices leave after the first `events` events, at most as many as there are.
+    /// The image that these choices leave after the first `events` events, at most as many as there are. `NoMemory` where it is not
+    /// to be had.
     pub fn images_at(
         &self,
         alloc: Global,

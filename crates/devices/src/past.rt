@@ -257,7 +257,7 @@ impl Past {
         });
         self.sendings.push_reserved(Sending {
             moment: self.entries.len(),
-            upto: self.sent.len(),
+            sent_end: self.sent.len(),
         });
         Ok(())
     }
@@ -267,12 +267,12 @@ impl Past {
         requires { IsSound self.now }
         ensures { result ≡ length (sent_by (changes_of self.now.sendings.items self.now.sent.items) moment) }
     {
-        let mut upto = 0;
+        let mut sent_end = 0;
         for sending in &self.sendings {
             if sending.moment <= moment {
-                upto = sending.upto;
+                sent_end = sending.sent_end;
             }
         }
-        upto
+        sent_end
     }
 }

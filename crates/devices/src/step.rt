@@ -32,7 +32,7 @@ pub(crate) struct Entry {
 #[derive(Clone, Copy, Debug)]
 pub(crate) struct Sending {
     pub(crate) moment: usize,
-    pub(crate) upto: usize,
+    pub(crate) sent_end: usize,
 }
 
 // A call takes little memory.

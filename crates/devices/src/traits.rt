@@ -91,7 +91,8 @@ pub trait Devices {
         ensures reads { (standing self.new).block_reads ≡ (standing self.old).block_reads };
 }
 
-/// The devices with the streams beside them. Its own calls leave both devices as they were.
+/// The devices with the streams beside them. Its own calls leave both devices as they were, and answer `Failed` only where the
+/// count of faults of that stream rose.
 pub trait World: Devices {
     /// The next bytes of the settings, at most as many as `into` takes; 0 is the end.
     fn read_settings(&mut self, into: &mut [u8]) -> Result<usize, Failed>

@@ -70,7 +70,8 @@ impl Scan {
 impl Engine {
     /// The next row of a scan, or its end. It begins with the end of the open access where a row was given before.
     ///
-    /// Behind a row its keys begin at the next one, and behind the greatest key there is none; at its end it is over.
+    /// Behind a row its keys begin at the next one, and behind the greatest key there is none; at its end it is over. It stops for a
+    /// fault whose count rose, or for damage of a page, which stands in `evidence_page`.
     pub fn next_row<W: World>(&mut self, world: &mut W, scan: &mut Scan) -> Result<Reply, Stop>
         requires stands { StandsFor self.old (W.Devices.standing world.old) }
         requires left { scan.old.over ≡ false }

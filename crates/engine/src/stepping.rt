@@ -105,7 +105,8 @@ impl Engine {
         }
     }
 
-    /// Ends a run: an open transaction is aborted.
+    /// Ends a run: an open transaction is aborted. It stops where the abort does: for a fault whose count rose, or for a line of the
+    /// log that is no record of the store's.
     pub fn finish<W: World>(&mut self, world: &mut W) -> Result<(), Stop>
         requires ready { StandsFor self.old (W.Devices.standing world.old) }
         ensures does { Does closed self.old (W.Devices.standing world.old) self.new (W.Devices.standing world.new) result }

@@ -14,7 +14,7 @@ pub struct LineSet {
 impl LineSet {
     ghost use Rattle.line_pages.specs.LineSets.{pairs_of, pages_of};
 
-    /// The empty set over this many pages.
+    /// The empty set over this many pages, each of 64 lines: eight bytes a page. `NoMemory` where they are not to be had.
     #[tactic(auto, using(crate::proofs::PairLaws::blank_masks))]
     pub fn new(alloc: Global, pages: u64) -> Result<LineSet, NoMemory>
         ensures pairs { IfOk result (λ made. pairs_of made ≡ no_pairs) }

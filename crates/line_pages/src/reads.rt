@@ -32,7 +32,8 @@ pub fn copy_page<P: Pages>(pages: &mut P, page: u64, into: &mut PageBuf) -> Resu
     Ok(())
 }
 
-/// Reads the number of the eight bytes at a place of a page, from one or two of its lines.
+/// Reads the number of the eight bytes at a place of a page, the lowest first, from one or two of its lines. It stops only where a
+/// read does.
 pub fn read_word<P: Pages>(pages: &mut P, page: u64, place: usize) -> Result<u64, Stop>
     requires ready { P.is_ready pages.old }
     requires page { page < (P.standing pages.old).count }
@@ -60,7 +61,7 @@ pub fn read_word<P: Pages>(pages: &mut P, page: u64, place: usize) -> Result<u64
     Ok(across(here.words[word], next.words[0], at))
 }
 
-/// Reads the number of the two bytes at a place of a page, both in one word.
+/// Reads the number of the two bytes at a place of a page, the lower first, both in one word. It stops only where the read does.
 pub fn read_half<P: Pages>(pages: &mut P, page: u64, place: usize) -> Result<u16, Stop>
     requires ready { P.is_ready pages.old }
     requires page { page < (P.standing pages.old).count }

@@ -57,7 +57,8 @@ fn are_full(left: &PageBuf, right: &PageBuf, one: &Expect, two: &Expect) -> bool
     leaf_used(right) >= 1344
 }
 
-/// Joins two leaves, or divides their rows anew. The answer is the key from which on the rows are in the right one.
+/// Joins two leaves, or divides their rows anew. The answer is the key from which on the rows are in the right one; `None` where
+/// all are in the left one. Two leaves that are full enough stay as they are.
 pub fn merge_leaves(left: &mut PageBuf, right: &mut PageBuf, pair: &Pair, count: u64) -> Option<u64>
     requires is { IsPair count pair.now }
     requires left { IsWellFormed left.old (left_of count 0 pair.now) }
@@ -82,7 +83,8 @@ pub fn merge_leaves(left: &mut PageBuf, right: &mut PageBuf, pair: &Pair, count:
     Some(leaf_key(right, 0))
 }
 
-/// Joins two inner pages, or divides their children anew.
+/// Joins two inner pages, or divides their children anew. The answer is the key from which on the children are in the right one;
+/// `None` where all are in the left one.
 pub fn merge_inner(
     left: &mut PageBuf,
     right: &mut PageBuf,

@@ -14,10 +14,15 @@ use ssd_model::PageBuf;
 /// Two neighbouring children: their pages and first keys, and the greatest key of the second.
 #[derive(Clone, Copy, Debug, PartialEq, Eq)]
 pub struct Pair {
+    /// The page of the first child.
     pub left: u64,
+    /// The first key of the first child.
     pub low: u64,
+    /// The first key of the second child.
     pub middle: u64,
+    /// The page of the second child.
     pub right: u64,
+    /// The greatest key of the second child.
     pub high: u64,
 }
 

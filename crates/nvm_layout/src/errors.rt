@@ -12,6 +12,7 @@ pub enum SuperError {
     TooSmall,
     /// The tail of the log is above 2^61.
     LogEnded,
-    /// A check of the superblock fails: 1 its ranges, 2 a start above the tail, 3 more log than the ring takes.
+    /// A check of the superblock fails: 1 its ranges, fewer frames than pages, or a ring that does not take the longest
+    /// transaction (`1920 * writes + 1` lines); 2 a start above the tail, 3 more log than the ring takes.
     Damaged(Evidence),
 }

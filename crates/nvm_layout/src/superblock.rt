@@ -26,7 +26,7 @@ ghost use Rattle.nvm_layout.specs.Gates.{gates_of};
 ghost use Rattle.nvm_layout.specs.Opening.{Answers, IsOpen, SuperCause, words_of};
 
 /// Reads the superblock and makes its checks, in this order: four lines, the loads, the magic word, the ranges, the
-/// sizes of the devices, the end of the offsets, the gates.
+/// sizes of the devices, the end of the offsets, the gates. The first that fails is answered (`SuperError`).
 pub fn read_super<D: Devices>(dev: &mut D) -> Result<Super, SuperError>
     // What is found.
     ensures answers { 4 ≤ (D.standing dev.old).lines → result ≢ Err SuperError.Nvm → Answers (D.standing dev.old) result }

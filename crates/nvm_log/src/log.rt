@@ -76,7 +76,8 @@ impl Log {
         64 * self.geometry.log_blocks as u64 - (self.tail - self.start)
     }
 
-    /// Puts a record at the end: its three lines, durable, and then the tail behind them, durable.
+    /// Puts a record at the end: its three lines, durable, and then the tail behind them, durable. The ring has three free lines.
+    /// `Failed` where the count of NVM faults rose; no further entry may be put then.
     pub fn append<D: Devices>(&mut self, dev: &mut D, change: &LineRecord) -> Result<(), Failed>
         requires room { self.old.tail + 3 ≤ self.old.start + 64 * self.old.geometry.log_blocks }
         requires below { self.old.tail < 2 ^ 62 }
@@ -108,7 +109,8 @@ impl Log {
         Ok(())
     }
 
-    /// Puts the end of the open group last, durable, and then the tail behind it, durable.
+    /// Puts the end of the open group last, durable, and then the tail behind it, durable. The ring has a free line. `Failed` where
+    /// the count of NVM faults rose; no further entry may be put then.
     pub fn end<D: Devices>(&mut self, dev: &mut D, kind: EndKind) -> Result<(), Failed>
         requires room { self.old.tail + 1 ≤ self.old.start + 64 * self.old.geometry.log_blocks }
         requires below { self.old.tail < 2 ^ 62 }
@@ -134,7 +136,8 @@ impl Log {
         Ok(())
     }
 
-    /// Empties the log: the start becomes the tail, durable.
+    /// Empties the log: the start becomes the tail, durable. `Failed` where the count of NVM faults rose; no further entry may be put
+    /// then.
     pub fn move_start<D: Devices>(&mut self, dev: &mut D) -> Result<(), Failed>
         requires fits { nvm_lines (sizes_of self.old.geometry) ≤ (D.standing dev.old).lines }
 
@@ -155,7 +158,7 @@ impl Log {
         Ok(())
     }
 
-    /// The line at an offset.
+    /// The line at an offset, from the start up to the tail. `Failed` where the count of NVM faults rose.
     pub fn load_line<D: Devices>(&self, dev: &mut D, offset: u64) -> Result<Line, Failed>
         requires above { self.now.start ≤ offset }
         requires below { offset < self.now.tail }

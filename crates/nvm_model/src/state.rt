@@ -26,7 +26,8 @@ pub struct NvmState {
 impl NvmState {
     ghost use Rattle.nvm_model.specs.Contents.{memory_of, lines_of};
 
-    /// An NVM of so many lines, with all words 0 and one version of each.
+    /// An NVM of so many lines, with all words 0 and one version of each. `NoMemory` where they are not to be had, or where there are
+    /// more words than can be numbered.
     pub fn new(alloc: Global, lines: u64) -> Result<NvmState, NoMemory>
         ensures words { IfOk result (λ made. memory_of made ≡ zeros) }
         ensures size { IfOk result (λ made. lines_of made ≡ lines) }
@@ -134,7 +135,7 @@ impl NvmState {
         }
     }
 
-    /// The image that a choice leaves.
+    /// The image that a choice leaves, line by line. `NoMemory` where its lines are not to be had.
     pub fn image_by(&self, alloc: Global, choice: Choice) -> Result<Vec<Line>, NoMemory>
         ensures { IfOk result (λ image. image.items ≡ image_of choice (memory_of self.now) (lines_of self.now)) }
     {

@@ -51,7 +51,8 @@ fn write_changed<P: Pages>(
     pages.write_line(page, line, &value)
 }
 
-/// Writes the lines in which a page's new bytes differ from its old ones.
+/// Writes the lines in which a page's new bytes differ from its old ones. It stops only where a write does, and then the lines
+/// before that one are written.
 pub fn write_changes<P: Pages>(
     pages: &mut P,
     page: u64,

@@ -16,7 +16,9 @@ use nvm_model::Line;
 /// The magic word, whose bytes in order are `SPITFIR1`.
 const MAGIC: u64 = 0x3152_4946_5449_5053;
 
-/// Makes an empty store, whose log begins at the offset 0.
+/// Makes an empty store, whose log begins at the offset 0. `TooSmall` comes, with nothing written, exactly where a device is
+/// smaller than the geometry needs; `Nvm` where that count of faults rose. The store can be opened where each page has a
+/// frame and the ring takes the longest transaction (`read_super`).
 pub fn format<D: Devices>(dev: &mut D, geometry: &Geometry) -> Result<(), FormatError>
     // What stays, whatever is answered, and why it fails.
     ensures goes { Goes (D.standing dev.old) (D.standing dev.new) }
@@ -31,7 +33,8 @@ pub fn format<D: Devices>(dev: &mut D, geometry: &Geometry) -> Result<(), Format
 
 /// Makes an empty store, whose log begins at an offset: the magic word away, durable; the sizes, the gates and an empty
 /// catalog, and every line of the frames, durable; the magic word, durable. A crash within it leaves what was there, no
-/// store, or the empty store. Nothing else of the pages changes.
+/// store, or the empty store. Nothing else of the pages changes. `first` counts lines of the log; a store whose log begins above
+/// 2^61 is made and then answered `LogEnded` when it is opened. Its answers are those of `format`.
 pub fn format_at<D: Devices>(
     dev: &mut D,
     geometry: &Geometry,

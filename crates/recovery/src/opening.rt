@@ -36,7 +36,9 @@ ghost use Rattle.recovery.specs.Opening.{Answers, FindsInLog, IsComplete, Change
 /// the log is read and checked; then the log is replayed over the homes, group by group. Every line of every page is flushed, a
 /// fence, and the log is empty.
 ///
-/// Each head of the log is read at most three times, and one line behind each record once.
+/// Each head of the log is read at most three times, and one line behind each record once. What is wrong with
+/// the superblock is answered first (`SuperError`), then want of memory, then a head that fails check 7, 8 or 9; `Nvm` where that
+/// count of faults rose.
 pub fn recover<D: Devices>(alloc: Global, dev: &mut D) -> Result<Parts, OpenError>
     // What is found, and what an answer other than success says.
     ensures answers { 4 ≤ (D.standing dev.old).lines → Answers (D.standing dev.old) result }

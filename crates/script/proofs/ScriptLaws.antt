@@ -1,4 +1,4 @@
--- What the headline needs of a script, its replies and its commits.
+-- What the promises of the top call need of a script, its replies and its commits.
 use Rattle.std.proofs.Common.{◌≡◌, ℕ, ◌+◌, ◌≤◌, Bool, true, false, cond, List, [], ◌∷◌, ◌++◌, length, zero-add, refl, ap, ◌∙◌, arith, Option, Some, None}
 use Rattle.std.proofs.lemmas.List.Sums.{sum_by-append}
 use Rattle.std.specs.Prelude.{map, count_by, IfSome, ◌||◌}

@@ -10,7 +10,8 @@ use devices::{Failed, World};
 use line_pages::Evidence;
 use ssd_model::PageBuf;
 
-/// Sends the text of damage, line by line; `page` gives the bytes of a `Page` evidence.
+/// Sends the text of damage, line by line; `page` gives the bytes of a `Page` evidence. `Failed` where the count of faults of the
+/// output rose, and then a beginning of the text was sent.
 pub fn tell_damage<W: World>(
     world: &mut W,
     evidence: &Evidence,

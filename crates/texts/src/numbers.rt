@@ -18,11 +18,11 @@ fn digits(bytes: &[u8]) -> Option<u64>
     ensures { result ≡ digits_number bytes.now }
 {
     let mut value = 0u64;
-    for b in bytes {
-        if !b.is_ascii_digit() {
+    for byte in bytes {
+        if !byte.is_ascii_digit() {
             return None;
         }
-        value = value.checked_mul(10)?.checked_add((*b - b'0') as u64)?;
+        value = value.checked_mul(10)?.checked_add((*byte - b'0') as u64)?;
     }
     Some(value)
 }

@@ -15,11 +15,11 @@ pub fn put(out: &mut ArrayVec<u8, 512>, bytes: &[u8])
 }
 
 /// Puts a number in plain decimal behind the others. There is room for 20 digits.
-pub fn put_number(out: &mut ArrayVec<u8, 512>, n: u64)
+pub fn put_number(out: &mut ArrayVec<u8, 512>, number: u64)
     requires { array_vec_len out.old + 20 ≤ 512 }
-    ensures items { out.new.items ≡ out.old.items ++ decimal n }
+    ensures items { out.new.items ≡ out.old.items ++ decimal number }
     ensures len { array_vec_len out.new ≤ array_vec_len out.old + 20 }
 {
     let mut buffer = Buffer::new();
-    put(out, buffer.format(n).as_bytes());
+    put(out, buffer.format(number).as_bytes());
 }

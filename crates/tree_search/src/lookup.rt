@@ -87,7 +87,8 @@ fn get_in<P: Pages>(
 }
 
 /// The value of a key; `None` exactly where no row has the key. Where it answers `Ok`, it begins one access to each page on
-/// the way to the key, if the open access is not one to the root already.
+/// the way to the key, if the open access is not one to the root already. `Damaged` comes only where a page on the way fails a
+/// check of a node, in a tree in order not at all; its bytes stand in `work`.
 pub fn get<P: Pages>(
     pages: &mut P,
     root: &Root,
