@@ -77,7 +77,8 @@ impl Log {
     }
 
     /// Puts a record at the end: its three lines, durable, and then the tail behind them, durable. The ring has three free lines.
-    /// `Failed` where the count of NVM faults rose; no further entry may be put then.
+    /// `Failed` where the count of NVM faults rose; a store recovers
+    /// then before it goes on.
     pub fn append<D: Devices>(&mut self, dev: &mut D, change: &LineRecord) -> Result<(), Failed>
         requires room { self.old.tail + 3 ≤ self.old.start + 64 * self.old.geometry.log_blocks }
         requires below { self.old.tail < 2 ^ 62 }
