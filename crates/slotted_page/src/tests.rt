@@ -139,6 +139,12 @@ fn leaves_fail_each_check(rt: HostRuntime) {
     assert!(rt; leaf_with_half(66, 7) == Err(14));
     assert!(rt; leaf_with_word(4088, u64::MAX) == Err(16));
     assert!(rt; leaf_with_half(4086, 0x1F61) == Err(17));
+    let mut page = leaf_by_hand();
+    set_page_half(&mut page, 4086, 0x1F61);
+    set_page_word(&mut page, 4088, u64::MAX);
+    assert!(rt; well_formed(&page, &any_leaf()) == Err(16));
+    set_page_word(&mut page, 24, 4097);
+    assert!(rt; well_formed(&page, &any_leaf()) == Err(13));
     let below = Expect {
         level: 0,
         low: 0,
