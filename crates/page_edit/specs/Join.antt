@@ -4,13 +4,15 @@ use Rattle.slotted_page.specs.Room.{leaf_room, leaf_floor, inner_room}
 use Rattle.slotted_page.specs.Node.{page_level, leaf_rows, children, IsLeaf}
 use Rattle.slotted_page.specs.Sound.{row_bytes}
 use Rattle.slotted_page.specs.Inner.{IsBranch}
-use Rattle.page_edit.specs.Cut.{rows_left, children_left}
+use Rattle.page_edit.specs.Cut.{rows_left, IsCut, IsFilled, children_left}
+use Rattle.page_edit.specs.Packed.{IsPacked}
 
 -- two leaves after a join: all rows are in the left one, or they are divided
 pub record IsJoined (one two left : List ℕ) : Type 0 where
   pub fits : row_bytes (leaf_rows one ++ leaf_rows two) ≤ leaf_room
   pub rows : leaf_rows left ≡ leaf_rows one ++ leaf_rows two
   pub leaf : IsLeaf left
+  pub packed : IsPacked left
 
 pub record IsDivided (one two left right : List ℕ) : Type 0 where
   pub over : leaf_room < row_bytes (leaf_rows one ++ leaf_rows two)
@@ -20,6 +22,11 @@ pub record IsDivided (one two left right : List ℕ) : Type 0 where
   pub right_leaf : IsLeaf right
   pub left_full : leaf_floor ≤ row_bytes (leaf_rows left)
   pub right_full : leaf_floor ≤ row_bytes (leaf_rows right)
+  pub halves : IsCut (leaf_rows one ++ leaf_rows two) (leaf_rows left) (leaf_rows right)
+  pub left_filled : IsFilled (leaf_rows left)
+  pub right_filled : IsFilled (leaf_rows right)
+  pub left_packed : IsPacked left
+  pub right_packed : IsPacked right
 
 -- two pages after a join: all children are in the left one, or they are divided
 pub record IsJoinedBranch (one two left : List ℕ) : Type 0 where

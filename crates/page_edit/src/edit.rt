@@ -83,6 +83,7 @@ pub fn remove_here(page: &mut PageBuf, at: usize)
     ensures rows { rows_of page.new ≡ remove (rows_of page.old) at }
     ensures sound { IsSound page.new }
     ensures rest { Same (64 + 4 * entry_count page.old) 4096 page.old page.new }
+    ensures heap { heap_start page.new ≡ heap_start page.old }
 {
     let count = page_word(page, 8) as usize;
     page.shift(68 + 4 * at, 64 + 4 * count, 64 + 4 * at);

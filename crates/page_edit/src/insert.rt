@@ -60,6 +60,7 @@ pub fn leaf_remove(page: &mut PageBuf, at: usize)
     ensures rows { rows_of page.new ≡ remove (rows_of page.old) at }
     ensures leaf { IsLeaf page.new }
     ensures rest { Same (64 + 4 * entry_count page.old) 4096 page.old page.new }
+    ensures heap { heap_start page.new ≡ heap_start page.old }
 {
     open_leaf(page);
     remove_here(page, at);

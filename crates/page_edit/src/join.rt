@@ -1,7 +1,7 @@
 //! Two leaves joined, or their rows divided anew.
 ghost use Rattle.std.specs.Prelude.{◌≡◌, ◌+◌, ◌*◌, ◌<◌, ◌≤◌, ◌⊎◌, ℕ, List, [], ◌∷◌, ◌++◌, true, false, length, slice_range, take, drop, if◌then◌else◌};
 ghost use Rattle.slotted_page.specs.Rows.{Ascends, keys, last_key};
-ghost use Rattle.page_edit.specs.Cut.{join_rows, rows_left};
+ghost use Rattle.page_edit.specs.Cut.{rows_left};
 ghost use Rattle.slotted_page.specs.Node.{IsLeaf, leaf_rows as rows_of};
 ghost use Rattle.slotted_page.specs.Sound.{IsSound, row_bytes};
 ghost use Rattle.page_edit.specs.Packed.{IsPacked};

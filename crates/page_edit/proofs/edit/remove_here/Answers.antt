@@ -34,6 +34,9 @@ returns-clause-rows c = rows_out c.args.at c.args.page.now c.set_page_word.new.p
 pub returns-clause-sound : goal.returns-clause-sound
 returns-clause-sound c = sound_out c.args.at c.args.page.now c.set_page_word.new.page (out c) c.requires.at c.requires.sound
 
+pub returns-clause-heap : goal.returns-clause-heap
+returns-clause-heap c = (out c).heap
+
 pub returns-clause-rest : goal.returns-clause-rest
 returns-clause-rest c =
     let n = entry_count c.args.page.now in

@@ -33,7 +33,7 @@ returns-then-one-two-le4032-clause-joined c = λ yes_it.
     let m = c.open_leaf-m.ensures in
     let all = two_bytes xs ys c.open_leaf-n.result c.open_leaf-m.result c.part_bytes-one.result c.part_bytes-two.result n.count m.count c.part_bytes-one.ensures.bytes c.part_bytes-two.ensures.bytes in
     let is : leaf_rows c.push_rows.new.page ≡ xs ++ ys = c.push_rows.ensures.rows ∙ ap (λ zs. zs ++ slice_range ys 0 c.open_leaf-m.result) c.pack.ensures.rows ∙ ap (λ zs. xs ++ zs) (whole_is ys c.open_leaf-m.result m.count) in
-    joined_is c.args.left.now c.args.right.now c.push_rows.new.page n.rows m.rows c.push_rows.ensures.packed.sound is (omega (arith, all)) c.requires.order
+    joined_is c.args.left.now c.args.right.now c.push_rows.new.page n.rows m.rows c.push_rows.ensures.packed is (omega (arith, all)) c.requires.order
 
 pub share-requires-clause-part : goal.share-requires-clause-part
 share-requires-clause-part c = omega (arith, (join_fit c.args.left.now c.args.right.now c.open_leaf-n.ensures.sound c.open_leaf-m.ensures.sound (at_most (leaf_rows c.args.left.now) (leaf_rows c.args.right.now) c.open_leaf-n.ensures.rows.used c.open_leaf-m.ensures.rows.used c.requires.low)).within, c.joined_part-part.ensures, c.open_leaf-n.ensures.count, c.open_leaf-m.ensures.count, length-append (leaf_rows c.args.left.now) (leaf_rows c.args.right.now))
@@ -55,4 +55,4 @@ returns-clause-divided c = λ no_it.
     let lists = ap (λ (bytes : List ℕ). leaf_rows bytes ++ leaf_rows c.copy-second.result) c.copy-first.ensures.value ∙ ap (λ (bytes : List ℕ). xs ++ leaf_rows bytes) c.copy-second.ensures.value in
     let l = c.share.ensures.left ∙ ap (take c.joined_part-part.result) lists ∙ ap (λ (k : ℕ). take k (xs ++ ys)) c.joined_part-part.ensures in
     let r = c.share.ensures.right ∙ ap (drop c.joined_part-part.result) lists ∙ ap (λ (k : ℕ). drop k (xs ++ ys)) c.joined_part-part.ensures in
-    divided_is c.args.left.now c.args.right.now c.share.new.left c.share.new.right n.rows m.rows fits c.share.ensures.left_packed.sound c.share.ensures.right_packed.sound (omega (arith, all, c.if-one-two-le4032.false)) c.requires.order l r
+    divided_is c.args.left.now c.args.right.now c.share.new.left c.share.new.right n.rows m.rows fits c.share.ensures.left_packed c.share.ensures.right_packed (omega (arith, all, c.if-one-two-le4032.false)) c.requires.order l r
