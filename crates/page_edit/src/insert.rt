@@ -4,7 +4,7 @@ ghost use Rattle.std.specs.List.{insert, remove, list_all};
 ghost use Rattle.ssd_model.specs.Page.{Same};
 ghost use Rattle.slotted_page.specs.Rows.{Row, Ascends, keys, last_key};
 ghost use Rattle.slotted_page.specs.Node.{IsLeaf, entry_count, heap_start, is_printable, leaf_rows as rows_of};
-ghost use Rattle.page_edit.specs.Packed.{IsPacked, AddsBelow};
+ghost use Rattle.page_edit.specs.Packed.{IsPacked, AddsBelow, heap_for};
 ghost use Rattle.slotted_page.specs.Sound.{slot_of, IsSound, row_bytes};
 
 use crate::build::pack;
@@ -24,7 +24,8 @@ fn make_room(page: &mut PageBuf, more: usize)
     ensures room { 64 + 4 * (entry_count page.new + 1) + (8 + more) ≤ heap_start page.new }
     ensures count { length (rows_of page.new) ≡ entry_count page.new }
     ensures rest { Same (64 + 4 * entry_count page.new) (heap_start page.new) page.old page.new }
-    ensures packed { (page.new ≡ page.old) ⊎ IsPacked page.new }
+    ensures stays { heap_for (8 + more) page.old ≤ heap_start page.old → page.new ≡ page.old }
+    ensures packed { heap_start page.old < heap_for (8 + more) page.old → IsPacked page.new }
 {
     let count = page_word(page, 8) as usize;
     let heap = page_word(page, 24) as usize;
@@ -47,6 +48,8 @@ pub fn leaf_insert(page: &mut PageBuf, at: usize, key: u64, value: &[u8])
     ensures leaf { IsLeaf page.new }
     ensures rest { Same (64 + 4 * entry_count page.new) (heap_start page.new) page.old page.new }
     ensures placed { AddsBelow (8 + length value.now) page.old page.new ⊎ IsPacked page.new }
+    ensures below { heap_for (8 + length value.now) page.old ≤ heap_start page.old → AddsBelow (8 + length value.now) page.old page.new }
+    ensures packed { heap_start page.old < heap_for (8 + length value.now) page.old → IsPacked page.new }
 {
     open_leaf(page);
     make_room(page, value.len());
