@@ -1,5 +1,6 @@
 -- What two pages are after a join.
 use Rattle.std.specs.Prelude.{◌≡◌, ℕ, ◌<◌, ◌≤◌, ◌++◌, List, length, take, drop}
+use Rattle.line_pages.specs.Bytes.{u64_at}
 use Rattle.slotted_page.specs.Room.{leaf_room, leaf_floor, inner_room}
 use Rattle.slotted_page.specs.Node.{page_level, leaf_rows, children, IsLeaf}
 use Rattle.slotted_page.specs.Sound.{row_bytes}
@@ -28,12 +29,17 @@ pub record IsDivided (one two left right : List ℕ) : Type 0 where
   pub left_packed : IsPacked left
   pub right_packed : IsPacked right
 
+-- word 3 of an inner page, which has no use and is 0
+abbrev pub unused_word : List ℕ → ℕ
+unused_word bytes = u64_at bytes 24
+
 -- two pages after a join: all children are in the left one, or they are divided
 pub record IsJoinedBranch (one two left : List ℕ) : Type 0 where
   pub fits : length (children one ++ children two) ≤ inner_room
   pub children_are : children left ≡ children one ++ children two
   pub branch : IsBranch left
   pub level : page_level left ≡ page_level one
+  pub unused : unused_word left ≡ unused_word one
 
 pub record IsDividedBranch (one two left right : List ℕ) : Type 0 where
   pub over : inner_room < length (children one ++ children two)
@@ -43,3 +49,5 @@ pub record IsDividedBranch (one two left right : List ℕ) : Type 0 where
   pub right_branch : IsBranch right
   pub left_level : page_level left ≡ page_level one
   pub right_level : page_level right ≡ page_level two
+  pub left_unused : unused_word left ≡ unused_word one
+  pub right_unused : unused_word right ≡ 0

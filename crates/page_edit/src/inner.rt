@@ -6,7 +6,7 @@ ghost use Rattle.slotted_page.specs.Rows.{Ascends, last_key};
 ghost use Rattle.page_edit.specs.Cut.{children_left};
 ghost use Rattle.slotted_page.specs.Node.{begins_at, entry_count, page_level, first_keys, children as children_of};
 ghost use Rattle.slotted_page.specs.Inner.{IsInner, IsBranch};
-ghost use Rattle.page_edit.specs.Join.{IsJoinedBranch, IsDividedBranch};
+ghost use Rattle.page_edit.specs.Join.{IsJoinedBranch, IsDividedBranch, unused_word};
 
 use crate::entries::{clear_inner, insert_child, keep_children, push_children, remove_child};
 use line_pages::page_word;
@@ -22,6 +22,7 @@ pub fn inner_insert(page: &mut PageBuf, at: usize, key: u64, child: u64)
     ensures children { children_of page.new ≡ insert (children_of page.old) at (key, child) }
     ensures branch { IsBranch page.new }
     ensures level { page_level page.new ≡ page_level page.old }
+    ensures unused { unused_word page.new ≡ unused_word page.old }
     ensures rest { Same 3904 4096 page.old page.new }
 {
     children(page);
@@ -35,6 +36,7 @@ pub fn inner_remove(page: &mut PageBuf, at: usize)
     ensures children { children_of page.new ≡ remove (children_of page.old) at }
     ensures branch { IsBranch page.new }
     ensures level { page_level page.new ≡ page_level page.old }
+    ensures unused { unused_word page.new ≡ unused_word page.old }
     ensures rest { Same 3904 4096 page.old page.new }
 {
     children(page);
@@ -52,6 +54,8 @@ pub fn inner_cut(left: &mut PageBuf, right: &mut PageBuf, at: usize, key: u64, c
     ensures right_branch { IsBranch right.new }
     ensures left_level { page_level left.new ≡ page_level left.old }
     ensures right_level { page_level right.new ≡ page_level left.old }
+    ensures left_unused { unused_word left.new ≡ unused_word left.old }
+    ensures right_unused { unused_word right.new ≡ 0 }
 {
     let count = children(left);
     let level = page_word(left, 16);
@@ -77,6 +81,8 @@ fn share_children(left: &mut PageBuf, right: &mut PageBuf, n: usize, m: usize, p
     ensures right_inner { IsInner right.new }
     ensures left_level { page_level left.new ≡ page_level left.old }
     ensures right_level { page_level right.new ≡ page_level right.old }
+    ensures left_unused { unused_word left.new ≡ unused_word left.old }
+    ensures right_unused { unused_word right.new ≡ 0 }
     ensures left_rest { Same 3904 4096 left.old left.new }
     ensures right_rest { Same 3904 4096 right.old right.new }
 {

@@ -17,6 +17,7 @@ returns-then-n-m-le240-clause-joined c = λ yes_it.
       children_are = is;
       branch = branch_of c.push_children.new.page (xs ++ ys) (page_level c.args.left.now) c.push_children.ensures.inner is c.push_children.ensures.level c.requires.left.above fits c.requires.order;
       level = c.push_children.ensures.level;
+      unused = c.push_children.ensures.unused;
     }
 
 pub returns-clause-divided : goal.returns-clause-divided
@@ -37,6 +38,8 @@ returns-clause-divided c = λ no_it.
           (omega (arith, size, c.children-n.ensures.children, c.children-m.ensures.children, c.requires.left.room, c.requires.right.room)) c.requires.order;
       left_level = c.share_children.ensures.left_level;
       right_level = c.share_children.ensures.right_level;
+      left_unused = c.share_children.ensures.left_unused;
+      right_unused = c.share_children.ensures.right_unused;
     }
 
 pub returns-then-n-m-le240-clause-left_rest : goal.returns-then-n-m-le240-clause-left_rest
