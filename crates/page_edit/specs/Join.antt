@@ -6,14 +6,14 @@ use Rattle.slotted_page.specs.Node.{page_level, leaf_rows, children, IsLeaf}
 use Rattle.slotted_page.specs.Sound.{row_bytes}
 use Rattle.slotted_page.specs.Inner.{IsBranch}
 use Rattle.page_edit.specs.Cut.{rows_left, IsCut, IsFilled, children_left}
-use Rattle.page_edit.specs.Packed.{IsPacked}
+use Rattle.page_edit.specs.Packed.{IsPackedInOrder}
 
 -- two leaves after a join: all rows are in the left one, or they are divided
 pub record IsJoined (one two left : List ℕ) : Type 0 where
   pub fits : row_bytes (leaf_rows one ++ leaf_rows two) ≤ leaf_room
   pub rows : leaf_rows left ≡ leaf_rows one ++ leaf_rows two
   pub leaf : IsLeaf left
-  pub packed : IsPacked left
+  pub packed : IsPackedInOrder left
 
 pub record IsDivided (one two left right : List ℕ) : Type 0 where
   pub over : leaf_room < row_bytes (leaf_rows one ++ leaf_rows two)
@@ -26,8 +26,8 @@ pub record IsDivided (one two left right : List ℕ) : Type 0 where
   pub halves : IsCut (leaf_rows one ++ leaf_rows two) (leaf_rows left) (leaf_rows right)
   pub left_filled : IsFilled (leaf_rows left)
   pub right_filled : IsFilled (leaf_rows right)
-  pub left_packed : IsPacked left
-  pub right_packed : IsPacked right
+  pub left_packed : IsPackedInOrder left
+  pub right_packed : IsPackedInOrder right
 
 -- word 3 of an inner page, which has no use and is 0
 abbrev pub unused_word : List ℕ → ℕ

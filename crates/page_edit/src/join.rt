@@ -4,7 +4,7 @@ ghost use Rattle.slotted_page.specs.Rows.{Ascends, keys, last_key};
 ghost use Rattle.page_edit.specs.Cut.{rows_left};
 ghost use Rattle.slotted_page.specs.Node.{IsLeaf, leaf_rows as rows_of};
 ghost use Rattle.slotted_page.specs.Sound.{IsSound, row_bytes};
-ghost use Rattle.page_edit.specs.Packed.{IsPacked};
+ghost use Rattle.page_edit.specs.Packed.{IsPackedInOrder};
 ghost use Rattle.page_edit.specs.Join.{IsJoined, IsDivided};
 
 use crate::build::{clear_leaf, pack, push_rows};
@@ -22,7 +22,7 @@ fn push_both(
     from: usize,
     to: usize,
 )
-    requires packed { IsPacked page.old }
+    requires packed { IsPackedInOrder page.old }
     requires first { IsSound first.now }
     requires second { IsSound second.now }
     requires order { start ≤ end }
@@ -31,7 +31,7 @@ fn push_both(
     requires second_within { to ≤ length (rows_of second.now) }
     requires room { row_bytes (rows_of page.old ++ (slice_range (rows_of first.now) start end ++ slice_range (rows_of second.now) from to)) ≤ 4032 }
     ensures rows { rows_of page.new ≡ rows_of page.old ++ (slice_range (rows_of first.now) start end ++ slice_range (rows_of second.now) from to) }
-    ensures packed { IsPacked page.new }
+    ensures packed { IsPackedInOrder page.new }
 {
     push_rows(page, first, start, end);
     push_rows(page, second, from, to);
@@ -56,8 +56,8 @@ fn share(
     requires right_room { row_bytes (drop part (rows_of first.now ++ rows_of second.now)) ≤ 4032 }
     ensures left { rows_of left.new ≡ take part (rows_of first.now ++ rows_of second.now) }
     ensures right { rows_of right.new ≡ drop part (rows_of first.now ++ rows_of second.now) }
-    ensures left_packed { IsPacked left.new }
-    ensures right_packed { IsPacked right.new }
+    ensures left_packed { IsPackedInOrder left.new }
+    ensures right_packed { IsPackedInOrder right.new }
 {
     clear_leaf(left);
     clear_leaf(right);

@@ -35,7 +35,7 @@ returns-clause-left_leaf c =
     let all = insert (leaf_rows old) c.args.at row in
     let fit = cut_of old c.args.at c.args.key c.args.value.now c.open_leaf-count.ensures.sound c.open_leaf-count.ensures.rows c.requires.few in
     let same = ap (λ (bytes : List ℕ). take c.left_part-part.result (insert (leaf_rows bytes) c.args.at row)) c.copy-from.ensures.value ∙ ap (λ (n : ℕ). take n all) c.left_part-part.ensures in
-    left_leaf c.divide.new.left all (rows_left all) c.divide.ensures.left_packed.sound (c.divide.ensures.left ∙ same) fit.left c.requires.order
+    left_leaf c.divide.new.left all (rows_left all) c.divide.ensures.left_packed.packed.sound (c.divide.ensures.left ∙ same) fit.left c.requires.order
     (all_insert has_printable_value (leaf_rows old) c.args.at row c.open_leaf-count.ensures.rows.printable c.requires.printable)
 
 pub returns-clause-right_leaf : goal.returns-clause-right_leaf
@@ -45,7 +45,7 @@ returns-clause-right_leaf c =
     let all = insert (leaf_rows old) c.args.at row in
     let fit = cut_of old c.args.at c.args.key c.args.value.now c.open_leaf-count.ensures.sound c.open_leaf-count.ensures.rows c.requires.few in
     let same = ap (λ (bytes : List ℕ). drop c.left_part-part.result (insert (leaf_rows bytes) c.args.at row)) c.copy-from.ensures.value ∙ ap (λ (n : ℕ). drop n all) c.left_part-part.ensures in
-    right_leaf c.divide.new.right all (rows_left all) c.divide.ensures.right_packed.sound (c.divide.ensures.right ∙ same) fit.right c.requires.order
+    right_leaf c.divide.new.right all (rows_left all) c.divide.ensures.right_packed.packed.sound (c.divide.ensures.right ∙ same) fit.right c.requires.order
     (all_insert has_printable_value (leaf_rows old) c.args.at row c.open_leaf-count.ensures.rows.printable c.requires.printable)
 
 pub returns-clause-left_full : goal.returns-clause-left_full

@@ -6,7 +6,7 @@ use Rattle.std.proofs.lemmas.Bool.{cases_lt}
 use Rattle.slotted_page.specs.Rows.{Row}
 use Rattle.slotted_page.specs.Node.{leaf_rows, entry_count, heap_start}
 use Rattle.slotted_page.specs.Sound.{IsRows, row_bytes}
-use Rattle.page_edit.specs.Packed.{AddsBelow, heap_for}
+use Rattle.page_edit.specs.Packed.{PutsBelow, heap_for}
 use Rattle.slotted_page.proofs.FactLemmas.{leaf_is}
 use Rattle.page_edit.proofs.LeafLemmas.{rows_insert}
 use Rattle.page_edit.proofs.insert.leaf_insert.Goals as goal
@@ -30,20 +30,28 @@ returns-clause-rest c =
 pub returns-clause-below : goal.returns-clause-below
 returns-clause-below c = λ room.
     let new = c.insert_here.new.page in
-    subst (λ (bytes : List ℕ). AddsBelow (8 + length c.args.value.now) bytes new) (c.make_room.ensures.stays room) (record { heap = c.insert_here.ensures.heap; kept = c.insert_here.ensures.above })
+    subst (λ (bytes : List ℕ). PutsBelow c.args.at (8 + length c.args.value.now) bytes new) (c.make_room.ensures.stays room)
+    (record { adds = record { heap = c.insert_here.ensures.heap; kept = c.insert_here.ensures.above }; slots_are = c.insert_here.ensures.slots })
 
 pub returns-clause-packed : goal.returns-clause-packed
 returns-clause-packed c = λ full.
     let mid = c.make_room.new.page in
+    let in_order = c.make_room.ensures.packed full in
     record {
-      sound = c.insert_here.ensures.sound;
-      tight = let more = ap row_bytes c.insert_here.ensures.rows ∙ row_bytes-insert (leaf_rows mid) c.args.at (c.args.key, c.args.value.now) in
-          omega (arith, (c.make_room.ensures.packed full).tight, more, c.insert_here.ensures.heap, c.insert_here.ensures.count);
+      packed = mid;
+      rows = c.make_room.ensures.rows;
+      in_order = in_order;
+      puts = record { adds = record { heap = c.insert_here.ensures.heap; kept = c.insert_here.ensures.above }; slots_are = c.insert_here.ensures.slots };
+      tight = record {
+        sound = c.insert_here.ensures.sound;
+        tight = let more = ap row_bytes c.insert_here.ensures.rows ∙ row_bytes-insert (leaf_rows mid) c.args.at (c.args.key, c.args.value.now) in
+            omega (arith, in_order.packed.tight, more, c.insert_here.ensures.heap, c.insert_here.ensures.count);
+      };
     }
 
 pub returns-clause-placed : goal.returns-clause-placed
 returns-clause-placed c =
     elim (cases_lt (heap_start c.args.page.now) (heap_for (8 + length c.args.value.now) c.args.page.now)) [
-      | inl full ↦ inr (returns-clause-packed c full)
-      | inr room ↦ inl (returns-clause-below c room)
+      | inl full ↦ inr (returns-clause-packed c full).tight
+      | inr room ↦ inl (returns-clause-below c room).adds
     ]
