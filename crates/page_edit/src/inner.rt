@@ -67,14 +67,14 @@ pub fn inner_cut(left: &mut PageBuf, right: &mut PageBuf, at: usize, key: u64, c
 }
 
 /// Divides the children of two pages, so many in the left one.
-fn share_children(left: &mut PageBuf, right: &mut PageBuf, n: usize, m: usize, part: usize)
+fn share_children(left: &mut PageBuf, right: &mut PageBuf, left_count: usize, right_count: usize, part: usize)
     requires left { IsInner left.old }
     requires right { IsInner right.old }
-    requires n { n ≡ entry_count left.old }
-    requires m { m ≡ entry_count right.old }
-    requires part { part ≤ n + m }
+    requires left_count { left_count ≡ entry_count left.old }
+    requires right_count { right_count ≡ entry_count right.old }
+    requires part { part ≤ left_count + right_count }
     requires left_room { part ≤ 240 }
-    requires right_room { n + m ≤ 240 + part }
+    requires right_room { left_count + right_count ≤ 240 + part }
     ensures left { children_of left.new ≡ take part (children_of left.old ++ children_of right.old) }
     ensures right { children_of right.new ≡ drop part (children_of left.old ++ children_of right.old) }
     ensures left_inner { IsInner left.new }
@@ -89,13 +89,13 @@ fn share_children(left: &mut PageBuf, right: &mut PageBuf, n: usize, m: usize, p
     let copy = right.copy();
     let level = page_word(right, 16);
     clear_inner(right, level);
-    if part <= n {
-        push_children(right, left, part, n);
-        push_children(right, &copy, 0, m);
+    if part <= left_count {
+        push_children(right, left, part, left_count);
+        push_children(right, &copy, 0, right_count);
         keep_children(left, part);
     } else {
-        push_children(left, &copy, 0, part - n);
-        push_children(right, &copy, part - n, m);
+        push_children(left, &copy, 0, part - left_count);
+        push_children(right, &copy, part - left_count, right_count);
     }
 }
 
@@ -112,12 +112,13 @@ pub fn inner_join(left: &mut PageBuf, right: &mut PageBuf, key: u64) -> bool
     ensures divided { result ≡ false → IsDividedBranch left.old right.old left.new right.new }
     ensures kept { result ≡ true → right.new ≡ right.old }
 {
-    let n = children(left);
-    let m = children(right);
-    if n + m <= 240 {
-        push_children(left, right, 0, m);
+    let left_count = children(left);
+    let right_count = children(right);
+    if left_count + right_count <= 240 {
+        push_children(left, right, 0, right_count);
         return true;
     }
-    share_children(left, right, n, m, (n + m + 1) / 2);
+    let part = (left_count + right_count + 1) / 2;
+    share_children(left, right, left_count, right_count, part);
     false
 }

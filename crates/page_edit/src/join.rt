@@ -43,15 +43,15 @@ fn share(
     right: &mut PageBuf,
     first: &PageBuf,
     second: &PageBuf,
-    n: usize,
-    m: usize,
+    first_count: usize,
+    second_count: usize,
     part: usize,
 )
     requires first { IsSound first.now }
     requires second { IsSound second.now }
-    requires n { n ≡ length (rows_of first.now) }
-    requires m { m ≡ length (rows_of second.now) }
-    requires part { part ≤ n + m }
+    requires first_count { first_count ≡ length (rows_of first.now) }
+    requires second_count { second_count ≡ length (rows_of second.now) }
+    requires part { part ≤ first_count + second_count }
     requires left_room { row_bytes (take part (rows_of first.now ++ rows_of second.now)) ≤ 4032 }
     requires right_room { row_bytes (drop part (rows_of first.now ++ rows_of second.now)) ≤ 4032 }
     ensures left { rows_of left.new ≡ take part (rows_of first.now ++ rows_of second.now) }
@@ -61,28 +61,35 @@ fn share(
 {
     clear_leaf(left);
     clear_leaf(right);
-    if part <= n {
+    if part <= first_count {
         push_rows(left, first, 0, part);
-        push_both(right, first, part, n, second, 0, m);
+        push_both(right, first, part, first_count, second, 0, second_count);
     } else {
-        push_both(left, first, 0, n, second, 0, part - n);
-        push_rows(right, second, part - n, m);
+        push_both(left, first, 0, first_count, second, 0, part - first_count);
+        push_rows(right, second, part - first_count, second_count);
     }
 }
 
 /// How many rows the left one of two leaves has after their rows were divided.
-fn joined_part(left: &PageBuf, right: &PageBuf, n: usize, m: usize, one: usize, two: usize) -> usize
+fn joined_part(
+    left: &PageBuf,
+    right: &PageBuf,
+    left_count: usize,
+    right_count: usize,
+    one: usize,
+    two: usize,
+) -> usize
     requires left { IsSound left.now }
     requires right { IsSound right.now }
-    requires n { n ≡ length (rows_of left.now) }
-    requires m { m ≡ length (rows_of right.now) }
+    requires left_count { left_count ≡ length (rows_of left.now) }
+    requires right_count { right_count ≡ length (rows_of right.now) }
     requires one { one ≡ row_bytes (rows_of left.now) }
     requires two { two ≡ row_bytes (rows_of right.now) }
     requires small { one + two ≤ 8064 }
     ensures { result ≡ rows_left (rows_of left.now ++ rows_of right.now) }
 {
-    let first = part_needed(left, 0, n, one + two);
-    let second = part_needed(right, 0, m, (one + two).saturating_sub(2 * one));
+    let first = part_needed(left, 0, left_count, one + two);
+    let second = part_needed(right, 0, right_count, (one + two).saturating_sub(2 * one));
     first + second
 }
 
@@ -97,18 +104,18 @@ pub fn leaf_join(left: &mut PageBuf, right: &mut PageBuf) -> bool
     ensures divided { result ≡ false → IsDivided left.old right.old left.new right.new }
     ensures kept { result ≡ true → right.new ≡ right.old }
 {
-    let n = open_leaf(left);
-    let m = open_leaf(right);
-    let one = part_bytes(left, 0, n);
-    let two = part_bytes(right, 0, m);
+    let left_count = open_leaf(left);
+    let right_count = open_leaf(right);
+    let one = part_bytes(left, 0, left_count);
+    let two = part_bytes(right, 0, right_count);
     if one + two <= 4032 {
         pack(left);
-        push_rows(left, right, 0, m);
+        push_rows(left, right, 0, right_count);
         return true;
     }
-    let part = joined_part(left, right, n, m, one, two);
+    let part = joined_part(left, right, left_count, right_count, one, two);
     let first = left.copy();
     let second = right.copy();
-    share(left, right, &first, &second, n, m, part);
+    share(left, right, &first, &second, left_count, right_count, part);
     false
 }
