@@ -53,7 +53,7 @@ pub fn push_rows(page: &mut PageBuf, from: &PageBuf, start: usize, end: usize)
     }
 }
 
-/// Packs the records of a leaf to the page's end.
+/// Packs the records of a leaf to the page's end, in the order of the slots: slot 0's record is the last one in the page.
 pub fn pack(page: &mut PageBuf)
     requires sound { IsSound page.old }
     requires room { row_bytes (rows_of page.old) ≤ 4032 }

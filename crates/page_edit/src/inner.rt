@@ -67,7 +67,13 @@ pub fn inner_cut(left: &mut PageBuf, right: &mut PageBuf, at: usize, key: u64, c
 }
 
 /// Divides the children of two pages, so many in the left one.
-fn share_children(left: &mut PageBuf, right: &mut PageBuf, left_count: usize, right_count: usize, part: usize)
+fn share_children(
+    left: &mut PageBuf,
+    right: &mut PageBuf,
+    left_count: usize,
+    right_count: usize,
+    part: usize,
+)
     requires left { IsInner left.old }
     requires right { IsInner right.old }
     requires left_count { left_count ≡ entry_count left.old }

@@ -56,7 +56,7 @@ pub fn leaf_insert(page: &mut PageBuf, at: usize, key: u64, value: &[u8])
     insert_here(page, at, key, value);
 }
 
-/// Takes the row at a place out of a leaf. Its slot goes, and its record stays unused where it is.
+/// Takes the row at a place out of a leaf. Its slot goes; its record stays unused where it is, and the heap starts where it did.
 pub fn leaf_remove(page: &mut PageBuf, at: usize)
     requires leaf { IsLeaf page.old }
     requires at { at < length (rows_of page.old) }

@@ -94,7 +94,8 @@ fn joined_part(
 }
 
 /// Joins two leaves, of which one holds fewer than 1,344 bytes and the left one the lower keys: true where all rows fit in
-/// the left one and were put there, and the right one is as it was. Else the rows of both are divided as in a cut.
+/// the left one and were put there, and the right one is as it was. Else the rows of both are divided as in a cut. A page
+/// that is written is packed.
 pub fn leaf_join(left: &mut PageBuf, right: &mut PageBuf) -> bool
     requires left { IsLeaf left.old }
     requires right { IsLeaf right.old }
