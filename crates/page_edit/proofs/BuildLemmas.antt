@@ -1,13 +1,14 @@
 -- Packed leaves.
-use Rattle.std.proofs.Common.{◌≡◌, ℕ, ◌+◌, ◌-◌, ◌<◌, ◌≤◌, List, [], ◌∷◌, ◌++◌, length, get_or, slice_range, refl, ap, sym, ◌∙◌, arith, append_assoc, append-nil}
+use Rattle.std.proofs.Common.{◌≡◌, ℕ, ◌+◌, ◌-◌, ◌<◌, ◌≤◌, List, [], ◌∷◌, ◌++◌, length, get_or, slice_range, refl, ap, sym, subst, ◌∙◌, arith, append_assoc, append-nil}
 use Rattle.std.specs.List.{insert}
 use Rattle.std.proofs.lemmas.List.Edits.{insert_end, between_none}
 use Rattle.slotted_page.specs.Rows.{Row}
-use Rattle.slotted_page.specs.Node.{slots, leaf_rows, page_kind, page_level, entry_count, heap_start}
-use Rattle.page_edit.specs.Packed.{IsPacked}
+use Rattle.slotted_page.specs.Node.{Slot, slots, leaf_rows, page_kind, page_level, entry_count, heap_start}
+use Rattle.page_edit.specs.Packed.{Descends, IsPackedInOrder}
 use Rattle.slotted_page.specs.Sound.{row_bytes}
 use Rattle.slotted_page.specs.Room.{row_size}
 use Rattle.slotted_page.proofs.RowLemmas.{row_bytes-nil, row_bytes-push, row_bytes-append}
+use Rattle.slotted_page.proofs.SlotLemmas.{length-slots}
 use Rattle.page_edit.proofs.PartLemmas.{part_more, part_bytes}
 
 -- a leaf with no slot
@@ -19,19 +20,34 @@ pub no_rows : (bytes : List ℕ) → entry_count bytes ≡ 0 → leaf_rows bytes
 unfolding leaf_rows
 no_rows bytes none = rw (no_slots bytes none) refl
 
-pub empty_packed : (bytes : List ℕ) → length bytes ≡ 4096 → page_kind bytes ≡ 1 → entry_count bytes ≡ 0 → page_level bytes ≡ 0 → heap_start bytes ≡ 4096 → IsPacked bytes
+pub empty_packed : (bytes : List ℕ) → length bytes ≡ 4096 → page_kind bytes ≡ 1 → entry_count bytes ≡ 0 → page_level bytes ≡ 0 → heap_start bytes ≡ 4096 → IsPackedInOrder bytes
 empty_packed bytes size kind none level heap = record {
-  sound = record {
-    size = size;
-    kind = kind;
-    level = level;
-    below_heap = omega arith;
-    heap = omega arith;
-    in_heap = rw (no_slots bytes none) refl;
-    apart = rw (no_slots bytes none) refl;
+  packed = record {
+    sound = record {
+      size = size;
+      kind = kind;
+      level = level;
+      below_heap = omega arith;
+      heap = omega arith;
+      in_heap = rw (no_slots bytes none) refl;
+      apart = rw (no_slots bytes none) refl;
+    };
+    tight = rw (no_rows bytes none) (omega (arith, row_bytes-nil));
   };
-  tight = rw (no_rows bytes none) (omega (arith, row_bytes-nil));
+  order = rw (no_slots bytes none) heap;
 }
+
+-- one record more, just below the others
+Descends-push : (end heap : ℕ) (all : List Slot) (slot : Slot) → Descends end heap all → slot.place + slot.size ≡ heap → Descends end slot.place (all ++ slot ∷ [])
+Descends-push end heap [] slot down below = (below ∙ down, refl)
+Descends-push end heap (x ∷ xs) slot down below = (down.0, Descends-push x.place heap xs slot down.1 below)
+
+pub pushed_order : (old new : List ℕ) (count size : ℕ) → count ≡ entry_count old → heap_start new + size ≡ heap_start old → slots new ≡ insert (slots old) count (record { place = heap_start new; size = size })
+    → Descends 4096 (heap_start old) (slots old) → Descends 4096 (heap_start new) (slots new)
+pushed_order old new count size is below put down =
+    let slot : Slot = record { place = heap_start new; size = size } in
+    let last = put ∙ ap (λ (k : ℕ). insert (slots old) k slot) (is ∙ sym (length-slots old)) ∙ insert_end (slots old) slot in
+    subst (Descends 4096 (heap_start new)) (sym last) (Descends-push 4096 (heap_start old) (slots old) slot down below)
 
 pub pushed_rows : (rows now : List Row) (n : ℕ) (row : Row) → n ≡ length rows → now ≡ insert rows n row → now ≡ rows ++ row ∷ []
 pushed_rows rows now n row is wrote = wrote ∙ ap (λ (k : ℕ). insert rows k row) is ∙ insert_end rows row

@@ -1,12 +1,12 @@
 -- The cut rule, by parts.
-use Rattle.std.proofs.Common.{◌≡◌, ℕ, zero, suc, ◌+◌, ◌-◌, ◌*◌, ◌<◌, ◌≤◌, ◌≢◌, List, [], ◌∷◌, ◌++◌, length, take, drop, get_or, slice_range, sum, inl, inr, Bool, true, nat_le, refl, ap, sym, ◌∙◌, arith, zero-add}
+use Rattle.std.proofs.Common.{◌≡◌, ℕ, zero, suc, ◌+◌, ◌-◌, ◌*◌, ◌<◌, ◌≤◌, ◌≢◌, List, [], ◌∷◌, ◌++◌, length, take, drop, get_or, slice_range, sum, inl, inr, Bool, true, nat_le, refl, ap, sym, subst, ◌∙◌, arith, zero-add, take-append-drop}
 use Rattle.std.specs.List.{insert, list_all}
 use Rattle.std.proofs.lemmas.Bool.{eq-eqb, ne_eqb, cases_eq, leb-true, and_parts}
 use Rattle.std.proofs.lemmas.List.{map-append, drop_more, drop-drop, take-append-le, drop-append-le, take-take, length-take-le, take_rest, take-map, drop-map, length-map}
 use Rattle.std.proofs.lemmas.List.Sums.{sum_by-cons, sum_by-take-drop}
 use Rattle.std.proofs.lemmas.Slice.{between_is, between_from_start}
 use Rattle.slotted_page.specs.Rows.{Row}
-use Rattle.page_edit.specs.Cut.{needed, rows_left}
+use Rattle.page_edit.specs.Cut.{needed, rows_left, IsShortestHalf, IsCut, IsFilled}
 use Rattle.slotted_page.specs.Room.{sizes, row_size}
 use Rattle.slotted_page.specs.Sound.{row_bytes}
 use Rattle.slotted_page.proofs.RowLemmas.{row_bytes-append, row_bytes-cons}
@@ -136,6 +136,11 @@ needed_is goal (x ∷ xs) =
           })
     ]
 
+pub needed-shortest : (xs : List ℕ) → IsShortestHalf xs (needed (sum xs) xs)
+needed-shortest xs =
+    let is = needed_is (sum xs) xs in
+    record { within = is.within; reaches = is.reaches (omega arith); shorter = is.shorter }
+
 abbrev pub is_small : Row → Bool
 is_small row = nat_le (row_size row) 492
 
@@ -154,6 +159,9 @@ pub record Fit (rows : List Row) (n : ℕ) : Type 0 where
   pub right : row_bytes (drop n rows) ≤ 4032
   pub left_full : 4032 < row_bytes rows → 1344 ≤ row_bytes (take n rows)
   pub right_full : 4032 < row_bytes rows → 1344 ≤ row_bytes (drop n rows)
+  pub shortest : IsShortestHalf (sizes rows) n
+  pub left_filled : 4032 < row_bytes rows → IsFilled (take n rows)
+  pub right_filled : 4032 < row_bytes rows → IsFilled (drop n rows)
 
 pub cut_fits : (rows : List Row) → list_all is_small rows ≡ true → row_bytes rows ≤ 5375 → Fit rows (rows_left rows)
 unfolding rows_left row_bytes
@@ -171,11 +179,21 @@ cut_fits rows small most =
       right = omega (arith, both, back, is.reaches (omega arith), most);
       left_full = λ over. omega (arith, front, is.reaches (omega arith), over);
       right_full = λ over. omega (arith, both, back, low, over);
+      shortest = needed-shortest xs;
+      left_filled = λ over. record { least = omega (arith, front, is.reaches (omega arith), over); most = omega (arith, front, low, most) };
+      right_filled = λ over. record { least = omega (arith, both, back, low, over); most = omega (arith, both, back, is.reaches (omega arith), most) };
     }
   where
     lower : (xs : List ℕ) → ((i : ℕ) → list_all is_small rows ≡ true → sum (take (suc i) xs) ≤ sum (take i xs) + 492) → (k : ℕ) → ((m : ℕ) → m < k → 2 * sum (take m xs) < sum xs) → 2 * sum (take k xs) ≤ sum xs + 2 * 492
     lower xs step zero shorter = omega arith
     lower xs step (suc k) shorter = let before = shorter k (omega arith) in omega (arith, before, step k small)
+
+-- the parts of the rows, as the cut rule says it
+pub cut_is : (all left right : List Row) (n : ℕ) → Fit all n → left ≡ take n all → right ≡ drop n all → IsCut all left right
+cut_is all left right n fit l r = record {
+  whole = ap (λ xs. xs ++ right) l ∙ ap (λ xs. take n all ++ xs) r ∙ take-append-drop n all;
+  shortest = subst (IsShortestHalf (sizes all)) (sym (ap length l ∙ length-take-le n all fit.within)) fit.shortest;
+}
 
 -- the rows of two leaves
 pub whole_is : {X : Type 0} (rows : List X) (n : ℕ) → n ≡ length rows → slice_range rows 0 n ≡ rows

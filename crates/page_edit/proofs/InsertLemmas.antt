@@ -33,7 +33,7 @@ all_insert p (y ∷ ys) (suc i) x all one =
     let parts = and_parts (p y) (list_all p ys) all in
     rw (parts.0, all_insert p ys i x parts.1 one) refl
 
-slots_put : (at place size : ℕ) (row : Row) (old new : List ℕ) → Puts at place size row old new → at ≤ entry_count old → slots new ≡ insert (slots old) at (record { place = place; size = size })
+pub slots_put : (at place size : ℕ) (row : Row) (old new : List ℕ) → Puts at place size row old new → at ≤ entry_count old → slots new ≡ insert (slots old) at (record { place = place; size = size })
 slots_put at place size row old new puts within =
     let count = length-slots old in
     let count_new = length-slots new in

@@ -5,15 +5,16 @@ use Rattle.std.proofs.lemmas.Bool.{le-leb, and_parts}
 use Rattle.std.proofs.lemmas.List.Edits.{length-between}
 use Rattle.slotted_page.specs.Rows.{Row, keys, Ascends, last_key}
 use Rattle.slotted_page.specs.Room.{row_size}
-use Rattle.page_edit.specs.Cut.{rows_left}
+use Rattle.page_edit.specs.Cut.{rows_left, IsFilled}
 use Rattle.slotted_page.specs.Node.{Slot, slots, row_in, leaf_rows, entry_count, heap_start, is_in_heap, has_printable_value, IsLeaf}
 use Rattle.slotted_page.specs.Sound.{IsSound, IsRows, row_bytes, slot_of}
 use Rattle.page_edit.specs.Join.{IsJoined, IsDivided}
+use Rattle.page_edit.specs.Packed.{IsPackedInOrder}
 use Rattle.slotted_page.proofs.FactLemmas.{leaf_is}
 use Rattle.slotted_page.proofs.SlotLemmas.{in_heap_one, slot_inside, row_at}
 use Rattle.slotted_page.proofs.RowLemmas.{row_bytes-cons, row_bytes-insert}
 use Rattle.page_edit.proofs.InsertLemmas.{all_insert}
-use Rattle.page_edit.proofs.CutLemmas.{is_small, Fit, cut_fits}
+use Rattle.page_edit.proofs.CutLemmas.{is_small, Fit, cut_fits, cut_is}
 
 pub rows_insert : (rows : List Row) (at : ℕ) (row : Row) → IsRows rows → row_bytes rows + row_size row ≤ 4032 → Ascends 0 last_key (keys (insert rows at row)) → has_printable_value row ≡ true → IsRows (insert rows at row)
 rows_insert rows at row is room order printable = record {
@@ -87,31 +88,37 @@ all_both p (x ∷ xs) ys one two = let parts = and_parts (p x) (list_all p xs) o
 pub printable_both : (xs ys : List Row) → IsRows xs → IsRows ys → list_all has_printable_value (xs ++ ys) ≡ true
 printable_both xs ys one two = all_both has_printable_value xs ys one.printable two.printable
 
-pub joined_is : (one two left : List ℕ) → IsRows (leaf_rows one) → IsRows (leaf_rows two) → IsSound left → leaf_rows left ≡ leaf_rows one ++ leaf_rows two → row_bytes (leaf_rows one ++ leaf_rows two) ≤ 4032
+pub joined_is : (one two left : List ℕ) → IsRows (leaf_rows one) → IsRows (leaf_rows two) → IsPackedInOrder left → leaf_rows left ≡ leaf_rows one ++ leaf_rows two → row_bytes (leaf_rows one ++ leaf_rows two) ≤ 4032
     → Ascends 0 last_key (keys (leaf_rows one ++ leaf_rows two)) → IsJoined one two left
-joined_is one two left p q sound is fits order = record {
+joined_is one two left p q packed is fits order = record {
   fits = fits;
   rows = is;
-  leaf = leaf_is left sound (subst IsRows (sym is) (record { used = fits; order = order; printable = printable_both (leaf_rows one) (leaf_rows two) p q }));
+  packed = packed;
+  leaf = leaf_is left packed.packed.sound (subst IsRows (sym is) (record { used = fits; order = order; printable = printable_both (leaf_rows one) (leaf_rows two) p q }));
 }
 
 pub join_fit : (one two : List ℕ) → IsSound one → IsSound two → row_bytes (leaf_rows one ++ leaf_rows two) ≤ 5375 → Fit (leaf_rows one ++ leaf_rows two) (rows_left (leaf_rows one ++ leaf_rows two))
 join_fit one two p q most = cut_fits (leaf_rows one ++ leaf_rows two) (all_both is_small (leaf_rows one) (leaf_rows two) (small_rows one p) (small_rows two q)) most
 
 pub divided_is : (one two left right : List ℕ) → IsRows (leaf_rows one) → IsRows (leaf_rows two) → Fit (leaf_rows one ++ leaf_rows two) (rows_left (leaf_rows one ++ leaf_rows two))
-    → IsSound left → IsSound right → 4032 < row_bytes (leaf_rows one ++ leaf_rows two) → Ascends 0 last_key (keys (leaf_rows one ++ leaf_rows two))
+    → IsPackedInOrder left → IsPackedInOrder right → 4032 < row_bytes (leaf_rows one ++ leaf_rows two) → Ascends 0 last_key (keys (leaf_rows one ++ leaf_rows two))
     → leaf_rows left ≡ take (rows_left (leaf_rows one ++ leaf_rows two)) (leaf_rows one ++ leaf_rows two) → leaf_rows right ≡ drop (rows_left (leaf_rows one ++ leaf_rows two)) (leaf_rows one ++ leaf_rows two) → IsDivided one two left right
-divided_is one two left right p q fit sound_left sound_right over order l r =
+divided_is one two left right p q fit left_packed right_packed over order l r =
     let all = leaf_rows one ++ leaf_rows two in
     let printable = printable_both (leaf_rows one) (leaf_rows two) p q in
     record {
       over = over;
       left_rows = l;
       right_rows = r;
-      left_leaf = left_leaf left all (rows_left all) sound_left l fit.left order printable;
-      right_leaf = right_leaf right all (rows_left all) sound_right r fit.right order printable;
+      left_leaf = left_leaf left all (rows_left all) left_packed.packed.sound l fit.left order printable;
+      right_leaf = right_leaf right all (rows_left all) right_packed.packed.sound r fit.right order printable;
       left_full = omega (arith, ap row_bytes l, fit.left_full over);
       right_full = omega (arith, ap row_bytes r, fit.right_full over);
+      halves = cut_is all (leaf_rows left) (leaf_rows right) (rows_left all) fit l r;
+      left_filled = subst IsFilled (sym l) (fit.left_filled over);
+      right_filled = subst IsFilled (sym r) (fit.right_filled over);
+      left_packed = left_packed;
+      right_packed = right_packed;
     }
 
 -- another value of the same length, at the same key

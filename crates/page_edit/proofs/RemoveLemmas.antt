@@ -39,7 +39,7 @@ apart_remove (y ∷ ys) (suc i) apart =
     let parts = and_parts (list_all (are_apart y) ys) (all_apart ys) apart in
     rw (all_remove (are_apart y) ys i parts.0, apart_remove ys i parts.1) refl
 
-slots_out : (at : ℕ) (old new : List ℕ) → TakesOut at old new → at < entry_count old → slots new ≡ remove (slots old) at
+pub slots_out : (at : ℕ) (old new : List ℕ) → TakesOut at old new → at < entry_count old → slots new ≡ remove (slots old) at
 slots_out at old new out within =
     let count = length-slots old in
     let count_new = length-slots new in

@@ -2,11 +2,11 @@
 ghost use Rattle.std.specs.Prelude.{◌≡◌, ◌+◌, ◌-◌, ◌*◌, ◌<◌, ◌≤◌, ℕ, List, [], ◌∷◌, ◌++◌, true, length, slice_range, take, drop};
 ghost use Rattle.std.specs.List.{insert, list_all};
 ghost use Rattle.slotted_page.specs.Rows.{Ascends, keys, last_key};
-ghost use Rattle.page_edit.specs.Cut.{needed, rows_left};
+ghost use Rattle.page_edit.specs.Cut.{needed, rows_left, IsCut, IsFilled};
 ghost use Rattle.slotted_page.specs.Room.{sizes};
 ghost use Rattle.slotted_page.specs.Node.{IsLeaf, is_printable, leaf_rows as rows_of};
 ghost use Rattle.slotted_page.specs.Sound.{IsSound, row_bytes};
-ghost use Rattle.page_edit.specs.Packed.{IsPacked};
+ghost use Rattle.page_edit.specs.Packed.{IsPackedInOrder};
 
 use crate::build::{clear_leaf, push_row, push_rows};
 use slotted_page::{leaf_value, open_leaf};
@@ -86,7 +86,7 @@ fn push_with(
     key: u64,
     value: &[u8],
 )
-    requires packed { IsPacked page.old }
+    requires packed { IsPackedInOrder page.old }
     requires sound { IsSound from.now }
     requires before { start ≤ at }
     requires behind { at ≤ end }
@@ -94,7 +94,7 @@ fn push_with(
     requires few { length value.now ≤ 480 }
     requires room { row_bytes (rows_of page.old ++ (slice_range (rows_of from.now) start at ++ (key, value.now) ∷ slice_range (rows_of from.now) at end)) ≤ 4032 }
     ensures rows { rows_of page.new ≡ rows_of page.old ++ (slice_range (rows_of from.now) start at ++ (key, value.now) ∷ slice_range (rows_of from.now) at end) }
-    ensures packed { IsPacked page.new }
+    ensures packed { IsPackedInOrder page.new }
 {
     push_rows(page, from, start, at);
     push_row(page, key, value);
@@ -121,8 +121,8 @@ fn divide(
     requires right_room { row_bytes (drop part (insert (rows_of from.now) at (key, value.now))) ≤ 4032 }
     ensures left { rows_of left.new ≡ take part (insert (rows_of from.now) at (key, value.now)) }
     ensures right { rows_of right.new ≡ drop part (insert (rows_of from.now) at (key, value.now)) }
-    ensures left_packed { IsPacked left.new }
-    ensures right_packed { IsPacked right.new }
+    ensures left_packed { IsPackedInOrder left.new }
+    ensures right_packed { IsPackedInOrder right.new }
 {
     clear_leaf(left);
     clear_leaf(right);
@@ -136,7 +136,7 @@ fn divide(
 }
 
 /// Cuts a leaf in two, with a new row put in at a place. The left part is the shortest prefix of the rows whose bytes,
-/// doubled, reach the total; both pages are packed.
+/// doubled, reach the total; both pages are packed. Where the rows do not fit in one leaf, each part has 1,525 to 3,179 bytes.
 pub fn leaf_cut(left: &mut PageBuf, right: &mut PageBuf, at: usize, key: u64, value: &[u8])
     requires leaf { IsLeaf left.old }
     requires at { at ≤ length (rows_of left.old) }
@@ -149,6 +149,11 @@ pub fn leaf_cut(left: &mut PageBuf, right: &mut PageBuf, at: usize, key: u64, va
     ensures right_leaf { IsLeaf right.new }
     ensures left_full { 4032 < row_bytes (insert (rows_of left.old) at (key, value.now)) → 1344 ≤ row_bytes (rows_of left.new) }
     ensures right_full { 4032 < row_bytes (insert (rows_of left.old) at (key, value.now)) → 1344 ≤ row_bytes (rows_of right.new) }
+    ensures halves { IsCut (insert (rows_of left.old) at (key, value.now)) (rows_of left.new) (rows_of right.new) }
+    ensures left_filled { 4032 < row_bytes (insert (rows_of left.old) at (key, value.now)) → IsFilled (rows_of left.new) }
+    ensures right_filled { 4032 < row_bytes (insert (rows_of left.old) at (key, value.now)) → IsFilled (rows_of right.new) }
+    ensures left_packed { IsPackedInOrder left.new }
+    ensures right_packed { IsPackedInOrder right.new }
 {
     let count = open_leaf(left);
     let part = left_part(left, at, count, key, value);

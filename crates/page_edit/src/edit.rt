@@ -4,7 +4,7 @@ ghost use Rattle.std.specs.List.{insert, remove};
 ghost use Rattle.slotted_page.specs.Rows.{Row};
 ghost use Rattle.ssd_model.specs.Page.{Same, Moved};
 ghost use Rattle.line_pages.specs.Bytes.{u16_at, u64_at};
-ghost use Rattle.slotted_page.specs.Node.{entry_count, heap_start, row_in, Slot, leaf_rows as rows_of};
+ghost use Rattle.slotted_page.specs.Node.{entry_count, heap_start, row_in, Slot, slots, leaf_rows as rows_of};
 ghost use Rattle.slotted_page.specs.Sound.{IsSound, slot_of};
 
 use line_pages::{page_word, set_page_half, set_page_word};
@@ -66,6 +66,7 @@ pub fn insert_here(page: &mut PageBuf, at: usize, key: u64, value: &[u8])
     ensures count { entry_count page.new ≡ entry_count page.old + 1 }
     ensures rest { Same (64 + 4 * entry_count page.new) (heap_start page.new) page.old page.new }
     ensures above { Same (heap_start page.old) 4096 page.old page.new }
+    ensures slots { slots page.new ≡ insert (slots page.old) at (record { place = heap_start page.new; size = 8 + length value.now }) }
 {
     let count = page_word(page, 8) as usize;
     let heap = page_word(page, 24) as usize;
@@ -83,6 +84,8 @@ pub fn remove_here(page: &mut PageBuf, at: usize)
     ensures rows { rows_of page.new ≡ remove (rows_of page.old) at }
     ensures sound { IsSound page.new }
     ensures rest { Same (64 + 4 * entry_count page.old) 4096 page.old page.new }
+    ensures heap { heap_start page.new ≡ heap_start page.old }
+    ensures slots { slots page.new ≡ remove (slots page.old) at }
 {
     let count = page_word(page, 8) as usize;
     page.shift(68 + 4 * at, 64 + 4 * count, 64 + 4 * at);

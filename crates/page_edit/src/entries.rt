@@ -4,6 +4,7 @@ ghost use Rattle.std.specs.List.{insert, remove};
 ghost use Rattle.ssd_model.specs.Page.{Same};
 ghost use Rattle.slotted_page.specs.Node.{entry_count, page_level, children as children_of};
 ghost use Rattle.slotted_page.specs.Inner.{IsInner};
+ghost use Rattle.page_edit.specs.Join.{unused_word};
 
 use line_pages::{page_word, set_page_word};
 use ssd_model::PageBuf;
@@ -14,6 +15,7 @@ pub fn clear_inner(page: &mut PageBuf, level: u64)
     ensures count { entry_count page.new ≡ 0 }
     ensures inner { IsInner page.new }
     ensures level { page_level page.new ≡ level }
+    ensures unused { unused_word page.new ≡ 0 }
     ensures rest { Same 32 4096 page.old page.new }
 {
     set_page_word(page, 0, 2);
@@ -31,6 +33,7 @@ pub fn insert_child(page: &mut PageBuf, at: usize, key: u64, child: u64)
     ensures count { entry_count page.new ≡ entry_count page.old + 1 }
     ensures inner { IsInner page.new }
     ensures level { page_level page.new ≡ page_level page.old }
+    ensures unused { unused_word page.new ≡ unused_word page.old }
     ensures rest { Same (80 + 16 * entry_count page.old) 4096 page.old page.new }
 {
     let count = page_word(page, 8) as usize;
@@ -48,6 +51,7 @@ pub fn remove_child(page: &mut PageBuf, at: usize)
     ensures count { entry_count page.new + 1 ≡ entry_count page.old }
     ensures inner { IsInner page.new }
     ensures level { page_level page.new ≡ page_level page.old }
+    ensures unused { unused_word page.new ≡ unused_word page.old }
     ensures rest { Same (64 + 16 * entry_count page.old) 4096 page.old page.new }
 {
     let count = page_word(page, 8) as usize;
@@ -63,6 +67,7 @@ pub fn keep_children(page: &mut PageBuf, count: usize)
     ensures count { entry_count page.new ≡ count }
     ensures inner { IsInner page.new }
     ensures level { page_level page.new ≡ page_level page.old }
+    ensures unused { unused_word page.new ≡ unused_word page.old }
     ensures rest { Same 16 4096 page.old page.new }
 {
     set_page_word(page, 8, count as u64);
@@ -79,6 +84,7 @@ pub fn push_children(page: &mut PageBuf, from: &PageBuf, start: usize, end: usiz
     ensures count { entry_count page.new + start ≡ entry_count page.old + end }
     ensures inner { IsInner page.new }
     ensures level { page_level page.new ≡ page_level page.old }
+    ensures unused { unused_word page.new ≡ unused_word page.old }
     ensures rest { Same (64 + 16 * entry_count page.new) 4096 page.old page.new }
 {
     let count = page_word(page, 8) as usize;

@@ -6,7 +6,7 @@ ghost use Rattle.slotted_page.specs.Rows.{Ascends, last_key};
 ghost use Rattle.page_edit.specs.Cut.{children_left};
 ghost use Rattle.slotted_page.specs.Node.{begins_at, entry_count, page_level, first_keys, children as children_of};
 ghost use Rattle.slotted_page.specs.Inner.{IsInner, IsBranch};
-ghost use Rattle.page_edit.specs.Join.{IsJoinedBranch, IsDividedBranch};
+ghost use Rattle.page_edit.specs.Join.{IsJoinedBranch, IsDividedBranch, unused_word};
 
 use crate::entries::{clear_inner, insert_child, keep_children, push_children, remove_child};
 use line_pages::page_word;
@@ -22,6 +22,7 @@ pub fn inner_insert(page: &mut PageBuf, at: usize, key: u64, child: u64)
     ensures children { children_of page.new ≡ insert (children_of page.old) at (key, child) }
     ensures branch { IsBranch page.new }
     ensures level { page_level page.new ≡ page_level page.old }
+    ensures unused { unused_word page.new ≡ unused_word page.old }
     ensures rest { Same 3904 4096 page.old page.new }
 {
     children(page);
@@ -35,6 +36,7 @@ pub fn inner_remove(page: &mut PageBuf, at: usize)
     ensures children { children_of page.new ≡ remove (children_of page.old) at }
     ensures branch { IsBranch page.new }
     ensures level { page_level page.new ≡ page_level page.old }
+    ensures unused { unused_word page.new ≡ unused_word page.old }
     ensures rest { Same 3904 4096 page.old page.new }
 {
     children(page);
@@ -52,6 +54,8 @@ pub fn inner_cut(left: &mut PageBuf, right: &mut PageBuf, at: usize, key: u64, c
     ensures right_branch { IsBranch right.new }
     ensures left_level { page_level left.new ≡ page_level left.old }
     ensures right_level { page_level right.new ≡ page_level left.old }
+    ensures left_unused { unused_word left.new ≡ unused_word left.old }
+    ensures right_unused { unused_word right.new ≡ 0 }
 {
     let count = children(left);
     let level = page_word(left, 16);
@@ -63,33 +67,41 @@ pub fn inner_cut(left: &mut PageBuf, right: &mut PageBuf, at: usize, key: u64, c
 }
 
 /// Divides the children of two pages, so many in the left one.
-fn share_children(left: &mut PageBuf, right: &mut PageBuf, n: usize, m: usize, part: usize)
+fn share_children(
+    left: &mut PageBuf,
+    right: &mut PageBuf,
+    left_count: usize,
+    right_count: usize,
+    part: usize,
+)
     requires left { IsInner left.old }
     requires right { IsInner right.old }
-    requires n { n ≡ entry_count left.old }
-    requires m { m ≡ entry_count right.old }
-    requires part { part ≤ n + m }
+    requires left_count { left_count ≡ entry_count left.old }
+    requires right_count { right_count ≡ entry_count right.old }
+    requires part { part ≤ left_count + right_count }
     requires left_room { part ≤ 240 }
-    requires right_room { n + m ≤ 240 + part }
+    requires right_room { left_count + right_count ≤ 240 + part }
     ensures left { children_of left.new ≡ take part (children_of left.old ++ children_of right.old) }
     ensures right { children_of right.new ≡ drop part (children_of left.old ++ children_of right.old) }
     ensures left_inner { IsInner left.new }
     ensures right_inner { IsInner right.new }
     ensures left_level { page_level left.new ≡ page_level left.old }
     ensures right_level { page_level right.new ≡ page_level right.old }
+    ensures left_unused { unused_word left.new ≡ unused_word left.old }
+    ensures right_unused { unused_word right.new ≡ 0 }
     ensures left_rest { Same 3904 4096 left.old left.new }
     ensures right_rest { Same 3904 4096 right.old right.new }
 {
     let copy = right.copy();
     let level = page_word(right, 16);
     clear_inner(right, level);
-    if part <= n {
-        push_children(right, left, part, n);
-        push_children(right, &copy, 0, m);
+    if part <= left_count {
+        push_children(right, left, part, left_count);
+        push_children(right, &copy, 0, right_count);
         keep_children(left, part);
     } else {
-        push_children(left, &copy, 0, part - n);
-        push_children(right, &copy, part - n, m);
+        push_children(left, &copy, 0, part - left_count);
+        push_children(right, &copy, part - left_count, right_count);
     }
 }
 
@@ -106,12 +118,13 @@ pub fn inner_join(left: &mut PageBuf, right: &mut PageBuf, key: u64) -> bool
     ensures divided { result ≡ false → IsDividedBranch left.old right.old left.new right.new }
     ensures kept { result ≡ true → right.new ≡ right.old }
 {
-    let n = children(left);
-    let m = children(right);
-    if n + m <= 240 {
-        push_children(left, right, 0, m);
+    let left_count = children(left);
+    let right_count = children(right);
+    if left_count + right_count <= 240 {
+        push_children(left, right, 0, right_count);
         return true;
     }
-    share_children(left, right, n, m, (n + m + 1) / 2);
+    let part = (left_count + right_count + 1) / 2;
+    share_children(left, right, left_count, right_count, part);
     false
 }

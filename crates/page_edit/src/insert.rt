@@ -3,8 +3,8 @@ ghost use Rattle.std.specs.Prelude.{◌⊎◌, get_or, slice_set, ◌≡◌, ◌
 ghost use Rattle.std.specs.List.{insert, remove, list_all};
 ghost use Rattle.ssd_model.specs.Page.{Same};
 ghost use Rattle.slotted_page.specs.Rows.{Row, Ascends, keys, last_key};
-ghost use Rattle.slotted_page.specs.Node.{IsLeaf, entry_count, heap_start, is_printable, leaf_rows as rows_of};
-ghost use Rattle.page_edit.specs.Packed.{IsPacked, AddsBelow};
+ghost use Rattle.slotted_page.specs.Node.{IsLeaf, entry_count, heap_start, is_printable, slots, leaf_rows as rows_of};
+ghost use Rattle.page_edit.specs.Packed.{IsPacked, IsPackedInOrder, AddsBelow, PutsBelow, PacksFirst, heap_for};
 ghost use Rattle.slotted_page.specs.Sound.{slot_of, IsSound, row_bytes};
 
 use crate::build::pack;
@@ -24,7 +24,8 @@ fn make_room(page: &mut PageBuf, more: usize)
     ensures room { 64 + 4 * (entry_count page.new + 1) + (8 + more) ≤ heap_start page.new }
     ensures count { length (rows_of page.new) ≡ entry_count page.new }
     ensures rest { Same (64 + 4 * entry_count page.new) (heap_start page.new) page.old page.new }
-    ensures packed { (page.new ≡ page.old) ⊎ IsPacked page.new }
+    ensures stays { heap_for (8 + more) page.old ≤ heap_start page.old → page.new ≡ page.old }
+    ensures packed { heap_start page.old < heap_for (8 + more) page.old → IsPackedInOrder page.new }
 {
     let count = page_word(page, 8) as usize;
     let heap = page_word(page, 24) as usize;
@@ -47,19 +48,23 @@ pub fn leaf_insert(page: &mut PageBuf, at: usize, key: u64, value: &[u8])
     ensures leaf { IsLeaf page.new }
     ensures rest { Same (64 + 4 * entry_count page.new) (heap_start page.new) page.old page.new }
     ensures placed { AddsBelow (8 + length value.now) page.old page.new ⊎ IsPacked page.new }
+    ensures below { heap_for (8 + length value.now) page.old ≤ heap_start page.old → PutsBelow at (8 + length value.now) page.old page.new }
+    ensures packed { heap_start page.old < heap_for (8 + length value.now) page.old → PacksFirst at (8 + length value.now) page.old page.new }
 {
     open_leaf(page);
     make_room(page, value.len());
     insert_here(page, at, key, value);
 }
 
-/// Takes the row at a place out of a leaf. Its slot goes, and its record stays unused where it is.
+/// Takes the row at a place out of a leaf. Its slot goes; its record stays unused where it is, and the heap starts where it did.
 pub fn leaf_remove(page: &mut PageBuf, at: usize)
     requires leaf { IsLeaf page.old }
     requires at { at < length (rows_of page.old) }
     ensures rows { rows_of page.new ≡ remove (rows_of page.old) at }
     ensures leaf { IsLeaf page.new }
     ensures rest { Same (64 + 4 * entry_count page.old) 4096 page.old page.new }
+    ensures heap { heap_start page.new ≡ heap_start page.old }
+    ensures slots { slots page.new ≡ remove (slots page.old) at }
 {
     open_leaf(page);
     remove_here(page, at);

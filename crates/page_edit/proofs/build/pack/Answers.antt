@@ -10,4 +10,4 @@ returns-clause-rest c =
     let new = c.push_rows.new.page in
     let from = 64 + 4 * entry_count new in
     let end = heap_start new in
-    same_then from end old cleared new (same_part from end 32 4096 old cleared c.clear_leaf.ensures.rest (omega arith) (omega (arith, c.push_rows.ensures.packed.sound.heap))) c.push_rows.ensures.rest
+    same_then from end old cleared new (same_part from end 32 4096 old cleared c.clear_leaf.ensures.rest (omega arith) (omega (arith, c.push_rows.ensures.packed.packed.sound.heap))) c.push_rows.ensures.rest

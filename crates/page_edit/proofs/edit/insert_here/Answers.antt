@@ -1,7 +1,8 @@
-use Rattle.slotted_page.specs.Node.{entry_count, heap_start}
-use Rattle.std.proofs.Common.{◌+◌, ◌-◌, ◌*◌, ◌∙◌, arith, length}
+use Rattle.slotted_page.specs.Node.{entry_count, heap_start, slots}
+use Rattle.std.specs.List.{insert}
+use Rattle.std.proofs.Common.{◌+◌, ◌-◌, ◌*◌, ◌∙◌, ℕ, ap, sym, arith, length}
 use Rattle.line_pages.proofs.NumberLaws.{u64_at-same, same_then, same_part}
-use Rattle.page_edit.proofs.InsertLemmas.{Puts, slot_of-same, slot_of-moved, row_in-same, rows_put, sound_put}
+use Rattle.page_edit.proofs.InsertLemmas.{Puts, slot_of-same, slot_of-moved, row_in-same, slots_put, rows_put, sound_put}
 use Rattle.page_edit.proofs.edit.insert_here.Goals as goal
 use Rattle.page_edit.proofs.edit.insert_here.Goals.{After-set_header}
 
@@ -41,6 +42,13 @@ returns-clause-rows c = rows_put c.args.at _ _ _ c.args.page.now c.set_header.ne
 
 pub returns-clause-sound : goal.returns-clause-sound
 returns-clause-sound c = sound_put c.args.at _ _ _ c.args.page.now c.set_header.new.page (puts c) (omega arith) (omega arith) c.requires.sound (omega arith) (omega arith) (omega arith)
+
+pub returns-clause-slots : goal.returns-clause-slots
+returns-clause-slots c =
+    let old = c.args.page.now in
+    let size = 8 + length c.args.value.now in
+    slots_put c.args.at _ size _ old c.set_header.new.page (puts c) (omega arith)
+    ∙ ap (λ (place : ℕ). insert (slots old) c.args.at (record { place = place; size = size })) (sym c.set_header.ensures.heap)
 
 pub returns-clause-rest : goal.returns-clause-rest
 returns-clause-rest c =

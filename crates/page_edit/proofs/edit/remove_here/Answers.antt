@@ -2,7 +2,7 @@ use Rattle.std.proofs.Common.{◌+◌, ◌*◌, ◌∙◌, arith}
 use Rattle.slotted_page.specs.Node.{entry_count, heap_start}
 use Rattle.line_pages.proofs.NumberLaws.{u64_at-same, same_then, same_part}
 use Rattle.page_edit.proofs.InsertLemmas.{slot_of-same, slot_of-moved}
-use Rattle.page_edit.proofs.RemoveLemmas.{TakesOut, rows_out, sound_out}
+use Rattle.page_edit.proofs.RemoveLemmas.{TakesOut, slots_out, rows_out, sound_out}
 use Rattle.page_edit.proofs.edit.remove_here.Goals as goal
 use Rattle.page_edit.proofs.edit.remove_here.Goals.{After-set_page_word}
 
@@ -33,6 +33,12 @@ returns-clause-rows c = rows_out c.args.at c.args.page.now c.set_page_word.new.p
 
 pub returns-clause-sound : goal.returns-clause-sound
 returns-clause-sound c = sound_out c.args.at c.args.page.now c.set_page_word.new.page (out c) c.requires.at c.requires.sound
+
+pub returns-clause-heap : goal.returns-clause-heap
+returns-clause-heap c = (out c).heap
+
+pub returns-clause-slots : goal.returns-clause-slots
+returns-clause-slots c = slots_out c.args.at c.args.page.now c.set_page_word.new.page (out c) c.requires.at
 
 pub returns-clause-rest : goal.returns-clause-rest
 returns-clause-rest c =

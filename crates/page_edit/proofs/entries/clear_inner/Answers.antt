@@ -32,3 +32,6 @@ returns-clause-rest c =
     (same_then 32 4096 c.set_page_word.new.page c.set_page_word-2.new.page c.set_page_word-4.new.page (same_part 32 4096 16 4096 _ _ c.set_page_word-2.ensures.after (omega arith) (omega arith))
     (same_then 32 4096 c.set_page_word-2.new.page c.set_page_word-3.new.page c.set_page_word-4.new.page (same_part 32 4096 24 4096 _ _ c.set_page_word-3.ensures.after (omega arith) (omega arith))
     c.set_page_word-4.ensures.after))
+
+pub returns-clause-unused : goal.returns-clause-unused
+returns-clause-unused c = c.set_page_word-4.ensures.value

@@ -42,3 +42,7 @@ returns-clause-rest c =
     (same_then past 4096 c.shift.new.self c.set_page_word.new.page c.set_page_word-3.new.page (same_part past 4096 (64 + 16 * at + 8) 4096 _ _ c.set_page_word.ensures.after (omega arith) (omega arith))
     (same_then past 4096 c.set_page_word.new.page c.set_page_word-2.new.page c.set_page_word-3.new.page (same_part past 4096 (72 + 16 * at + 8) 4096 _ _ c.set_page_word-2.ensures.after (omega arith) (omega arith))
     (same_part past 4096 16 4096 _ _ c.set_page_word-3.ensures.after (omega arith) (omega arith))))
+
+pub returns-clause-unused : goal.returns-clause-unused
+returns-clause-unused c = u64_at-same 16 4096 24 _ _ c.set_page_word-3.ensures.after (omega arith) (omega arith) ∙ u64_at-same 0 (72 + 16 * c.args.at) 24 _ _ c.set_page_word-2.ensures.before (omega arith) (omega arith)
+    ∙ u64_at-same 0 (64 + 16 * c.args.at) 24 _ _ c.set_page_word.ensures.before (omega arith) (omega arith) ∙ u64_at-same 0 (80 + 16 * c.args.at) 24 _ _ c.shift.ensures.before (omega arith) (omega arith)

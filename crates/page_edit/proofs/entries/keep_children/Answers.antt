@@ -16,3 +16,6 @@ returns-clause-inner c = record {
 
 pub returns-clause-level : goal.returns-clause-level
 returns-clause-level c = u64_at-same 16 4096 16 _ _ c.set_page_word.ensures.after (omega arith) (omega arith)
+
+pub returns-clause-unused : goal.returns-clause-unused
+returns-clause-unused c = u64_at-same 16 4096 24 _ _ c.set_page_word.ensures.after (omega arith) (omega arith)

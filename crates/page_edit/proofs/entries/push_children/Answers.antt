@@ -38,3 +38,6 @@ returns-clause-rest c =
     same_then past 4096 c.args.page.now c.set_part.new.self c.set_page_word.new.page
     (same_part past 4096 (64 + 16 * c.page_word-count.result + length c.part.result.now) 4096 _ _ c.set_part.ensures.after (omega (arith, size, c.set_page_word.ensures.value)) (omega arith))
     (same_part past 4096 16 4096 _ _ c.set_page_word.ensures.after (omega arith) (omega arith))
+
+pub returns-clause-unused : goal.returns-clause-unused
+returns-clause-unused c = u64_at-same 16 4096 24 _ _ c.set_page_word.ensures.after (omega arith) (omega arith) ∙ u64_at-same 0 (64 + 16 * c.page_word-count.result) 24 _ _ c.set_part.ensures.before (omega arith) (omega arith)

@@ -31,3 +31,6 @@ returns-clause-rest c =
     same_then end 4096 old c.shift.new.self c.set_page_word.new.page
     (same_part end 4096 (48 + 16 * entry_count old) 4096 _ _ (c.shift.ensures.after (48 + 16 * entry_count old) (omega arith)) (omega arith) (omega arith))
     (same_part end 4096 16 4096 _ _ c.set_page_word.ensures.after (omega arith) (omega arith))
+
+pub returns-clause-unused : goal.returns-clause-unused
+returns-clause-unused c = u64_at-same 16 4096 24 _ _ c.set_page_word.ensures.after (omega arith) (omega arith) ∙ u64_at-same 0 (64 + 16 * c.args.at) 24 _ _ c.shift.ensures.before (omega arith) (omega arith)
