@@ -1,5 +1,6 @@
 pub mod CallsLaws
 pub mod FlushLaws
+pub mod SuperLaws
 pub mod FormatLaws
 pub mod StandsLaws
 pub mod ReplayLaws
@@ -11,4 +12,5 @@ pub mod GroupLaws
 pub mod ReopenLaws
 pub mod OpeningLaws
 pub mod CompleteLaws
+pub mod SettledLaws
 pub mod RecoverLaws

@@ -2,7 +2,7 @@
 use Rattle.std.proofs.Common.{◌≡◌, ◌≢◌, ℕ, ◌<◌, ◌≤◌, refl, sym, ap, ◌∙◌, subst, inl, inr, slice_index, IsTrue, Option, Some, None, Result, Ok, Err}
 use Rattle.std.proofs.lemmas.Bool.{cases_lt}
 use Rattle.std.specs.Prelude.{IfErr, OnOk}
-use Rattle.devices.specs.State.{State, Image, current, fresh}
+use Rattle.devices.specs.State.{State, Image, after_all, current, fresh}
 use Rattle.devices.specs.World.{Standing, Goes, Stays, Moments, MakesAll, now}
 use Rattle.devices.proofs.MomentLaws.{Goes-on, Moments-trans, Moments-map}
 use Rattle.devices.proofs.JoinLaws.{Stays-now, Stays-trans}
@@ -20,11 +20,14 @@ use Rattle.store_meaning.specs.Format.Format.{whole_lines}
 use Rattle.store_meaning.specs.Recovered.{Super, super_of, super_check, log_of, log_lines, log_line, image_log_check, IsStore}
 use Rattle.store_meaning.specs.InOrder.{Stands}
 use Rattle.store_meaning.proofs.CheckLaws.{checks_from}
+use Rattle.store_meaning.proofs.AtEndLaws.{OnOk_map}
+use Rattle.store_meaning.proofs.FactsLaws.{current_leaves}
 use Rattle.store_meaning.proofs.FreshLaws.{fresh_stands}
 use Rattle.store_laws.specs.OpenFacts.{OpenFacts, super_with}
 use Rattle.store_laws.specs.ShownPages.{pages_in, committed_in}
 use Rattle.store_laws.specs.Steps.{KeepsOpen}
-use Rattle.store_laws.proofs.StepLaws.{read_open, read_current, read_committed, steady_facts}
+use Rattle.store_laws.proofs.StepLaws.{read_open, read_current, read_committed}
+use Rattle.store_laws.proofs.AsReadLaws.{current_as, after_as, fresh_as}
 use Rattle.recovery.specs.Calls.{recover_calls}
 use Rattle.recovery.specs.Errors.{open_error}
 use Rattle.recovery.specs.Heads.{IsLogEvidence, IsFoundFault, KeepsEvidence}
@@ -36,6 +39,7 @@ use Rattle.recovery.specs.declared.errors.OpenError.TheVariants.{Nvm, Ssd, NotAS
 use Rattle.recovery.proofs.ReadingLaws.{checked_of_store}
 use Rattle.recovery.proofs.ReplayLaws.{LogOfStore}
 use Rattle.recovery.proofs.ReplayingLaws.{told_then}
+use Rattle.recovery.proofs.SettledLaws.{recover_settled, settled_open}
 use Rattle.recovery.proofs.RecoverLaws.{recover_step, recover_moment, recover_facts, stands_leave, stands_hold}
 
 -- Where no device changes, what recovery gives stays.
@@ -100,6 +104,17 @@ module _ (gates : Gates) (a b : Standing) (goes : Goes a b) (told : IsTrue a.tol
   seen_step : KeepsOpen g tail tail (λ lines. committed_in (fresh i)) (recover_calls g (log_of whole_lines i) tail) (fresh i)
   seen_step = recover_step g (super_of (current (now a))).start tail a.lines a.blocks (fresh i) seen_stands super_is of_store
 
+  -- what the calls leave of the devices, whatever stood behind what one reads
+  made_open : OpenFacts g tail tail (after_all (recover_calls g (log_of whole_lines i) tail) (now a))
+  made_open =
+      let made : State = after_all (recover_calls g (log_of whole_lines i) tail) (now a) in
+      let seen : State = after_all (recover_calls g (log_of whole_lines i) tail) (fresh i) in
+      let same : current made ≡ current seen = current_as made seen (after_as (recover_calls g (log_of whole_lines i) tail) (now a) (fresh i) (fresh_as (now a))) in
+      let facts : OpenFacts g tail tail seen = (seen_step.leads).facts in
+      settled_open g tail made (recover_settled g (log_of whole_lines i) of_store tail (now a))
+      (ap super_of same ∙ facts.super_words)
+      (subst (λ (x : Image). IsStore whole_lines x) (sym same) ((facts.facts).stores (current seen) (current_leaves seen)))
+
   module _ {T : Type 0} (r : Result T OpenError) (makes : MakesAll (recover_calls (super_of (current (now a))).sizes (log_of whole_lines (current (now a))) (super_of (current (now a))).tail) a b r) where
     pub open_keeps : KeepsStore a b
     open_keeps = record {
@@ -114,10 +129,8 @@ module _ (gates : Gates) (a b : Standing) (goes : Goes a b) (told : IsTrue a.tol
     pub open_current : OnOk r (pages_in g (now b) ≡ committed_in (now a))
     open_current = read_current (recover_calls g (log_of whole_lines i) tail) a b r goes makes told g tail tail seen_step
 
-    pub open_steady : Stands whole_lines a.lines a.blocks (now a) → OnOk r (OpenFacts g tail tail (now b))
-    open_steady stands =
-        steady_facts (recover_calls g (log_of whole_lines i) tail) a b r goes makes told (λ (s : State). OpenFacts g tail tail s)
-        (recover_step g (super_of (current (now a))).start tail a.lines a.blocks (now a) stands super_is of_store).leads
+    pub open_steady : OnOk r (OpenFacts g tail tail (now b))
+    open_steady = OnOk_map r (λ (done : now b ≡ after_all (recover_calls g (log_of whole_lines i) tail) (now a)). subst (λ (s : State). OpenFacts g tail tail s) (sym done) made_open) (makes.whole told)
 
 -- The superblock is read at one moment, and its log recovered from the next one on.
 module _ (gates : Gates) (a b d : Standing) (goes : Goes a b) (stays : Stays a b) (goes_d : Goes b d) (told : IsTrue a.told) (is : super_of (current (now a)) ≡ gates_of gates)
@@ -133,11 +146,6 @@ module _ (gates : Gates) (a b d : Standing) (goes : Goes a b) (stays : Stays a b
 
   sound_b : IsOpen b.lines b.blocks gates
   sound_b = subst (λ n. IsOpen b.lines n gates) (sym goes.blocks) (subst (λ n. IsOpen n a.blocks gates) (sym goes.lines) sound_gates)
-
-  stands_b : Stands whole_lines a.lines a.blocks (now a) → Stands whole_lines b.lines b.blocks (now b)
-  stands_b stands =
-      subst (λ (x : State). Stands whole_lines b.lines b.blocks x) (sym same_now)
-      (subst (λ n. Stands whole_lines b.lines n (now a)) (sym goes.blocks) (subst (λ n. Stands whole_lines n a.blocks (now a)) (sym goes.lines) stands))
 
   -- whatever is answered, recovery gives what it gave before
   pub reopened_keeps : {T : Type 0} (r : Result T OpenError) → ReopensLog gates b d r → KeepsStore a d
@@ -167,7 +175,7 @@ module _ (gates : Gates) (a b d : Standing) (goes : Goes a b) (stays : Stays a b
         sizes = sym (ap (λ (x : Super). x.sizes) is);
         tail = tail_is ∙ sym (ap (λ (x : Super). x.tail) is);
         read = as_parts (fresh (current (now d))) (open_read gates b d goes_d told_b is_b sound_b none {T = Log} (Ok log) made);
-        steady = λ stands. as_parts (now d) (open_steady gates b d goes_d told_b is_b sound_b none {T = Log} (Ok log) made (stands_b stands));
+        steady = as_parts (now d) (open_steady gates b d goes_d told_b is_b sound_b none {T = Log} (Ok log) made);
         current = ap (λ (x : Sizes). pages_in x (now d)) (sym sizes_is) ∙ open_current gates b d goes_d told_b is_b sound_b none {T = Log} (Ok log) made ∙ ap committed_in same_now;
       }
 

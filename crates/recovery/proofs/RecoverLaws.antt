@@ -1,6 +1,6 @@
 -- A recovery: at each moment every image is a store that recovers to the same lines, and at its end the log is empty and every
 -- home is durable.
-use Rattle.std.proofs.Common.{◌≡◌, ◌≢◌, ℕ, ◌*◌, ◌<◌, true, List, [], ◌∷◌, refl, sym, ap, ◌∙◌, subst, inl, inr, arith}
+use Rattle.std.proofs.Common.{◌≡◌, ◌≢◌, ℕ, ◌*◌, ◌<◌, true, List, [], ◌∷◌, ◌++◌, refl, sym, ap, ◌∙◌, subst, inl, inr, arith}
 use Rattle.nvm_model.specs.declared.line.Line.{Line}
 use Rattle.nvm_model.specs.Word.{Word, IsSingle, trimmed}
 use Rattle.nvm_model.proofs.WordLaws.{single_version}
@@ -29,10 +29,11 @@ use Rattle.store_laws.specs.Steps.{KeepsOpen}
 use Rattle.store_laws.specs.ShownPages.{words_in, pages_in, committed_in}
 use Rattle.store_laws.proofs.CheckpointLaws.{grown_leaves, grown_facts}
 use Rattle.store_laws.proofs.OpenLaws.{facts_can_store}
-use Rattle.recovery.specs.Calls.{flush_calls, replay_calls, settle_calls, recover_calls}
+use Rattle.recovery.specs.Calls.{flush_calls, super_calls, replay_calls, settle_calls, recover_calls}
 use Rattle.recovery.specs.Recovering.{LeavesStores, HoldsFacts}
 use Rattle.recovery.proofs.FlushLaws.{flushes_within, flushes_newest, flushes_made, fenced_single}
 use Rattle.recovery.proofs.StandsLaws.{stands_facts, stands_log, same_super}
+use Rattle.recovery.proofs.SuperLaws.{super_current, super_grows}
 use Rattle.recovery.proofs.ReplayLaws.{LogOfStore, Replays, replay_words, replay_logged, replays_moment}
 
 -- Where the facts hold, every image is a store that recovers to the committed lines.
@@ -69,9 +70,22 @@ module _ (g : Sizes) (start tail lines blocks : ℕ) (s : State) (stands : Stand
     has = λ i left. stands_log lines blocks s stands i left;
   }
 
-  -- the replay is done; every line is flushed; a fence; the log is empty
+  -- while the superblock is made durable
+  super_moment : (mid : State) → Amid s super_calls mid → Replays g given (super_of (current s)) log₀ mid
+  super_moment mid amid =
+      let grows : Grows no_store no_write s mid = super_grows s mid amid in
+      record {
+        facts = grown_facts s mid grows b begins.facts;
+        gates = λ i left. begins.gates i (grown_leaves s mid grows i left);
+        has = λ i left. begins.has i (grown_leaves s mid grows i left);
+      }
+
+  -- the superblock is durable; the replay is done; every line is flushed; a fence; the log is empty
+  abbrev secured : State
+  secured = after_all super_calls s
+
   abbrev replayed : State
-  replayed = after_all (replay_calls g log₀) s
+  replayed = after_all (replay_calls g log₀) secured
 
   abbrev marked : State
   marked = after_all (flush_calls (frame_line g 0 0) (64 * pages g)) replayed
@@ -79,8 +93,11 @@ module _ (g : Sizes) (start tail lines blocks : ℕ) (s : State) (stands : Stand
   abbrev durable : State
   durable = fenced marked
 
+  replay_moment : (mid : State) → Amid secured (replay_calls g log₀) mid → Replays g given (super_of (current s)) log₀ mid
+  replay_moment mid amid = replays_moment g given (super_of (current s)) log₀ (replay_calls g log₀) (replay_logged g log₀ of_store) secured (super_moment secured (Amid_end super_calls s)) mid amid
+
   ends : Replays g given (super_of (current s)) log₀ replayed
-  ends = replays_moment g given (super_of (current s)) log₀ (replay_calls g log₀) (replay_logged g log₀ of_store) s begins replayed (Amid_end (replay_calls g log₀) s)
+  ends = replay_moment replayed (Amid_end (replay_calls g log₀) secured)
 
   flush_moment : (mid : State) → Amid replayed (flush_calls (frame_line g 0 0) (64 * pages g)) mid → StoreFacts b mid
   flush_moment mid amid =
@@ -108,7 +125,8 @@ module _ (g : Sizes) (start tail lines blocks : ℕ) (s : State) (stands : Stand
   home_newest : (p l w : ℕ) → IsWord g p l w → (durable.nvm (frame_line g p l) w).newest ≡ given p l w
   home_newest p l w word =
       flushes_newest (frame_line g 0 0) (64 * pages g) replayed (frame_line g p l) w
-      ∙ replay_words g log₀ s of_store p l w word.line word.word
+      ∙ replay_words g log₀ secured of_store p l w word.line word.word
+      ∙ ap (λ (i : Image). replay_log log₀ (λ p l w. i.nvm (frame_line g p l) w) p l w) (super_current s)
       ∙ ap (λ (x : Sizes). replay_log log₀ (words_in x s) p l w) (sym same_sizes)
 
   home_is : (j : Image) → Leaves durable j → (p l w : ℕ) → IsWord g p l w → home j p l w ≡ given p l w
@@ -170,7 +188,8 @@ module _ (g : Sizes) (start tail lines blocks : ℕ) (s : State) (stands : Stand
 
   after_recover : after_all (recover_calls g log₀ tail) s ≡ emptied
   after_recover =
-      after_all_append (replay_calls g log₀) (settle_calls g tail) s
+      after_all_append super_calls (replay_calls g log₀ ++ settle_calls g tail) s
+      ∙ after_all_append (replay_calls g log₀) (settle_calls g tail) secured
       ∙ after_all_append (flush_calls (frame_line g 0 0) (64 * pages g)) (checkpoint_calls tail) replayed
       ∙ ap (λ n. after_all (start_calls n) durable) (sym same_tail)
 
@@ -203,13 +222,16 @@ module _ (g : Sizes) (start tail lines blocks : ℕ) (s : State) (stands : Stand
 
   -- At each moment the facts hold, with what recovery gave before as the committed lines.
   pub recover_facts : (mid : State) → Amid s (recover_calls g log₀ tail) mid → HoldsFacts g (committed_in s) mid
-  recover_facts mid amid = elim (Amid_append (replay_calls g log₀) (settle_calls g tail) s mid amid) [
-    | inl first ↦ held mid (replays_moment g given (super_of (current s)) log₀ (replay_calls g log₀) (replay_logged g log₀ of_store) s begins mid first).facts
-    | inr later ↦ elim (Amid_append (flush_calls (frame_line g 0 0) (64 * pages g)) (checkpoint_calls tail) replayed mid later) [
-      | inl flushing ↦ held mid (flush_moment mid flushing)
-      | inr last ↦ elim last [
-        | inl fencing ↦ held mid (fence_moment mid (inl fencing))
-        | inr starts ↦ holds_by mid (starting b durable) (start_moment mid (subst (λ n. Amid durable (start_calls n) mid) (sym same_tail) starts)) refl refl (λ n p l w. refl)
+  recover_facts mid amid = elim (Amid_append super_calls (replay_calls g log₀ ++ settle_calls g tail) s mid amid) [
+    | inl first ↦ held mid (super_moment mid first).facts
+    | inr rest ↦ elim (Amid_append (replay_calls g log₀) (settle_calls g tail) secured mid rest) [
+      | inl replays ↦ held mid (replay_moment mid replays).facts
+      | inr later ↦ elim (Amid_append (flush_calls (frame_line g 0 0) (64 * pages g)) (checkpoint_calls tail) replayed mid later) [
+        | inl flushing ↦ held mid (flush_moment mid flushing)
+        | inr last ↦ elim last [
+          | inl fencing ↦ held mid (fence_moment mid (inl fencing))
+          | inr starts ↦ holds_by mid (starting b durable) (start_moment mid (subst (λ n. Amid durable (start_calls n) mid) (sym same_tail) starts)) refl refl (λ n p l w. refl)
+        ]
       ]
     ]
   ]

@@ -1,7 +1,7 @@
 -- A log is checked, replayed and emptied over a device.
-use Rattle.std.proofs.Common.{◌≡◌, ℕ, ◌-◌, ◌<◌, [], ◌++◌, refl, sym, ap, ◌∙◌, subst, IsTrue, Option, Some, None, Result, Ok, Err}
+use Rattle.std.proofs.Common.{◌≡◌, ℕ, ◌-◌, ◌<◌, List, [], ◌++◌, refl, sym, ap, ◌∙◌, subst, IsTrue, Option, Some, None, Result, Ok, Err}
 use Rattle.nvm_model.specs.declared.line.Line.{Line}
-use Rattle.devices.specs.State.{Image, current}
+use Rattle.devices.specs.State.{Image, Call, current}
 use Rattle.devices.specs.World.{Standing, Goes, Stays, MakesAll, now}
 use Rattle.devices.specs.declared.traits.Failed.{Failed}
 use Rattle.devices.proofs.MomentLaws.{Goes-trans}
@@ -19,7 +19,7 @@ use Rattle.store_meaning.specs.Format.Format.{whole_lines}
 use Rattle.store_meaning.specs.Recovered.{Super, super_of, log_of, log_line, from, image_log_check}
 use Rattle.store_meaning.proofs.CheckLaws.{super_passes, allowed_ring}
 use Rattle.store_laws.specs.OpenFacts.{super_with}
-use Rattle.recovery.specs.Calls.{replay_calls, settle_calls, recover_calls}
+use Rattle.recovery.specs.Calls.{super_calls, replay_calls, settle_calls, recover_calls}
 use Rattle.recovery.specs.Reading.{entries_from, PassFrom}
 use Rattle.recovery.specs.Heads.{KeepsEvidence, IsFoundFault, FindsFault, ChecksLog, fault_in}
 use Rattle.recovery.specs.Replaying.{held_lines, Writes, ReplaysLog}
@@ -27,6 +27,7 @@ use Rattle.recovery.specs.Opening.{ReopensLog}
 use Rattle.recovery.specs.declared.errors.OpenError.{OpenError}
 use Rattle.recovery.specs.declared.errors.OpenError.TheVariants.{Nvm, Ssd, NotAStore, TooSmall, LogEnded, Damaged, NoMemory}
 use Rattle.recovery.proofs.CallsLaws.{makes_as}
+use Rattle.recovery.proofs.SuperLaws.{super_current}
 use Rattle.recovery.proofs.ReplayingLaws.{held_same, told_then, makes_behind, err_is}
 
 -- where no check fails only a fault stops the check
@@ -70,7 +71,7 @@ module _ (gates : Gates) (log : Log) (of : IsOf log gates) (a b : Standing) (goe
   fault_is e = ap (λ (x : Super). log_check whole_lines x.sizes x.start 0 (from (log_line x.sizes x.drained i) x.start (x.tail - x.start))) (sym (super_is e))
 
   calls_are : super_of i ≡ gates_of gates
-      → replay_calls g (grouped no_log (entries_from (held_lines log a) log.tail log.start)) ++ settle_calls g log.tail ≡ recover_calls (super_of i).sizes (log_of whole_lines i) (super_of i).tail
+      → super_calls ++ (replay_calls g (grouped no_log (entries_from (held_lines log a) log.tail log.start)) ++ settle_calls g log.tail) ≡ recover_calls (super_of i).sizes (log_of whole_lines i) (super_of i).tail
   calls_are e =
       ap (λ (x : Super). recover_calls x.sizes (grouped no_log (entries whole_lines 0 (from (log_line x.sizes x.drained i) x.start (x.tail - x.start)))) x.tail) (sym (super_is e))
 
@@ -92,58 +93,78 @@ module _ (gates : Gates) (log : Log) (of : IsOf log gates) (a b : Standing) (goe
         refused = λ told e fault some. stays;
       })
 
-  -- no check fails, and the log is replayed
-  module _ (checks : ChecksLog {T = Unit {0}} log a (Ok tt)) (ring : 0 < log.geometry.log_blocks) (d : Standing) (goes_d : Goes b d) where
-    replayed : {T : Type 0} (r : Result T OpenError) → ReplaysLog log b d r → IsTrue a.told → Writes (replay_calls g (grouped no_log (entries_from (held_lines log a) log.tail log.start))) a d r
-    replayed r replays told =
-        let same : held_lines log b ≡ held_lines log a = held_same log a b goes stays told in
-        let there : Writes (replay_calls g (grouped no_log (entries_from (held_lines log b) log.tail log.start))) b d r =
-        replays.writes (told_then goes told) ring (subst (λ (x : ℕ → Line). PassFrom g x log.tail log.start) (sym same) (checks.finds told)) in
-        record {
-          makes = makes_as (ap (λ (x : ℕ → Line). replay_calls g (grouped no_log (entries_from x log.tail log.start))) same) (makes_behind goes goes_d stays there.makes);
-          only = there.only;
-        }
+  -- no check fails, and the superblock is made durable
+  module _ (checks : ChecksLog {T = Unit {0}} log a (Ok tt)) (ring : 0 < log.geometry.log_blocks) (c : Standing) (goes_c : Goes b c) where
+    abbrev all_replays : List Call
+    all_replays = replay_calls g (grouped no_log (entries_from (held_lines log a) log.tail log.start))
 
-    pub replay_stops : {T : Type 0} (why : OpenError) (r : Result T OpenError) → r ≡ Err why → ReplaysLog {T = Unit {0}} log b d (Err why) → ReopensLog gates a d r
-    replay_stops {T} why r is replays = subst (λ (x : Result T OpenError). ReopensLog gates a d x) (sym is) (record {
-      finds = λ told e.
-          subst (λ (x : OpenError). IsFoundFault (image_log_check whole_lines i) (log_line (super_of i).sizes (super_of i).start i) (super_of i).tail x) (sym (replayed (Err why) replays told).only) tt;
-      writes = λ told e none.
-          let made : Writes {T = Unit {0}} (replay_calls g (grouped no_log (entries_from (held_lines log a) log.tail log.start))) a d (Err why) = replayed (Err why) replays told in
-          record { makes = makes_as (calls_are e) (makes_stop (settle_calls g log.tail) {e = why} (Err why) (err_is T why) made.makes); only = made.only };
-      nothing = λ told e other. absurd (other (replayed (Err why) replays told).only);
+    pub super_stops : {T : Type 0} (why : Failed) (r : Result T OpenError) → r ≡ Err Nvm → MakesAll {T = Unit {0}} {E = Failed} super_calls b c (Err why) → ReopensLog gates a c r
+    super_stops {T} why r is makes = subst (λ (x : Result T OpenError). ReopensLog gates a c x) (sym is) (record {
+      finds = λ told e. tt;
+      writes = λ told e none. record {
+        makes = makes_as (calls_are e) (makes_stop (all_replays ++ settle_calls g log.tail) {e = why} (Err Nvm) (err_is T Nvm) (makes_behind goes goes_c stays makes));
+        only = refl;
+      };
+      nothing = λ told e other. absurd (other refl);
       refused = λ told e fault some. absurd (no_refusal e fault some (checks.finds told));
     })
 
-    -- and emptied
-    module _ (replays : ReplaysLog {T = Unit {0}} log b d (Ok tt)) (f : Standing) (goes_f : Goes d f) where
-      pub settle_stops : {T : Type 0} (why : Failed) (r : Result T OpenError) → r ≡ Err Nvm → MakesAll {T = Unit {0}} {E = Failed} (settle_calls g log.tail) d f (Err why) → ReopensLog gates a f r
-      settle_stops {T} why r is settles = subst (λ (x : Result T OpenError). ReopensLog gates a f x) (sym is) (record {
-        finds = λ told e. tt;
+    -- and the log is replayed
+    module _ (supers : MakesAll {T = Unit {0}} {E = Failed} super_calls b c (Ok tt)) (d : Standing) (goes_d : Goes c d) where
+      -- the lines of the log are as they were read
+      held_on : IsTrue a.told → held_lines log c ≡ held_lines log a
+      held_on told =
+          ap (λ (x : Image). log_line g log.start x) (ap current (supers.whole (told_then goes told)) ∙ super_current (now b))
+          ∙ held_same log a b goes stays told
+
+      -- the superblock, and what is made behind it
+      behind : {T : Type 0} {calls : List Call} {end : Standing} (r : Result T OpenError) → Goes c end → MakesAll calls c end r → MakesAll (super_calls ++ calls) a end r
+      behind r goes_end rest =
+          let front : MakesAll {T = Unit {0}} {E = OpenError} super_calls b c (Ok tt) = record { whole = supers.whole; part = supers.part } in
+          makes_then (Goes-trans goes goes_c) goes_end (makes_behind goes goes_c stays front) rest
+
+      replayed : {T : Type 0} (r : Result T OpenError) → ReplaysLog log c d r → IsTrue a.told → Writes all_replays c d r
+      replayed r replays told =
+          let same : held_lines log c ≡ held_lines log a = held_on told in
+          let there : Writes (replay_calls g (grouped no_log (entries_from (held_lines log c) log.tail log.start))) c d r =
+          replays.writes (told_then goes_c (told_then goes told)) ring (subst (λ (x : ℕ → Line). PassFrom g x log.tail log.start) (sym same) (checks.finds told)) in
+          record {
+            makes = makes_as (ap (λ (x : ℕ → Line). replay_calls g (grouped no_log (entries_from x log.tail log.start))) same) there.makes;
+            only = there.only;
+          }
+
+      pub replay_stops : {T : Type 0} (why : OpenError) (r : Result T OpenError) → r ≡ Err why → ReplaysLog {T = Unit {0}} log c d (Err why) → ReopensLog gates a d r
+      replay_stops {T} why r is replays = subst (λ (x : Result T OpenError). ReopensLog gates a d x) (sym is) (record {
+        finds = λ told e.
+            subst (λ (x : OpenError). IsFoundFault (image_log_check whole_lines i) (log_line (super_of i).sizes (super_of i).start i) (super_of i).tail x) (sym (replayed (Err why) replays told).only) tt;
         writes = λ told e none.
-            let front = (replayed (Ok tt) replays told).makes in
-            let last : MakesAll {T = Unit {0}} {E = OpenError} (settle_calls g log.tail) d f (Err Nvm) = record { whole = λ told. tt; part = settles.part } in
-            let both : MakesAll {T = Unit {0}} {E = OpenError} (replay_calls g (grouped no_log (entries_from (held_lines log a) log.tail log.start)) ++ settle_calls g log.tail) a f (Err Nvm) =
-            makes_then (Goes-trans goes goes_d) goes_f front last in
-            let made = makes_as (calls_are e) both in
-            record { makes = record { whole = λ told. tt; part = made.part }; only = refl };
-        nothing = λ told e other. absurd (other refl);
+            let made : Writes {T = Unit {0}} all_replays c d (Err why) = replayed (Err why) replays told in
+            record { makes = makes_as (calls_are e) (behind (Err why) goes_d (makes_stop (settle_calls g log.tail) {e = why} (Err why) (err_is T why) made.makes)); only = made.only };
+        nothing = λ told e other. absurd (other (replayed (Err why) replays told).only);
         refused = λ told e fault some. absurd (no_refusal e fault some (checks.finds told));
       })
 
-      pub reopened : {T : Type 0} (done : T) → MakesAll {T = Unit {0}} {E = Failed} (settle_calls g log.tail) d f (Ok tt) → ReopensLog gates a f (Ok done)
-      reopened {T} done settles = record {
-        finds = λ told e. found_is {T = T} (Ok done) e (checks.finds told);
-        writes = λ told e none.
-            let front = (replayed (Ok tt) replays told).makes in
-            let last : MakesAll {T = Unit {0}} {E = OpenError} (settle_calls g log.tail) d f (Ok tt) = record { whole = settles.whole; part = settles.part } in
-            let both : MakesAll {T = Unit {0}} {E = OpenError} (replay_calls g (grouped no_log (entries_from (held_lines log a) log.tail log.start)) ++ settle_calls g log.tail) a f (Ok tt) =
-            makes_then (Goes-trans goes goes_d) goes_f front last in
-            let made = makes_as (calls_are e) both in
-            record { makes = record { whole = made.whole; part = made.part }; only = tt };
-        nothing = λ told e. tt;
-        refused = λ told e fault some. absurd (no_refusal e fault some (checks.finds told));
-      }
+      -- and emptied
+      module _ (replays : ReplaysLog {T = Unit {0}} log c d (Ok tt)) (f : Standing) (goes_f : Goes d f) where
+        emptied : {T : Type 0} (r : Result T OpenError) → MakesAll (settle_calls g log.tail) d f r → IsTrue a.told → super_of i ≡ gates_of gates
+            → MakesAll (recover_calls (super_of i).sizes (log_of whole_lines i) (super_of i).tail) a f r
+        emptied r settles told e = makes_as (calls_are e) (behind r (Goes-trans goes_d goes_f) (makes_then goes_d goes_f (replayed (Ok tt) replays told).makes settles))
+
+        pub settle_stops : {T : Type 0} (why : Failed) (r : Result T OpenError) → r ≡ Err Nvm → MakesAll {T = Unit {0}} {E = Failed} (settle_calls g log.tail) d f (Err why) → ReopensLog gates a f r
+        settle_stops {T} why r is settles = subst (λ (x : Result T OpenError). ReopensLog gates a f x) (sym is) (record {
+          finds = λ told e. tt;
+          writes = λ told e none. record { makes = emptied {T = T} (Err Nvm) (record { whole = λ told. tt; part = settles.part }) told e; only = refl };
+          nothing = λ told e other. absurd (other refl);
+          refused = λ told e fault some. absurd (no_refusal e fault some (checks.finds told));
+        })
+
+        pub reopened : {T : Type 0} (done : T) → MakesAll {T = Unit {0}} {E = Failed} (settle_calls g log.tail) d f (Ok tt) → ReopensLog gates a f (Ok done)
+        reopened {T} done settles = record {
+          finds = λ told e. found_is {T = T} (Ok done) e (checks.finds told);
+          writes = λ told e none. record { makes = emptied {T = T} (Ok done) (record { whole = settles.whole; part = settles.part }) told e; only = tt };
+          nothing = λ told e. tt;
+          refused = λ told e fault some. absurd (no_refusal e fault some (checks.finds told));
+        }
 
 -- the ring of a superblock that passes its checks
 pub open_ring : (lines blocks : ℕ) (gates : Gates) (log : Log) → IsOpen lines blocks gates → log.geometry ≡ gates.geometry → 0 < log.geometry.log_blocks

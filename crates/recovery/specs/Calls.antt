@@ -82,5 +82,10 @@ replay_calls g log = groups_calls g log.closed ++ undo_calls g (changes log.open
 abbrev pub settle_calls : Sizes → ℕ → List Call
 settle_calls g tail = flush_calls (frame_line g 0 0) (64 * pages g) ++ checkpoint_calls tail
 
+-- the lines of the superblock flushed, and a fence
+abbrev pub super_calls : List Call
+super_calls = flush_calls 0 4 ++ fence ∷ []
+
+-- the superblock as it was read is durable before anything is stored
 abbrev pub recover_calls : Sizes → Log → ℕ → List Call
-recover_calls g log tail = replay_calls g log ++ settle_calls g tail
+recover_calls g log tail = super_calls ++ (replay_calls g log ++ settle_calls g tail)

@@ -94,12 +94,12 @@ pub record KeepsStore (old new : Standing) : Type 0 where
   pub facts : Stands whole_lines old.lines old.blocks (now old) → Moments old new (HoldsFacts (super_of (current (now old))).sizes (committed_in (now old)))
 
 -- The facts of an open store hold, with an empty log, and the current lines are those that recovery gave: as one reads the
--- devices, and whatever a crash leaves where they held a store in order.
+-- devices, and whatever a crash leaves of them, however they were left before.
 pub record Recovered (parts : Parts) (old new : Standing) : Type 0 where
   pub sizes : sizes_of parts.geometry ≡ (super_of (current (now old))).sizes
   pub tail : parts.log.tail ≡ (super_of (current (now old))).tail
   pub read : OpenFacts (sizes_of parts.geometry) parts.log.start parts.log.tail (fresh (current (now new)))
-  pub steady : Stands whole_lines old.lines old.blocks (now old) → OpenFacts (sizes_of parts.geometry) parts.log.start parts.log.tail (now new)
+  pub steady : OpenFacts (sizes_of parts.geometry) parts.log.start parts.log.tail (now new)
   pub current : pages_in (sizes_of parts.geometry) (now new) ≡ committed_in (now old)
 
 -- The parts are of one store, which fits devices of these sizes.

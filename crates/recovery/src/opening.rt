@@ -5,7 +5,7 @@ ghost use Rattle.nvm_layout.specs.Opening.{IsOpen};
 ghost use Rattle.nvm_layout.specs.Sizes.{sizes_of};
 ghost use Rattle.nvm_log.specs.Moved.{IsEmptied};
 ghost use Rattle.store_meaning.specs.Layout.{pages, nvm_lines};
-ghost use Rattle.recovery.specs.Calls.{settle_calls};
+ghost use Rattle.recovery.specs.Calls.{super_calls, settle_calls};
 ghost use Rattle.recovery.specs.Causes.{OpenCause};
 ghost use Rattle.recovery.specs.Heads.{KeepsFault};
 
@@ -33,7 +33,8 @@ pub struct Parts {
 ghost use Rattle.recovery.specs.Opening.{Answers, FindsInLog, IsComplete, ChangesNothing, KeepsStore, Recovered, AreParts, ReopensLog, IsReopened};
 
 /// Recovers the store that the devices hold. The superblock is read and checked; then all memory is taken; then each head of
-/// the log is read and checked; then the log is replayed over the homes, group by group. Every line of every page is flushed, a
+/// the log is read and checked. Before anything is stored the superblock is flushed and fenced: what was read of it may be newer
+/// than what a crash would leave. Then the log is replayed over the homes, group by group. Every line of every page is flushed, a
 /// fence, and the log is empty.
 ///
 /// Each head of the log is read at most three times, and one line behind each record once. What is wrong with
@@ -77,9 +78,21 @@ fn reopen<D: Devices>(dev: &mut D, gates: &Super) -> Result<Log, OpenError>
 {
     let mut log = Log::open(&gates.geometry, gates);
     check_log(dev, &log)?;
+    keep_super(dev)?;
     replay(dev, &log)?;
     settle(dev, &mut log)?;
     Ok(log)
+}
+
+/// Makes the lines of the superblock durable, as they were read.
+fn keep_super<D: Devices>(dev: &mut D) -> Result<(), Failed>
+    requires { 4 ≤ (D.standing dev.old).lines }
+    ensures makes { MakesAll super_calls (D.standing dev.old) (D.standing dev.new) result }
+    ensures cause { NvmCause (D.standing dev.old) (D.standing dev.new) result }
+    ensures goes { Goes (D.standing dev.old) (D.standing dev.new) }
+{
+    flush_lines(dev, 0, 4)?;
+    dev.fence()
 }
 
 /// Makes every line of every page durable, and empties the log.

@@ -293,14 +293,14 @@ fn each_call_of_a_format_may_fail(rt: HostRuntime) {
 
 #[test]
 fn each_call_of_a_recovery_may_fail(rt: HostRuntime) {
-    // the superblock; the four heads, checked and read again; a head, a line and a store for each of three records; the
-    // lines of ten pages, of which two are tried; the fence; the start
-    let calls = 4 + 4 + 4 + 9 + 640 + 1 + 3;
+    // the superblock, read and made durable; the four heads, checked and read again; a head, a line and a store for each of three
+    // records; the lines of ten pages, of which two are tried; the fence; the start
+    let calls = 4 + 5 + 4 + 4 + 9 + 640 + 1 + 3;
     let Some(first) = with_groups(rt.alloc()) else {
         return assert!(rt; false, "no memory");
     };
     for nth in 0..calls + 1 {
-        if nth < 23 || nth > calls - 6 {
+        if nth < 28 || nth > calls - 6 {
             let fail = [Fault {
                 kind: FaultKind::Nvm,
                 nth,
@@ -407,8 +407,45 @@ fn a_recovery_is_recovered(rt: HostRuntime) {
     };
     assert!(rt; recovered(&mut world, rt.alloc()) == Some((7, 8)));
     assert!(rt; recovers_from_stops(&world, rt.alloc(), 83));
-    // the superblock, the heads and the three stores are the first 21 events
-    for events in [9, 12, 15, 18, 21] {
+    // the superblock made durable and the three stores are the first eight events
+    for events in [3, 5, 6, 8, 21] {
         assert!(rt; recovers_twice(&world, rt.alloc(), events));
+    }
+}
+
+/// A store whose lines 0 and 5 of page 3 were 7 and 8, over whose end of a commit of 9 and 10 a fault comes: at this one of its
+/// calls.
+fn with_a_failed_end(alloc: Global, call: u64) -> Option<MemWorld> {
+    let mut first = empty(alloc, 1980)?;
+    let mut log = recover(alloc, &mut first).ok()?.log;
+    write(&mut log, &mut first, 0, &filled(7))?;
+    write(&mut log, &mut first, 5, &filled(8))?;
+    end(&mut log, &mut first, EndKind::Commit)?;
+    // a recovery of two records and an end; two lines written, each with its record
+    let before = 4 + 5 + 3 + 3 + 6 + 640 + 1 + 3 + 2 * 13;
+    let fail = [Fault {
+        kind: FaultKind::Nvm,
+        nth: before + call,
+    }];
+    let mut world = again(&first, alloc, &fail)?;
+    let mut log = recover(alloc, &mut world).ok()?.log;
+    write(&mut log, &mut world, 0, &filled(9))?;
+    write(&mut log, &mut world, 5, &filled(10))?;
+    if end(&mut log, &mut world, EndKind::Commit).is_some() {
+        return None;
+    }
+    Some(world)
+}
+
+#[test]
+fn what_a_recovery_read_stands(rt: HostRuntime) {
+    // the line, flushed, and a fence; the tail, flushed, and a fence. From the store of the tail on the new lines are read.
+    for call in 0..6 {
+        let Some(mut world) = with_a_failed_end(rt.alloc(), call) else {
+            return assert!(rt; false, "no memory, or no fault");
+        };
+        let read = if call < 4 { 7 } else { 9 };
+        assert!(rt; recovered(&mut world, rt.alloc()) == Some((read, read + 1)));
+        assert!(rt; gives_either(&world, rt.alloc(), world.events(), read, read), "at {call}");
     }
 }

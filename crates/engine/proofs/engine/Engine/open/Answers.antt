@@ -23,7 +23,7 @@ pub returns-clause-order : goal.returns-clause-order
 returns-clause-order g c = λ told sizes T order. record {
   moments = order_stays sizes T (g.W.Devices.standing c.args.world.now) (g.W.Devices.standing c.recover.new.dev) (c.in_ok-parts.ensures.keeps told) order;
   steady = over_steady c.in_ok-parts.parts c.over.result (g.W.Devices.standing c.args.world.now) (g.W.Devices.standing c.recover.new.dev) c.in_ok-parts.ensures.goes c.in_ok-parts.ensures.parts c.over.ensures
-      (λ told_now. (c.in_ok-parts.ensures.recovered told_now).steady order.stands);
+      (λ told_now. (c.in_ok-parts.ensures.recovered told_now).steady);
 }
 
 pub returns-in_err-parts-clause-order : goal.returns-in_err-parts-clause-order
