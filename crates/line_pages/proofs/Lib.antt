@@ -1,5 +1,6 @@
 pub mod ByteLaws
 pub mod CauseLaws
+pub mod CostLaws
 pub mod LineLaws
 pub mod NumberLaws
 pub mod PairLaws

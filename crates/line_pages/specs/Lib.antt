@@ -1,4 +1,5 @@
 pub mod Bytes
+pub mod Cost
 pub mod LineSets
 pub mod Lines
 pub mod Pairs

@@ -2,6 +2,7 @@
 ghost use Rattle.std.specs.Prelude.{◌≡◌, ◌+◌, ◌%◌, ◌<◌, ◌≤◌, false, length, IsTrue, OnOk, IfOk};
 ghost use Rattle.line_pages.specs.Bytes.{u16_at, u64_at, bytes_of, bytes_of_word, word_pair};
 ghost use Rattle.line_pages.specs.Touch.{begins};
+ghost use Rattle.line_pages.specs.Cost.{lines_from, lines_of, AddsLines};
 ghost use Rattle.line_pages.specs.Standing.{Continues, HasCause, Never, ReadsPage};
 
 use crate::number::{get_half, get_word, put_word};
@@ -17,6 +18,7 @@ pub fn copy_page<P: Pages>(pages: &mut P, page: u64, into: &mut PageBuf) -> Resu
     ensures continues { Continues (P.may_leave pages.old) (P.may_leave pages.new) (P.is_steady pages.old) (P.standing pages.old) (P.standing pages.new) }
     ensures bytes { IsTrue (P.standing pages.old).told → OnOk result (into.new ≡ bytes_of (P.standing pages.old).current page) }
     ensures reads { OnOk result (ReadsPage page (P.standing pages.old) (P.standing pages.new)) }
+    ensures lines { OnOk result (AddsLines (λ lines. lines ≡ lines_from 0 64) (P.standing pages.old) (P.standing pages.new)) }
     ensures again { begins (P.standing pages.old).access page false ≡ false → (P.standing pages.new).visits ≤ (P.standing pages.old).visits }
     ensures few { (P.standing pages.new).visits ≤ (P.standing pages.old).visits + 1 }
     ensures cause { HasCause Never (P.standing pages.old) (P.standing pages.new) result }
@@ -41,6 +43,7 @@ pub fn read_word<P: Pages>(pages: &mut P, page: u64, place: usize) -> Result<u64
     ensures continues { Continues (P.may_leave pages.old) (P.may_leave pages.new) (P.is_steady pages.old) (P.standing pages.old) (P.standing pages.new) }
     ensures value { IsTrue (P.standing pages.old).told → IfOk result (λ number. number ≡ u64_at (bytes_of (P.standing pages.old).current page) place) }
     ensures reads { OnOk result (ReadsPage page (P.standing pages.old) (P.standing pages.new)) }
+    ensures lines { OnOk result (AddsLines (λ lines. lines ≡ lines_of place 8) (P.standing pages.old) (P.standing pages.new)) }
     ensures again { begins (P.standing pages.old).access page false ≡ false → (P.standing pages.new).visits ≤ (P.standing pages.old).visits }
     ensures few { (P.standing pages.new).visits ≤ (P.standing pages.old).visits + 1 }
     ensures cause { HasCause Never (P.standing pages.old) (P.standing pages.new) result }
@@ -70,6 +73,7 @@ pub fn read_half<P: Pages>(pages: &mut P, page: u64, place: usize) -> Result<u16
     ensures continues { Continues (P.may_leave pages.old) (P.may_leave pages.new) (P.is_steady pages.old) (P.standing pages.old) (P.standing pages.new) }
     ensures value { IsTrue (P.standing pages.old).told → IfOk result (λ number. number ≡ u16_at (bytes_of (P.standing pages.old).current page) place) }
     ensures reads { OnOk result (ReadsPage page (P.standing pages.old) (P.standing pages.new)) }
+    ensures lines { OnOk result (AddsLines (λ lines. lines ≡ lines_of place 2) (P.standing pages.old) (P.standing pages.new)) }
     ensures again { begins (P.standing pages.old).access page false ≡ false → (P.standing pages.new).visits ≤ (P.standing pages.old).visits }
     ensures few { (P.standing pages.new).visits ≤ (P.standing pages.old).visits + 1 }
     ensures cause { HasCause Never (P.standing pages.old) (P.standing pages.new) result }

@@ -1,3 +1,4 @@
 pub mod DamageLaws
 pub mod HeaderLaws
 pub mod OpenLaws
+pub mod ProbeLaws

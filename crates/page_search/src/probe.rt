@@ -1,10 +1,12 @@
 //! The search in a page by the lines that a binary search probes.
-ghost use Rattle.std.specs.Prelude.{◌≡◌, ◌+◌, ◌*◌, ◌<◌, ◌≤◌, ◌&&◌, ◌||◌, ◌==◌, ℕ, List, true, false, Some, nat_lt, nat_le, if◌then◌else◌, IsTrue, OnOk, IfOk};
+ghost use Rattle.std.specs.Prelude.{◌≡◌, ◌+◌, ◌*◌, ◌<◌, ◌≤◌, ◌&&◌, ◌||◌, ◌==◌, ℕ, List, [], ◌∷◌, true, false, Some, nat_lt, nat_le, if◌then◌else◌, IsTrue, OnOk, IfOk};
 ghost use Rattle.line_pages.specs.Bytes.{u16_at, bytes_of};
 ghost use Rattle.line_pages.specs.Touch.{begins};
+ghost use Rattle.line_pages.specs.Cost.{lines_of, AddsLines};
 ghost use Rattle.line_pages.specs.Standing.{Continues, HasCause, Never, ReadsPage};
 ghost use Rattle.slotted_page.specs.Node.{entry_count, IsWellFormed};
 ghost use Rattle.page_search.specs.Answers.{IsHeader, IsRightSpot, IsSafeAnswer, IsOfLevel};
+ghost use Rattle.page_search.specs.Cost.{row_probe, Probes, ProbesChildren, Searches};
 
 use line_pages::{Pages, Stop, read_half, read_word};
 use slotted_page::{Expect, Spot};
@@ -35,6 +37,7 @@ pub fn probe<P: Pages>(
     ensures cause { HasCause Never (P.standing pages.old) (P.standing pages.new) result }
     ensures continues { Continues (P.may_leave pages.old) (P.may_leave pages.new) (P.is_steady pages.old) (P.standing pages.old) (P.standing pages.new) }
     ensures reads { OnOk result (ReadsPage page (P.standing pages.old) (P.standing pages.new)) }
+    ensures lines { IsTrue (P.standing pages.old).told → IsWellFormed (bytes_of (P.standing pages.old).current page) expect.now → OnOk result (AddsLines (Searches expect.now.level (bytes_of (P.standing pages.old).current page)) (P.standing pages.old) (P.standing pages.new)) }
     ensures few { (P.standing pages.new).visits ≤ (P.standing pages.old).visits + 1 }
     ensures ready { OnOk result (P.is_ready pages.new) }
     ensures steady { P.is_steady pages.old → OnOk result (P.is_steady pages.new) }
@@ -58,6 +61,7 @@ fn read_header<P: Pages>(pages: &mut P, page: u64) -> Result<Header, Stop>
     ensures cause { HasCause Never (P.standing pages.old) (P.standing pages.new) result }
     ensures continues { Continues (P.may_leave pages.old) (P.may_leave pages.new) (P.is_steady pages.old) (P.standing pages.old) (P.standing pages.new) }
     ensures reads { OnOk result (ReadsPage page (P.standing pages.old) (P.standing pages.new)) }
+    ensures lines { OnOk result (AddsLines (λ lines. lines ≡ 0 ∷ []) (P.standing pages.old) (P.standing pages.new)) }
     ensures few { (P.standing pages.new).visits ≤ (P.standing pages.old).visits + 1 }
     ensures ready { OnOk result (P.is_ready pages.new) }
     ensures steady { P.is_steady pages.old → OnOk result (P.is_steady pages.new) }
@@ -109,6 +113,7 @@ fn read_place<P: Pages>(pages: &mut P, page: u64, slot: usize) -> Result<usize, 
     ensures cause { HasCause Never (P.standing pages.old) (P.standing pages.new) result }
     ensures continues { Continues (P.may_leave pages.old) (P.may_leave pages.new) (P.is_steady pages.old) (P.standing pages.old) (P.standing pages.new) }
     ensures reads { OnOk result (ReadsPage page (P.standing pages.old) (P.standing pages.new)) }
+    ensures lines { OnOk result (AddsLines (λ lines. lines ≡ lines_of (64 + 4 * slot) 2) (P.standing pages.old) (P.standing pages.new)) }
     ensures again { begins (P.standing pages.old).access page false ≡ false → (P.standing pages.new).visits ≤ (P.standing pages.old).visits }
     ensures ready { OnOk result (P.is_ready pages.new) }
     ensures steady { P.is_steady pages.old → OnOk result (P.is_steady pages.new) }
@@ -136,6 +141,7 @@ fn probe_rows<P: Pages>(
     ensures cause { HasCause Never (P.standing pages.old) (P.standing pages.new) result }
     ensures continues { Continues (P.may_leave pages.old) (P.may_leave pages.new) (P.is_steady pages.old) (P.standing pages.old) (P.standing pages.new) }
     ensures reads { OnOk result (ReadsPage page (P.standing pages.old) (P.standing pages.new)) }
+    ensures lines { IsTrue (P.standing pages.old).told → IsWellFormed (bytes_of (P.standing pages.old).current page) expect.now → OnOk result (AddsLines (Probes (row_probe (bytes_of (P.standing pages.old).current page)) count count) (P.standing pages.old) (P.standing pages.new)) }
     ensures again { (P.standing pages.new).visits ≤ (P.standing pages.old).visits }
     ensures ready { OnOk result (P.is_ready pages.new) }
     ensures steady { P.is_steady pages.old → OnOk result (P.is_steady pages.new) }
@@ -198,6 +204,7 @@ fn probe_children<P: Pages>(
     ensures cause { HasCause Never (P.standing pages.old) (P.standing pages.new) result }
     ensures continues { Continues (P.may_leave pages.old) (P.may_leave pages.new) (P.is_steady pages.old) (P.standing pages.old) (P.standing pages.new) }
     ensures reads { OnOk result (ReadsPage page (P.standing pages.old) (P.standing pages.new)) }
+    ensures lines { IsTrue (P.standing pages.old).told → IsWellFormed (bytes_of (P.standing pages.old).current page) expect.now → OnOk result (AddsLines (ProbesChildren (bytes_of (P.standing pages.old).current page)) (P.standing pages.old) (P.standing pages.new)) }
     ensures again { (P.standing pages.new).visits ≤ (P.standing pages.old).visits }
     ensures ready { OnOk result (P.is_ready pages.new) }
     ensures steady { P.is_steady pages.old → OnOk result (P.is_steady pages.new) }

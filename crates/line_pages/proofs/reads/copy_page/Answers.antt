@@ -3,6 +3,8 @@ use Rattle.std.proofs.lemmas.List.{take_all}
 use Rattle.line_pages.specs.Bytes.{pieces, line_bytes, page_bytes}
 use Rattle.line_pages.proofs.ByteLaws.{line_copied}
 use Rattle.line_pages.proofs.StandingLaws.{Continues-trans, ReadsPage-trans, one_read}
+use Rattle.line_pages.specs.Cost.{lines_from}
+use Rattle.line_pages.proofs.CostLaws.{one_line, lines_then, lines_more, AddsLines-weaker}
 use Rattle.line_pages.proofs.reads.copy_page.Goals as goal
 
 pub loop-line-init : goal.loop-line-init
@@ -13,6 +15,7 @@ loop-line-init g c =
       steady = read.steady;
       continues = read.continues;
       reads = one_read c.in_ok-header.header read.continues.told read.reads;
+      lines = one_line c.in_ok-header.header read.reads;
       nvm_kept = read.cause.kept.0;
       ssd_kept = read.cause.kept.1;
       size = c.set_page_line.ensures.size;
@@ -31,6 +34,7 @@ loop-line-preserved g c =
       steady = λ steady. read.steady (before.steady steady);
       continues = Continues-trans before.continues before.steady read.continues;
       reads = ReadsPage-trans before.reads (one_read c.in_ok-value.value read.continues.told read.reads);
+      lines = AddsLines-weaker (λ x is. is ∙ lines_more 0 l l (omega arith)) (lines_then before.lines (one_line c.in_ok-value.value read.reads));
       nvm_kept = read.cause.kept.0 ∙ before.nvm_kept;
       ssd_kept = read.cause.kept.1 ∙ before.ssd_kept;
       size = c.set_page_line-in-loop-line.ensures.size;
@@ -49,3 +53,8 @@ returns-clause-bytes g c =
     sym (take_all 4096 c.loop-line.into (omega (arith, before.size)))
     ∙ ap (λ k. take (64 * k) c.loop-line.into) (sym all) ∙ before.copied told
     ∙ ap (pieces (λ k. line_bytes ((g.P.Pages.standing c.args.pages.now).current c.args.page k)) 0) all
+
+pub returns-clause-lines : goal.returns-clause-lines
+returns-clause-lines g c =
+    let all : c.loop-line.line ≡ 64 = omega arith in
+    AddsLines-weaker (λ x is. is ∙ ap (lines_from 0) all) c.loop-line.invariant.lines

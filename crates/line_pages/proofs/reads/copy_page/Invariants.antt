@@ -1,6 +1,7 @@
 -- So far the lines below are in their place, by reads of this page alone.
 use Rattle.std.proofs.Common.{◌≡◌, ◌*◌, length, take, IsTrue}
 use Rattle.line_pages.specs.Bytes.{pieces, line_bytes}
+use Rattle.line_pages.specs.Cost.{lines_from, AddsLines}
 use Rattle.line_pages.specs.Standing.{Continues, ReadsPage}
 use Rattle.line_pages.proofs.reads.copy_page.Given as goal
 
@@ -10,6 +11,7 @@ invariant-loop-line g l = record {
   steady : g.P.Pages.is_steady l.fn.pages → g.P.Pages.is_steady l.pages;
   continues : Continues (g.P.Pages.may_leave l.fn.pages) (g.P.Pages.may_leave l.pages) (g.P.Pages.is_steady l.fn.pages) (g.P.Pages.standing l.fn.pages) (g.P.Pages.standing l.pages);
   reads : ReadsPage l.page (g.P.Pages.standing l.fn.pages) (g.P.Pages.standing l.pages);
+  lines : AddsLines (λ lines. lines ≡ lines_from 0 l.line) (g.P.Pages.standing l.fn.pages) (g.P.Pages.standing l.pages);
   nvm_kept : (g.P.Pages.standing l.pages).nvm_faults ≡ (g.P.Pages.standing l.fn.pages).nvm_faults;
   ssd_kept : (g.P.Pages.standing l.pages).ssd_faults ≡ (g.P.Pages.standing l.fn.pages).ssd_faults;
   size : length l.into ≡ 4096;

@@ -1,9 +1,10 @@
 -- A key is in one word, or in two words in a row.
-use Rattle.std.proofs.Common.{◌≡◌, ◌+◌, ◌/◌, ◌%◌, sym, ap, subst, ◌∙◌, arith, IsTrue, slice_index}
+use Rattle.std.proofs.Common.{◌≡◌, ◌+◌, ◌/◌, ◌%◌, refl, sym, ap, subst, ◌∙◌, arith, IsTrue, slice_index}
 use Rattle.nvm_model.specs.declared.line.Line.{Line}
 use Rattle.line_pages.specs.Bytes.{u64_at, word_pair}
 use Rattle.line_pages.proofs.ByteLaws.{number_in_word, number_across}
 use Rattle.line_pages.proofs.StandingLaws.{Continues-trans, ReadsPage-trans, one_read}
+use Rattle.line_pages.proofs.CostLaws.{one_line, lines_then, AddsLines-weaker, in_one_line, in_two_lines}
 use Rattle.line_pages.proofs.reads.read_word.Goals as goal
 
 pub returns-clause-continues : goal.returns-clause-continues
@@ -38,3 +39,14 @@ returns-clause-value g c = λ told.
     c.across-2.ensures ∙ ap (λ (line : Line). u64_at (word_pair (slice_index line.words w) (slice_index c.in_ok-next.next.words 0)) j) (c.in_ok-here.ensures.value told)
     ∙ ap (λ (line : Line). u64_at (word_pair (slice_index (lines l).words w) (slice_index line.words 0)) j) next
     ∙ sym (number_across lines l w (l + 1) 0 j c.args.place (omega arith) (omega arith) (omega arith) (omega arith) (omega arith) (omega arith) (omega arith))
+
+pub returns-then-at-eq0-clause-lines : goal.returns-then-at-eq0-clause-lines
+returns-then-at-eq0-clause-lines g c = AddsLines-weaker (λ x is. is ∙ sym (in_one_line c.args.place 8 (c.args.place / 64) refl (omega arith) (omega arith))) (one_line c.in_ok-here.here c.in_ok-here.ensures.reads)
+
+pub returns-then-word-lt7-clause-lines : goal.returns-then-word-lt7-clause-lines
+returns-then-word-lt7-clause-lines g c = AddsLines-weaker (λ x is. is ∙ sym (in_one_line c.args.place 8 (c.args.place / 64) refl (omega arith) (omega arith))) (one_line c.in_ok-here.here c.in_ok-here.ensures.reads)
+
+pub returns-clause-lines : goal.returns-clause-lines
+returns-clause-lines g c =
+    AddsLines-weaker (λ x is. is ∙ sym (in_two_lines c.args.place 8 (c.args.place / 64) refl (omega arith) (omega arith)))
+    (lines_then (one_line c.in_ok-here.here c.in_ok-here.ensures.reads) (one_line c.in_ok-next.next c.in_ok-next.ensures.reads))

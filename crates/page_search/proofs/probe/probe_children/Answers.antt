@@ -1,12 +1,15 @@
 -- The search ends at the child, and in a well-formed page nothing looks odd.
-use Rattle.std.proofs.Common.{◌≡◌, ◌≢◌, ◌+◌, ◌-◌, ◌*◌, ◌/◌, ◌<◌, ℕ, refl, arith, sym, ap, subst, ◌∙◌, IsTrue}
+use Rattle.std.proofs.Common.{◌≡◌, ◌≢◌, ◌+◌, ◌-◌, ◌*◌, ◌/◌, ◌<◌, ℕ, [], refl, arith, sym, ap, subst, ◌∙◌, IsTrue}
 use Rattle.line_pages.specs.Bytes.{bytes_of, u64_at}
 use Rattle.line_pages.proofs.StandingLaws.{ReadsPage-refl, Continues-refl, Continues-trans, ReadsPage-trans, still_open}
+use Rattle.line_pages.proofs.CostLaws.{AddsLines-refl}
 use Rattle.slotted_page.specs.Node.{entry_count, children, Child, is_page_below}
 use Rattle.slotted_page.specs.Spans.{Reaches}
 use Rattle.slotted_page.proofs.PageFacts.{clash}
 use Rattle.slotted_page.proofs.InnerLemmas.{length_children}
 use Rattle.slotted_page.proofs.ChildLaws.{narrow_whole, narrow_right, narrow_left, bounds_whole, probed_key, probed_page, key_inside, child_below, inside_is, inside_of, span_is}
+use Rattle.page_search.specs.Cost.{child_probe}
+use Rattle.page_search.proofs.ProbeLaws.{Halves, halves_none, child_probed, child_read}
 use Rattle.page_search.proofs.probe.probe_children.Goals as goal
 
 none : Child
@@ -15,11 +18,13 @@ none = (0, 0)
 pub loop-low-init : goal.loop-low-init
 loop-low-init g c =
     let old = g.P.Pages.standing c.args.pages.now in
+    let whole : c.args.count - 1 ≡ c.args.count - 0 - 1 = omega arith in
     record {
       ready = c.requires.ready;
       steady = λ s. s;
       continues = Continues-refl (g.P.Pages.may_leave c.args.pages.now) (g.P.Pages.is_steady c.args.pages.now) old;
       reads = ReadsPage-refl c.args.page old c.requires.open;
+      lines = AddsLines-refl old (subst (λ (w : ℕ). Halves child_probe c.args.count (c.args.count - 1) w []) whole (halves_none child_probe c.args.count (c.args.count - 1)));
       again = omega arith;
       nvm_kept = refl;
       ssd_kept = refl;
@@ -58,6 +63,8 @@ loop-low-preserved-then-found-key g c =
       steady = λ s. c.in_ok-found.ensures.steady (before.steady s);
       continues = Continues-trans before.continues before.steady c.in_ok-found.ensures.continues;
       reads = ReadsPage-trans before.reads c.in_ok-found.ensures.reads;
+      lines = child_probed c.args.count c.loop-low.low c.loop-low.high (c.loop-low.high - middle - 1) middle c.loop-low-test.true (omega (arith, c.loop-low-test.true)) (omega (arith, before.narrow.within, c.loop-low-test.true))
+          before.lines c.in_ok-found.ensures.lines;
       again = omega (arith, before.again, c.in_ok-found.ensures.again (still_open before.reads));
       nvm_kept = c.in_ok-found.ensures.cause.kept.0 ∙ before.nvm_kept;
       ssd_kept = c.in_ok-found.ensures.cause.kept.1 ∙ before.ssd_kept;
@@ -83,6 +90,8 @@ loop-low-preserved g c =
       steady = λ s. c.in_ok-found.ensures.steady (before.steady s);
       continues = Continues-trans before.continues before.steady c.in_ok-found.ensures.continues;
       reads = ReadsPage-trans before.reads c.in_ok-found.ensures.reads;
+      lines = child_probed c.args.count c.loop-low.low c.loop-low.high (middle - c.loop-low.low - 1) middle c.loop-low-test.true (omega (arith, c.loop-low-test.true)) (omega (arith, before.narrow.within, c.loop-low-test.true))
+          before.lines c.in_ok-found.ensures.lines;
       again = omega (arith, before.again, c.in_ok-found.ensures.again (still_open before.reads));
       nvm_kept = c.in_ok-found.ensures.cause.kept.0 ∙ before.nvm_kept;
       ssd_kept = c.in_ok-found.ensures.cause.kept.1 ∙ before.ssd_kept;
@@ -135,3 +144,28 @@ returns-clause-spot g c = λ told well.
     let end : c.loop-low.high ≡ low + 1 = omega (arith, c.loop-low-test.false, before.narrow.ordered) in
     span_is (children bytes) low expect.high c.in_ok-child.child c.loop-low.least c.loop-low.most none (omega (arith, inside, length_children bytes))
     (subst (λ (n : ℕ). Reaches (children bytes) n expect.high c.loop-low.most) end bounds.most_is) (probed_page bytes low c.in_ok-child.child none inside page) (bounds.least_is none)
+
+pub returns-then-not-is_inside-clause-lines : goal.returns-then-not-is_inside-clause-lines
+returns-then-not-is_inside-clause-lines g c = λ told well.
+    let before = c.loop-low.invariant in
+    let expect = c.args.expect.now in
+    let bytes = bytes_of (g.P.Pages.standing c.args.pages.now).current c.args.page in
+    let middle = c.loop-low.low + (c.loop-low.high - c.loop-low.low) / 2 in
+    let above : expect.level ≢ 0 = (λ e. omega (arith, e, c.requires.inner)) in
+    let told_on = subst IsTrue (sym before.continues.told) told in
+    let found : c.in_ok-found.found ≡ u64_at bytes (64 + 16 * middle) = c.in_ok-found.ensures.value told_on ∙ ap (λ all. u64_at (bytes_of all c.args.page) (64 + 16 * middle)) (before.reads.current told) in
+    let inside : middle < entry_count bytes = omega (arith, before.narrow.within, before.narrow.ordered, c.requires.known told, c.loop-low-test.true) in
+    let key = probed_key bytes middle c.in_ok-found.found none inside found in
+    let is = key_inside bytes expect middle none above well (omega (arith, c.loop-low-test.true)) (omega (arith, inside, length_children bytes)) in
+    let yes_it = inside_is expect c.in_ok-found.found (record { low = omega (arith, key, is.low); high = omega (arith, key, is.high) }) in
+    absurd (clash yes_it (sym c.is_inside.ensures ∙ c.if-not-is_inside.true))
+
+pub returns-then-not-is_page-clause-lines : goal.returns-then-not-is_page-clause-lines
+returns-then-not-is_page-clause-lines g c = λ told well.
+    child_read (bytes_of (g.P.Pages.standing c.args.pages.now).current c.args.page) c.args.count (c.loop-low.high - c.loop-low.low - 1) c.loop-low.low (c.requires.known told)
+    (omega (arith, c.loop-low.invariant.narrow.within, c.loop-low.invariant.narrow.ordered)) c.loop-low.invariant.lines c.in_ok-child.ensures.lines
+
+pub returns-clause-lines : goal.returns-clause-lines
+returns-clause-lines g c = λ told well.
+    child_read (bytes_of (g.P.Pages.standing c.args.pages.now).current c.args.page) c.args.count (c.loop-low.high - c.loop-low.low - 1) c.loop-low.low (c.requires.known told)
+    (omega (arith, c.loop-low.invariant.narrow.within, c.loop-low.invariant.narrow.ordered)) c.loop-low.invariant.lines c.in_ok-child.ensures.lines

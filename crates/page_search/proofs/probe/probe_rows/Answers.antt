@@ -1,12 +1,35 @@
 -- The search ends at the row or in the gap, and in a well-formed leaf nothing looks odd.
-use Rattle.std.proofs.Common.{◌≡◌, ◌≢◌, ◌+◌, ◌-◌, ◌*◌, ◌/◌, ◌<◌, arith, sym, ap, subst, ◌∙◌, IsTrue}
+use Rattle.std.proofs.Common.{◌≡◌, ◌≢◌, ◌+◌, ◌-◌, ◌*◌, ◌/◌, ◌<◌, ℕ, [], refl, arith, sym, ap, subst, ◌∙◌, IsTrue}
 use Rattle.line_pages.specs.Bytes.{bytes_of, u16_at, u64_at}
-use Rattle.line_pages.proofs.StandingLaws.{Continues-trans, ReadsPage-trans, still_open}
+use Rattle.line_pages.proofs.StandingLaws.{Continues-refl, Continues-trans, ReadsPage-refl, ReadsPage-trans, still_open}
+use Rattle.line_pages.proofs.CostLaws.{AddsLines-refl}
 use Rattle.slotted_page.specs.Node.{entry_count, leaf_rows}
 use Rattle.slotted_page.specs.Rows.{keys}
 use Rattle.slotted_page.proofs.SlotLemmas.{length_rows}
 use Rattle.slotted_page.proofs.KeyLaws.{probed, length-keys, place_inside, slice_get-is, below_to, above_to, goes_right, goes_left}
+use Rattle.page_search.specs.Cost.{row_probe}
+use Rattle.page_search.proofs.ProbeLaws.{Halves, halves_none, row_probed, rows_probed}
 use Rattle.page_search.proofs.probe.probe_rows.Goals as goal
+
+pub loop-low-init : goal.loop-low-init
+loop-low-init g c =
+    let old = g.P.Pages.standing c.args.pages.now in
+    let whole : c.args.count ≡ c.args.count - 0 = omega arith in
+    record {
+      ready = c.requires.ready;
+      steady = λ s. s;
+      continues = Continues-refl (g.P.Pages.may_leave c.args.pages.now) (g.P.Pages.is_steady c.args.pages.now) old;
+      reads = ReadsPage-refl c.args.page old c.requires.open;
+      lines = λ told.
+          let probe = row_probe (bytes_of old.current c.args.page) in
+          AddsLines-refl old (subst (λ (w : ℕ). Halves probe c.args.count c.args.count w []) whole (halves_none probe c.args.count c.args.count));
+      again = omega arith;
+      nvm_kept = refl;
+      ssd_kept = refl;
+      ordered = omega arith;
+      within = omega arith;
+      between = λ told well. record { lower = λ k below. absurd (omega (arith, below)); upper = λ k above within. absurd (omega (arith, above, within, c.requires.known told)) };
+    }
 
 pub returns-then-place-gt4096-clause-reads : goal.returns-then-place-gt4096-clause-reads
 returns-then-place-gt4096-clause-reads g c = ReadsPage-trans c.loop-low.invariant.reads c.in_ok-place.ensures.reads
@@ -47,6 +70,11 @@ loop-low-preserved-then-found-key-2 g c =
       steady = λ s. c.in_ok-found.ensures.steady (c.in_ok-place.ensures.steady (before.steady s));
       continues = Continues-trans (Continues-trans before.continues before.steady c.in_ok-place.ensures.continues) (λ s. c.in_ok-place.ensures.steady (before.steady s)) c.in_ok-found.ensures.continues;
       reads = ReadsPage-trans (ReadsPage-trans before.reads c.in_ok-place.ensures.reads) c.in_ok-found.ensures.reads;
+      lines = λ told.
+          let told_on = subst IsTrue (sym before.continues.told) told in
+          let place : c.in_ok-place.place ≡ u16_at bytes (64 + 4 * middle) = c.in_ok-place.ensures.value told_on ∙ ap (λ all. u16_at (bytes_of all c.args.page) (64 + 4 * middle)) (before.reads.current told) in
+          row_probed bytes c.args.count c.loop-low.low c.loop-low.high (c.loop-low.high - (middle + 1)) middle c.in_ok-place.place c.loop-low-test.true (omega (arith, c.loop-low-test.true)) (omega (arith, before.within, c.loop-low-test.true)) place
+          (before.lines told) c.in_ok-place.ensures.lines c.in_ok-found.ensures.lines;
       again = omega (arith, before.again, c.in_ok-place.ensures.again (still_open before.reads), c.in_ok-found.ensures.again (still_open c.in_ok-place.ensures.reads));
       nvm_kept = c.in_ok-found.ensures.cause.kept.0 ∙ c.in_ok-place.ensures.cause.kept.0 ∙ before.nvm_kept;
       ssd_kept = c.in_ok-found.ensures.cause.kept.1 ∙ c.in_ok-place.ensures.cause.kept.1 ∙ before.ssd_kept;
@@ -73,6 +101,11 @@ loop-low-preserved g c =
       steady = λ s. c.in_ok-found.ensures.steady (c.in_ok-place.ensures.steady (before.steady s));
       continues = Continues-trans (Continues-trans before.continues before.steady c.in_ok-place.ensures.continues) (λ s. c.in_ok-place.ensures.steady (before.steady s)) c.in_ok-found.ensures.continues;
       reads = ReadsPage-trans (ReadsPage-trans before.reads c.in_ok-place.ensures.reads) c.in_ok-found.ensures.reads;
+      lines = λ told.
+          let told_on = subst IsTrue (sym before.continues.told) told in
+          let place : c.in_ok-place.place ≡ u16_at bytes (64 + 4 * middle) = c.in_ok-place.ensures.value told_on ∙ ap (λ all. u16_at (bytes_of all c.args.page) (64 + 4 * middle)) (before.reads.current told) in
+          row_probed bytes c.args.count c.loop-low.low c.loop-low.high (middle - c.loop-low.low) middle c.in_ok-place.place c.loop-low-test.true (omega (arith, c.loop-low-test.true)) (omega (arith, before.within, c.loop-low-test.true)) place
+          (before.lines told) c.in_ok-place.ensures.lines c.in_ok-found.ensures.lines;
       again = omega (arith, before.again, c.in_ok-place.ensures.again (still_open before.reads), c.in_ok-found.ensures.again (still_open c.in_ok-place.ensures.reads));
       nvm_kept = c.in_ok-found.ensures.cause.kept.0 ∙ c.in_ok-place.ensures.cause.kept.0 ∙ before.nvm_kept;
       ssd_kept = c.in_ok-found.ensures.cause.kept.1 ∙ c.in_ok-place.ensures.cause.kept.1 ∙ before.ssd_kept;
@@ -103,3 +136,32 @@ returns-clause-spot g c = λ told well.
       below_to c.args.key c.loop-low.low (leaf_rows bytes) all.lower (omega (arith, end, before.within, known, size)),
       above_to c.args.key c.loop-low.low (leaf_rows bytes) (λ k above within. all.upper k (omega (arith, end, above)) (omega (arith, within, size))),
     )
+
+pub returns-then-found-key-clause-lines : goal.returns-then-found-key-clause-lines
+returns-then-found-key-clause-lines g c = λ told well.
+    let before = c.loop-low.invariant in
+    let bytes = bytes_of (g.P.Pages.standing c.args.pages.now).current c.args.page in
+    let middle = c.loop-low.low + (c.loop-low.high - c.loop-low.low) / 2 in
+    let told_on = subst IsTrue (sym before.continues.told) told in
+    let place : c.in_ok-place.place ≡ u16_at bytes (64 + 4 * middle) = c.in_ok-place.ensures.value told_on ∙ ap (λ all. u16_at (bytes_of all c.args.page) (64 + 4 * middle)) (before.reads.current told) in
+    rows_probed bytes c.args.count 0
+    (row_probed bytes c.args.count c.loop-low.low c.loop-low.high 0 middle c.in_ok-place.place c.loop-low-test.true (omega arith) (omega (arith, before.within, c.loop-low-test.true)) place
+    (before.lines told) c.in_ok-place.ensures.lines c.in_ok-found.ensures.lines)
+
+pub returns-then-place-gt4096-clause-lines : goal.returns-then-place-gt4096-clause-lines
+returns-then-place-gt4096-clause-lines g c = λ told well.
+    let before = c.loop-low.invariant in
+    let bytes = bytes_of (g.P.Pages.standing c.args.pages.now).current c.args.page in
+    let middle = c.loop-low.low + (c.loop-low.high - c.loop-low.low) / 2 in
+    let place = c.in_ok-place.ensures.value (subst IsTrue (sym before.continues.told) told) ∙ ap (λ all. u16_at (bytes_of all c.args.page) (64 + 4 * middle)) (before.reads.current told) in
+    let inside : middle < entry_count bytes = omega (arith, before.within, c.requires.known told, c.loop-low-test.true) in
+    absurd (omega (arith, place, place_inside bytes c.args.expect.now middle c.requires.leaf well inside, c.if-place-gt4096.true))
+
+pub returns-clause-lines : goal.returns-clause-lines
+returns-clause-lines g c = λ told well.
+    rows_probed (bytes_of (g.P.Pages.standing c.args.pages.now).current c.args.page) c.args.count (c.loop-low.high - c.loop-low.low) (c.loop-low.invariant.lines told)
+
+pub returns-then-found-key-clause-continues : goal.returns-then-found-key-clause-continues
+returns-then-found-key-clause-continues g c =
+    let before = c.loop-low.invariant in
+    Continues-trans {steady_between = g.P.Pages.is_steady c.read_place.new.pages} (Continues-trans before.continues before.steady c.in_ok-place.ensures.continues) (λ s. c.in_ok-place.ensures.steady (before.steady s)) c.in_ok-found.ensures.continues

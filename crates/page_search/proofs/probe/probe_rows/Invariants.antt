@@ -1,9 +1,12 @@
 -- The key is in none of the rows below `low`, and in none from `high` on.
 use Rattle.std.proofs.Common.{◌≡◌, ◌-◌, ◌≤◌, IsTrue}
 use Rattle.line_pages.specs.Bytes.{bytes_of}
+use Rattle.line_pages.specs.Cost.{AddsLines}
 use Rattle.line_pages.specs.Standing.{Continues, ReadsPage}
 use Rattle.slotted_page.specs.Node.{IsWellFormed}
 use Rattle.slotted_page.proofs.KeyLaws.{Between}
+use Rattle.page_search.specs.Cost.{row_probe}
+use Rattle.page_search.proofs.ProbeLaws.{Halves}
 use Rattle.page_search.proofs.probe.probe_rows.Given as goal
 
 abbrev pub invariant-loop-low : goal.invariant-loop-low
@@ -12,6 +15,8 @@ invariant-loop-low g l = record {
   steady : g.P.Pages.is_steady l.fn.pages → g.P.Pages.is_steady l.pages;
   continues : Continues (g.P.Pages.may_leave l.fn.pages) (g.P.Pages.may_leave l.pages) (g.P.Pages.is_steady l.fn.pages) (g.P.Pages.standing l.fn.pages) (g.P.Pages.standing l.pages);
   reads : ReadsPage l.page (g.P.Pages.standing l.fn.pages) (g.P.Pages.standing l.pages);
+  lines : IsTrue (g.P.Pages.standing l.fn.pages).told
+      → AddsLines (Halves (row_probe (bytes_of (g.P.Pages.standing l.fn.pages).current l.page)) l.count l.count (l.high - l.low)) (g.P.Pages.standing l.fn.pages) (g.P.Pages.standing l.pages);
   again : (g.P.Pages.standing l.pages).visits ≤ (g.P.Pages.standing l.fn.pages).visits;
   nvm_kept : (g.P.Pages.standing l.pages).nvm_faults ≡ (g.P.Pages.standing l.fn.pages).nvm_faults;
   ssd_kept : (g.P.Pages.standing l.pages).ssd_faults ≡ (g.P.Pages.standing l.fn.pages).ssd_faults;

@@ -1,4 +1,7 @@
-use Rattle.std.proofs.Common.{arith}
+use Rattle.std.proofs.Common.{arith, refl}
+use Rattle.line_pages.specs.Bytes.{bytes_of}
+use Rattle.line_pages.proofs.CostLaws.{AddsLines-weaker}
+use Rattle.page_search.proofs.ProbeLaws.{search_cost}
 use Rattle.line_pages.proofs.StandingLaws.{one_access, still_open}
 use Rattle.page_search.proofs.OpenLaws.{then_reads}
 use Rattle.page_search.proofs.search.find.Goals as goal
@@ -8,3 +11,8 @@ returns-in-None-clause-reads g c = then_reads (g.P.Pages.standing c.args.pages.n
 
 pub returns-in-None-clause-few : goal.returns-in-None-clause-few
 returns-in-None-clause-few g c = omega (arith, one_access c.in_ok-spot.ensures.reads, c.find_whole.ensures.again (still_open c.in_ok-spot.ensures.reads))
+
+pub returns-in-Some-clause-cost : goal.returns-in-Some-clause-cost
+returns-in-Some-clause-cost g c = λ told well.
+    let bytes = bytes_of (g.P.Pages.standing c.args.pages.now).current c.args.page in
+    AddsLines-weaker (λ lines searches. search_cost c.args.expect.now.level bytes lines c.args.expect.now refl well searches) (c.in_ok-spot.ensures.lines told well)
