@@ -1,10 +1,12 @@
 -- The touches of a look-up of a name.
-use Rattle.std.proofs.Common.{◌≡◌, ℕ, zero, suc, ◌+◌, false, List, [], ◌∷◌, ◌++◌, sym, ap, ◌∙◌, arith, append_assoc, Some, Option, Result, Ok, Err, OnOk, IfOk}
+use Rattle.std.proofs.Common.{◌≡◌, ℕ, zero, suc, ◌+◌, false, List, [], ◌∷◌, ◌++◌, sym, ap, ◌∙◌, arith, append_assoc, append-nil, Some, Option, Result, Ok, Err, OnOk, IfOk}
 use Rattle.line_pages.specs.declared.stop.Stop.{Stop}
 use Rattle.line_pages.specs.Lines.{Lines}
 use Rattle.line_pages.specs.Touch.{Touch, Access, touch_of}
+use Rattle.line_pages.specs.Standing.{Standing}
 use Rattle.table_catalog.specs.declared.entry.Place.{Place}
 use Rattle.table_catalog.specs.Catalog.{entries, place_of, table_count, entry_touches, entries_read, lookup_touches}
+use Rattle.table_catalog.specs.Lookup.{LooksUp}
 
 entry_touches-more : (l n : ℕ) → entry_touches l (suc n) ≡ entry_touches l n ++ touch_of (Some (0, false)) 0 (l + n) false ∷ []
 entry_touches-more l zero = let here : l ≡ l + 0 = omega arith in ap (λ (k : ℕ). touch_of (Some (0, false)) 0 k false ∷ []) here
@@ -33,3 +35,18 @@ pub first_on : {T : Type 0} (old mid new : List Touch) (t : Touch) (rest : List 
     → OnOk result ((more : List Touch) × (new ≡ old ++ t ∷ more))
 first_on old mid new t rest (Ok v) first grown = (rest ++ grown.0, grown.1 ∙ ap (λ ts. ts ++ grown.0) first ∙ append_assoc old (t ∷ rest) grown.0)
 first_on old mid new t rest (Err e) first grown = tt
+
+-- a look-up alone, and one with what comes after it
+pub looks_up : {A : Type 0} (name : List ℕ) (old new : Standing A) → new.touches ≡ old.touches ++ lookup_touches old.access old.current name → LooksUp name old new
+looks_up name old new are = record {
+  rest = [];
+  touches = are ∙ ap (λ ts. old.touches ++ ts) (sym (append-nil (lookup_touches old.access old.current name)));
+}
+
+pub looks_up_on : {A T : Type 0} (name : List ℕ) (old mid new : Standing A) (result : Result T Stop) → mid.touches ≡ old.touches ++ lookup_touches old.access old.current name
+    → (added : List Touch) × (new.touches ≡ mid.touches ++ added) → OnOk result (LooksUp name old new)
+looks_up_on name old mid new (Ok v) first grown = record {
+  rest = grown.0;
+  touches = grown.1 ∙ ap (λ ts. ts ++ grown.0) first ∙ append_assoc old.touches (lookup_touches old.access old.current name) grown.0;
+}
+looks_up_on name old mid new (Err e) first grown = tt

@@ -1,3 +1,4 @@
 pub mod Names
 pub mod Catalog
 pub mod Stored
+pub mod Lookup

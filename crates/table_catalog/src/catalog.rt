@@ -135,7 +135,8 @@ fn failing(header: &Line, limits: &Limits, count: u64) -> Option<u8>
     }
 }
 
-/// Reads the header of the catalog and makes its checks.
+/// Reads the header of the catalog and makes its checks. `Damaged` comes only with the first of the checks 31 to 34 that the
+/// header fails.
 #[tactic(auto, using(crate::proofs::CatalogLaws::fits_catalog, crate::proofs::FailsLaws::never_keeps))]
 pub fn read_catalog<P: Pages>(pages: &mut P, limits: &Limits, work: &mut Work) -> Result<Line, Stop>
     requires ready { P.is_ready pages.old }
@@ -191,7 +192,8 @@ fn read_entry<P: Pages>(
     Ok(entry)
 }
 
-/// Looks a name up among the entries of the catalog, whose access is open: the first entry with the name.
+/// Looks a name up among the entries of the catalog, whose access is open: the first entry with the name. `Damaged` comes only
+/// with check 35, where an entry up to that one is out of range.
 pub fn search<P: Pages>(
     pages: &mut P,
     limits: &Limits,
@@ -223,7 +225,8 @@ pub fn search<P: Pages>(
     Ok(None)
 }
 
-/// Looks a name up in the catalog: the first entry with the name.
+/// Looks a name up in the catalog: the first entry with the name. `Damaged` comes only with the first of the checks 31 to 35
+/// that the catalog fails.
 pub fn find_entry<P: Pages>(
     pages: &mut P,
     limits: &Limits,

@@ -19,9 +19,9 @@ use Rattle.table_catalog.specs.declared.entry.Entry.{Entry}
 use Rattle.table_catalog.specs.Names.{is_name}
 use Rattle.table_catalog.specs.Catalog.{entry_in, entries, entries_from, table_count, name_of, table_of, tables, place_of, is_entry, names_differ, catalog_checks}
 use Rattle.table_catalog.specs.Stored.{HasTree, all_pages, IsStore, is_known}
-use Rattle.table_store.specs.Created.{new_entry, leaf_line, Written, Makes, IsCreated}
+use Rattle.table_store.specs.Created.{new_entry, leaf_line, Written, Makes, created_of, IsCreated}
 use Rattle.table_catalog.specs.declared.entry.Place.{Place}
-use Rattle.table_store.specs.declared.answer.Created.TheVariants.{Made, NoSlot}
+use Rattle.table_store.specs.declared.answer.Created.TheVariants.{Made, Present, NoSlot}
 use Rattle.table_catalog.proofs.CatalogLaws.{AllHold, all_hold, none_fails, known_by}
 use Rattle.table_store.proofs.RoomLaws.{length-entries}
 use Rattle.table_store.proofs.EntryLaws.{name_back, field_named}
@@ -250,3 +250,13 @@ no_slot_is limits count old new name at at_is unknown most full = (unknown_by na
 -- a name that was found
 pub present_is : (name : List ℕ) (lines : Lines) (place : Place) → place_of name 0 (entries lines) ≡ Some place → is_known name (tables lines) ≡ true
 present_is name lines place is = sym (known_by name lines 0 (entries lines)) ∙ ap is_some is
+
+-- the answer by the tables that there are
+pub made_by : (limits : Limits) (lines : Lines) (name : List ℕ) (at : ℕ) → at ≡ table_count lines → place_of name 0 (entries lines) ≡ None → at < limits.tables → Made ≡ created_of limits name (tables lines)
+made_by limits lines name at at_is unknown few = rw (unknown_by name lines unknown, lt-ltb (length (tables lines)) limits.tables (omega (arith, tables-length lines, at_is, few))) refl
+
+pub no_slot_by : (limits : Limits) (lines : Lines) (name : List ℕ) (at : ℕ) → at ≡ table_count lines → place_of name 0 (entries lines) ≡ None → limits.tables ≤ at → NoSlot ≡ created_of limits name (tables lines)
+no_slot_by limits lines name at at_is unknown full = rw (unknown_by name lines unknown, le-ltb (length (tables lines)) limits.tables (omega (arith, tables-length lines, at_is, full))) refl
+
+pub present_by : (limits : Limits) (lines : Lines) (name : List ℕ) → is_known name (tables lines) ≡ true → Present ≡ created_of limits name (tables lines)
+present_by limits lines name known = rw known refl

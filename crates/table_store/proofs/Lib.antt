@@ -8,3 +8,4 @@ pub mod RoomLaws
 pub mod ChangeLaws
 pub mod RowsLaws
 pub mod ScanLaws
+pub mod PlaceLaws

@@ -1,5 +1,5 @@
 -- A table whose rows change.
-use Rattle.std.specs.Prelude.{◌≡◌, ℕ, ◌+◌, ◌≤◌, List, Some, IsTrue, Bool, ◌⊎◌}
+use Rattle.std.specs.Prelude.{◌≡◌, ℕ, ◌+◌, ◌≤◌, List, Some, IsTrue, Bool, ◌⊎◌, ◌==◌, ◌&&◌}
 use Rattle.nvm_model.specs.declared.line.Line.{Line}
 use Rattle.line_pages.specs.declared.stop.Evidence.{Evidence}
 use Rattle.line_pages.specs.Lines.{Lines, with_line}
@@ -15,6 +15,10 @@ use Rattle.table_catalog.specs.Stored.{IsStore, rows_of, with_rows}
 -- the root of an entry's tree
 abbrev pub root_at : Place → Root
 root_at place = record { page = place.entry.root; levels = place.entry.levels }
+
+-- whether an entry stays as it is with this root and so many rows
+abbrev pub stays_as : Place → Root → ℕ → Bool
+stays_as place root rows = place.entry.root == root.page && place.entry.levels == root.levels && place.entry.rows == rows
 
 -- The entry of a table was written anew: its tree has this root, and the table so many rows.
 pub record Enters (old new : Lines) (place : Place) (root : Root) (rows : ℕ) : Type 0 where

@@ -1,5 +1,5 @@
 -- A table that is made.
-use Rattle.std.specs.Prelude.{◌≡◌, ℕ, ◌+◌, ◌-◌, ◌<◌, ◌≤◌, true, false, List, [], ◌∷◌, ◌++◌, length, replicate, IsTrue, Option, Some, None, ◌⊎◌}
+use Rattle.std.specs.Prelude.{◌≡◌, ℕ, ◌+◌, ◌-◌, ◌<◌, ◌≤◌, true, false, List, [], ◌∷◌, ◌++◌, length, replicate, IsTrue, Option, Some, None, ◌⊎◌, nat_lt, if◌then◌else◌}
 use Rattle.nvm_model.specs.declared.line.Line.{Line}
 use Rattle.line_pages.specs.declared.stop.Evidence.{Evidence}
 use Rattle.line_pages.specs.Lines.{Lines, with_line, IsLine}
@@ -10,7 +10,7 @@ use Rattle.table_catalog.specs.declared.entry.Entry.{Entry}
 use Rattle.table_store.specs.declared.answer.Created.{Created}
 use Rattle.table_store.specs.declared.answer.Created.TheVariants.{Made, Present, NoSlot}
 use Rattle.table_catalog.specs.Names.{is_name}
-use Rattle.table_catalog.specs.Catalog.{entry_in, table_count, tables, entries, place_of, IsCatalogDamage, FailsCatalog}
+use Rattle.table_catalog.specs.Catalog.{Table, entry_in, table_count, tables, entries, place_of, IsCatalogDamage, FailsCatalog}
 use Rattle.table_catalog.specs.Stored.{IsStore, is_known}
 
 -- the field of a name: its length, its bytes, then zeros
@@ -39,6 +39,10 @@ pub record Makes (limits : Limits) (count : ℕ) (old new : Lines) (name : List 
   pub store : IsStore limits count new
   pub tables_are : tables new ≡ tables old ++ (name, []) ∷ []
   pub beyond : (n : ℕ) → high_of new ≤ n → new n ≡ old n
+
+-- the answer, by the tables that there are
+abbrev pub created_of : Limits → List ℕ → List Table → Created
+created_of limits name all = if is_known name all then Present else if nat_lt (length all) limits.tables then Made else NoSlot
 
 -- which answer comes when, and what changes
 abbrev pub IsCreated : Limits → ℕ → Lines → Lines → List ℕ → Created → Type 0

@@ -1,5 +1,5 @@
 //! A table that is made.
-ghost use Rattle.std.specs.Prelude.{◌≡◌, ◌+◌, ◌*◌, ◌/◌, ◌<◌, ◌≤◌, None, IsTrue, OnOk, IfOk, IfErr, IfSome};
+ghost use Rattle.std.specs.Prelude.{◌≡◌, ◌++◌, ◌+◌, ◌*◌, ◌/◌, ◌<◌, ◌≤◌, None, IsTrue, OnOk, IfOk, IfErr, IfSome};
 ghost use Rattle.line_pages.specs.Lines.{with_line};
 ghost use Rattle.line_pages.specs.Standing.{Continues, HasCause, Never, ReadsPage};
 ghost use Rattle.slotted_page.specs.Search.{Keeps};
@@ -7,9 +7,10 @@ ghost use Rattle.page_space.specs.Space.{with_word, take_checks, IsSpaceDamage, 
 ghost use Rattle.page_space.specs.Moves.{Takes};
 ghost use Rattle.page_space.specs.Stops.{IsFault};
 ghost use Rattle.table_catalog.specs.Names.{is_name};
-ghost use Rattle.table_catalog.specs.Catalog.{entry_in as entry_of_line, entries, table_count, place_of, IsCatalogDamage, FailsCatalog};
+ghost use Rattle.table_catalog.specs.Catalog.{entry_in as entry_of_line, entries, table_count, tables, lookup_touches, place_of, IsCatalogDamage, FailsCatalog};
 ghost use Rattle.table_catalog.specs.Stored.{IsStore};
-ghost use Rattle.table_store.specs.Created.{field_of as field_of_name, new_entry, Written, Makes, IsCreated, KeepsUnlessMade, IsSlot, IsCreateDamage, FailsCreate};
+ghost use Rattle.table_catalog.specs.Lookup.{LooksUp};
+ghost use Rattle.table_store.specs.Created.{field_of as field_of_name, new_entry, Written, Makes, created_of, IsCreated, KeepsUnlessMade, IsSlot, IsCreateDamage, FailsCreate};
 
 use crate::answer::Created;
 use line_pages::{Pages, Stop};
@@ -148,6 +149,7 @@ fn find_slot<P: Pages>(
     ensures fails { IfErr result (Keeps (FailsCatalog limits.now (P.standing pages.old).count work.new.page)) }
     ensures continues { Continues (P.may_leave pages.old) (P.may_leave pages.new) (P.is_steady pages.old) (P.standing pages.old) (P.standing pages.new) }
     ensures reads { OnOk result (ReadsPage 0 (P.standing pages.old) (P.standing pages.new)) }
+    ensures lines { IsTrue (P.standing pages.old).told → OnOk result ((P.standing pages.new).touches ≡ (P.standing pages.old).touches ++ lookup_touches (P.standing pages.old).access (P.standing pages.old).current name.now) }
     ensures few { (P.standing pages.new).visits ≤ (P.standing pages.old).visits + 1 }
     ensures ready { OnOk result (P.is_ready pages.new) }
     ensures steady { P.is_steady pages.old → OnOk result (P.is_steady pages.new) }
@@ -171,6 +173,7 @@ fn create_at<P: Pages>(
     requires at { at ≤ limits.now.tables }
     requires room { 4 ≤ (P.standing pages.old).room }
     ensures created { IsTrue (P.standing pages.old).told → at ≡ table_count (P.standing pages.old).current → place_of name.now 0 (entries (P.standing pages.old).current) ≡ None → IsStore limits.now (P.standing pages.old).count (P.standing pages.old).current → IfOk result (IsCreated limits.now (P.standing pages.old).count (P.standing pages.old).current (P.standing pages.new).current name.now) }
+    ensures known { IsTrue (P.standing pages.old).told → at ≡ table_count (P.standing pages.old).current → place_of name.now 0 (entries (P.standing pages.old).current) ≡ None → IfOk result (λ answer. answer ≡ created_of limits.now name.now (tables (P.standing pages.old).current)) }
     ensures sound { IsTrue (P.standing pages.old).told → at ≡ table_count (P.standing pages.old).current → IsStore limits.now (P.standing pages.old).count (P.standing pages.old).current → 1 + limits.now.tables * (limits.now.rows / 2 + 8) ≤ (P.standing pages.old).count → IfErr result IsFault }
     ensures cause { HasCause (λ e. IsTrue (P.standing pages.old).told → IsSpaceDamage (take_checks (P.standing pages.old).count (P.standing pages.old).current) (P.standing pages.old).current work.new.page e) (P.standing pages.old) (P.standing pages.new) result }
     ensures fails { IfErr result (Keeps (FailsSpace (P.standing pages.old).count work.new.page)) }
@@ -200,7 +203,9 @@ pub fn create<P: Pages>(
     requires room { 640 ≤ (P.standing pages.old).room }
     // the answer, and what changes
     ensures created { IsTrue (P.standing pages.old).told → IsStore limits.now (P.standing pages.old).count (P.standing pages.old).current → IfOk result (IsCreated limits.now (P.standing pages.old).count (P.standing pages.old).current (P.standing pages.new).current name.now) }
+    ensures known { IsTrue (P.standing pages.old).told → IfOk result (λ answer. answer ≡ created_of limits.now name.now (tables (P.standing pages.old).current)) }
     ensures keeps { IfOk result (KeepsUnlessMade (P.standing pages.old) (P.standing pages.new)) }
+    ensures lines { IsTrue (P.standing pages.old).told → OnOk result (LooksUp name.now (P.standing pages.old) (P.standing pages.new)) }
     // why it stops
     ensures sound { IsTrue (P.standing pages.old).told → IsStore limits.now (P.standing pages.old).count (P.standing pages.old).current → 1 + limits.now.tables * (limits.now.rows / 2 + 8) ≤ (P.standing pages.old).count → IfErr result IsFault }
     ensures cause { HasCause (λ e. IsTrue (P.standing pages.old).told → IsCreateDamage limits.now (P.standing pages.old).count (P.standing pages.old).current work.new.page e) (P.standing pages.old) (P.standing pages.new) result }

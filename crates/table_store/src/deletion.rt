@@ -8,6 +8,7 @@ ghost use Rattle.bplus_tree.specs.Damage.{IsTreeDamage, FailsTree};
 ghost use Rattle.table_catalog.specs.declared.entry.Place.{Place};
 ghost use Rattle.table_catalog.specs.Catalog.{entry_in as entry_of_line, entries, tables, place_of, entry_rows, FitsRoot};
 ghost use Rattle.table_catalog.specs.Stored.{is_known, rows_of, IsStore};
+ghost use Rattle.table_catalog.specs.Lookup.{LooksUp};
 ghost use Rattle.table_store.specs.Changed.{ChangesTable, IsChangeDamage, FailsChange};
 ghost use Rattle.table_store.specs.Deleting.{deleted_of, is_no_table, DeletesIfDone, CountsIfDone, KeepsUnlessDone};
 
@@ -96,6 +97,7 @@ pub fn delete<P: Pages>(
     ensures changed { IsTrue (P.standing pages.old).told → IsStore limits.now (P.standing pages.old).count (P.standing pages.old).current → IfOk result (DeletesIfDone limits.now (P.standing pages.old).count (P.standing pages.old).current (P.standing pages.new).current name.now key) }
     ensures counted { IsTrue (P.standing pages.old).told → IfOk result (λ answer. (place : Place) → place_of name.now 0 (entries (P.standing pages.old).current) ≡ Some place → CountsIfDone (P.standing pages.new).current place answer) }
     ensures keeps { IfOk result (KeepsUnlessDone (P.standing pages.old) (P.standing pages.new)) }
+    ensures lines { IsTrue (P.standing pages.old).told → OnOk result (LooksUp name.now (P.standing pages.old) (P.standing pages.new)) }
     // why it stops
     ensures sound { IsTrue (P.standing pages.old).told → IsStore limits.now (P.standing pages.old).count (P.standing pages.old).current → IfErr result IsFault }
     ensures cause { HasCause (IsChangeDamage (P.standing pages.old).told limits.now (P.standing pages.old).count (P.standing pages.old).current work.new.page) (P.standing pages.old) (P.standing pages.new) result }

@@ -9,6 +9,7 @@ ghost use Rattle.page_space.specs.Stops.{IsFault};
 ghost use Rattle.tree_search.specs.Way.{IsPath};
 ghost use Rattle.table_catalog.specs.Catalog.{entries, tables, place_of};
 ghost use Rattle.table_catalog.specs.Stored.{rows_of, is_known, IsStore};
+ghost use Rattle.table_catalog.specs.Lookup.{LooksUp};
 ghost use Rattle.table_store.specs.Getting.{is_no_table, found_value, got_of, place_levels, IsLookup, IsLookupDamage, FailsLookup};
 
 use crate::answer::Got;
@@ -64,6 +65,7 @@ pub fn get<P: Pages>(
     ensures way { IsTrue (P.standing pages.old).told → (P.standing pages.old).access ≡ None → OnOk result (AddsReads (IsLookup limits.now (P.standing pages.old).count (P.standing pages.old).current name.now key) (P.standing pages.old) (P.standing pages.new)) }
     ensures visits { IsTrue (P.standing pages.old).told → (P.standing pages.old).access ≡ None → OnOk result ((P.standing pages.new).visits ≡ (P.standing pages.old).visits + 1 + place_levels (place_of name.now 0 (entries (P.standing pages.old).current))) }
     ensures first { IsTrue (P.standing pages.old).told → OnOk result ((rest : List Touch) × ((P.standing pages.new).touches ≡ (P.standing pages.old).touches ++ touch_of (P.standing pages.old).access 0 0 false ∷ rest)) }
+    ensures lines { IsTrue (P.standing pages.old).told → OnOk result (LooksUp name.now (P.standing pages.old) (P.standing pages.new)) }
     // what stays
     ensures keeps { OnOk result (KeepsLines (P.standing pages.old) (P.standing pages.new)) }
     ensures continues { Continues (P.may_leave pages.old) (P.may_leave pages.new) (P.is_steady pages.old) (P.standing pages.old) (P.standing pages.new) }

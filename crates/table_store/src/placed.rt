@@ -1,13 +1,13 @@
 //! A table at a known place of the catalog: the row of a key, and its entry written anew.
-ghost use Rattle.std.specs.Prelude.{◌≡◌, ◌+◌, ◌<◌, ◌≤◌, ℕ, List, is_some, IsTrue, OnOk, IfOk, IfErr};
+ghost use Rattle.std.specs.Prelude.{◌≡◌, ◌+◌, ◌<◌, ◌≤◌, ℕ, List, true, is_some, IsTrue, OnOk, IfOk, IfErr};
 ghost use Rattle.line_pages.specs.Standing.{Continues, HasCause, KeepsLines, Never};
 ghost use Rattle.slotted_page.specs.Rows.{Row, row_get};
 ghost use Rattle.slotted_page.specs.Search.{Keeps};
 ghost use Rattle.tree_search.specs.Tree.{IsRooted};
 ghost use Rattle.page_space.specs.Stops.{IsFault};
 ghost use Rattle.bplus_tree.specs.Damage.{IsTreeDamage, FailsTree};
-ghost use Rattle.table_catalog.specs.Catalog.{FitsRoot};
-ghost use Rattle.table_store.specs.Changed.{root_at, Enters};
+ghost use Rattle.table_catalog.specs.Catalog.{entry_in as entry_of_line, FitsRoot};
+ghost use Rattle.table_store.specs.Changed.{root_at, stays_as, Enters};
 
 use line_pages::{Pages, Stop};
 use slotted_page::{Value, Work};
@@ -90,4 +90,39 @@ pub(crate) fn write_place<P: Pages>(
         rows,
     };
     pages.write_line(0, 2 + place.at as usize, &line_of(entry))
+}
+
+/// Whether the entry of a table stays as it is with this root and so many rows.
+fn stays(place: &Place, root: &Root, rows: u64) -> bool
+    ensures { result ≡ stays_as place.now root.now rows }
+{
+    place.entry.root == root.page
+        && place.entry.levels == root.levels as u64
+        && place.entry.rows == rows
+}
+
+/// Writes the entry of a table anew, unless it stays as it is: its tree has this root now, and the table so many rows.
+pub(crate) fn update_place<P: Pages>(
+    pages: &mut P,
+    place: &Place,
+    root: &Root,
+    rows: u64,
+) -> Result<(), Stop>
+    requires ready { P.is_ready pages.old }
+    requires at { place.now.at < 62 }
+    requires some { 1 ≤ (P.standing pages.old).count }
+    requires room { 1 ≤ (P.standing pages.old).room }
+    ensures after { IsTrue (P.standing pages.old).told → entry_of_line ((P.standing pages.old).current 0 (2 + place.now.at)) ≡ place.now.entry → OnOk result (Enters (P.standing pages.old).current (P.standing pages.new).current place.now root.now rows) }
+    ensures unwritten { stays_as place.now root.now rows ≡ true → (P.standing pages.new).touches ≡ (P.standing pages.old).touches }
+    ensures cause { HasCause Never (P.standing pages.old) (P.standing pages.new) result }
+    ensures continues { Continues (P.may_leave pages.old) (P.may_leave pages.new) (P.is_steady pages.old) (P.standing pages.old) (P.standing pages.new) }
+    ensures room { OnOk result ((P.standing pages.old).room ≤ (P.standing pages.new).room + 1) }
+    ensures few { (P.standing pages.new).visits ≤ (P.standing pages.old).visits + 1 }
+    ensures ready { OnOk result (P.is_ready pages.new) }
+    ensures steady { P.is_steady pages.old → OnOk result (P.is_steady pages.new) }
+{
+    if stays(place, root, rows) {
+        return Ok(());
+    }
+    write_place(pages, place, root, rows)
 }

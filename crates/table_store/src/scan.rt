@@ -9,6 +9,7 @@ ghost use Rattle.tree_search.specs.Way.{AreReadsIn};
 ghost use Rattle.page_space.specs.Stops.{IsFault};
 ghost use Rattle.table_catalog.specs.Catalog.{tables};
 ghost use Rattle.table_catalog.specs.Stored.{rows_of, is_known, IsStore};
+ghost use Rattle.table_catalog.specs.Lookup.{LooksUp};
 ghost use Rattle.table_store.specs.Getting.{IsLookupDamage, FailsLookup};
 ghost use Rattle.table_store.specs.Scanning.{row_up_to, next_of, is_no_table, IsScan};
 
@@ -76,6 +77,7 @@ pub fn scan_next<P: Pages>(
     // what is read, and what stays
     ensures touches { IsTrue (P.standing pages.old).told → (P.standing pages.old).access ≡ None → IsStore limits.now (P.standing pages.old).count (P.standing pages.old).current → OnOk result (AddsReads (IsScan (P.standing pages.old).current name.now) (P.standing pages.old) (P.standing pages.new)) }
     ensures first { IsTrue (P.standing pages.old).told → OnOk result ((rest : List Touch) × ((P.standing pages.new).touches ≡ (P.standing pages.old).touches ++ touch_of (P.standing pages.old).access 0 0 false ∷ rest)) }
+    ensures lines { IsTrue (P.standing pages.old).told → OnOk result (LooksUp name.now (P.standing pages.old) (P.standing pages.new)) }
     ensures keeps { OnOk result (KeepsLines (P.standing pages.old) (P.standing pages.new)) }
     ensures continues { Continues (P.may_leave pages.old) (P.may_leave pages.new) (P.is_steady pages.old) (P.standing pages.old) (P.standing pages.new) }
     ensures few { (P.standing pages.new).visits ≤ (P.standing pages.old).visits + 23 }

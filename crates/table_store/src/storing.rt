@@ -7,11 +7,12 @@ ghost use Rattle.page_space.specs.Stops.{IsFault};
 ghost use Rattle.bplus_tree.specs.Damage.{IsTreeDamage, FailsTree};
 ghost use Rattle.table_catalog.specs.Catalog.{entries, tables, place_of, entry_rows, FitsRoot};
 ghost use Rattle.table_catalog.specs.Stored.{is_known, rows_of, IsStore};
+ghost use Rattle.table_catalog.specs.Lookup.{LooksUp};
 ghost use Rattle.table_store.specs.Changed.{ChangesTable, IsChangeDamage, FailsChange};
 ghost use Rattle.table_store.specs.Putting.{stored_of, is_no_table, PutsIfDone, KeepsUnlessDone};
 
 use crate::answer::Stored;
-use crate::placed::{has_row, write_place};
+use crate::placed::{has_row, update_place};
 use bplus_tree::put_row;
 use line_pages::{Pages, Stop};
 use slotted_page::{Value, Work};
@@ -25,7 +26,7 @@ fn rows_after(rows: u64, found: bool) -> u64
     if found { rows } else { rows + 1 }
 }
 
-/// Puts a row into the tree of a table, which has so many rows then, and writes its entry.
+/// Puts a row into the tree of a table, which has so many rows then, and writes its entry unless it stays as it is.
 fn store_row<P: Pages>(
     pages: &mut P,
     limits: &Limits,
@@ -52,7 +53,7 @@ fn store_row<P: Pages>(
     let mut root = root_of(&place.entry);
     put_row(pages, &mut root, key, value.bytes(), work)?;
     let rows = rows_after(place.entry.rows, found);
-    write_place(pages, place, &root, rows)
+    update_place(pages, place, &root, rows)
 }
 
 /// Puts a row into a table, if the key is there or the table may have one row more.
@@ -106,6 +107,7 @@ pub fn put<P: Pages>(
     ensures known { IsTrue (P.standing pages.old).told → IfOk result (λ answer. is_no_table answer ≡ not (is_known name.now (tables (P.standing pages.old).current))) }
     ensures changed { IsTrue (P.standing pages.old).told → IsStore limits.now (P.standing pages.old).count (P.standing pages.old).current → IfOk result (PutsIfDone limits.now (P.standing pages.old).count (P.standing pages.old).current (P.standing pages.new).current name.now key value.now) }
     ensures keeps { IfOk result (KeepsUnlessDone (P.standing pages.old) (P.standing pages.new)) }
+    ensures lines { IsTrue (P.standing pages.old).told → OnOk result (LooksUp name.now (P.standing pages.old) (P.standing pages.new)) }
     // why it stops
     ensures sound { IsTrue (P.standing pages.old).told → IsStore limits.now (P.standing pages.old).count (P.standing pages.old).current → 1 + limits.now.tables * (limits.now.rows / 2 + 8) ≤ (P.standing pages.old).count → IfErr result IsFault }
     ensures cause { HasCause (IsChangeDamage (P.standing pages.old).told limits.now (P.standing pages.old).count (P.standing pages.old).current work.new.page) (P.standing pages.old) (P.standing pages.new) result }

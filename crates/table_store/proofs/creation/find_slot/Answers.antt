@@ -1,9 +1,12 @@
 use Rattle.line_pages.proofs.StandingLaws.{Continues-trans, ReadsPage-trans}
-use Rattle.std.proofs.Common.{ℕ, rules, ap, sym, subst, IsTrue, ◌∙◌}
+use Rattle.std.proofs.Common.{ℕ, Ok, rules, ap, sym, subst, IsTrue, ◌∙◌}
 use Rattle.line_pages.specs.Lines.{Lines}
 use Rattle.table_catalog.specs.Catalog.{entries, place_of, FailsCatalog}
 use Rattle.table_store.proofs.CreateLaws.{present_is}
 use Rattle.slotted_page.specs.Search.{Keeps}
+use Rattle.nvm_model.specs.declared.line.Line.{Line}
+use Rattle.page_space.specs.Space.{word}
+use Rattle.table_catalog.proofs.TouchesLaws.{lines_then}
 use Rattle.table_store.proofs.creation.find_slot.Goals as goal
 
 pub returns-in-Some-clause-reads : goal.returns-in-Some-clause-reads
@@ -33,3 +36,25 @@ returns-in_err-search-clause-fails g c =
     let here : Keeps (FailsCatalog c.args.limits.now (g.P.Pages.standing c.args.pages.now).count c.search.new.work.page) c.in_err-search.field-0.0 =
     subst (λ (n : ℕ). Keeps (FailsCatalog c.args.limits.now n c.search.new.work.page) c.in_err-search.field-0.0) c.in_ok-header.ensures.continues.count c.in_err-search.ensures.fails in
     search (rules, here)
+
+pub returns-in-None-clause-lines : goal.returns-in-None-clause-lines
+returns-in-None-clause-lines g c = λ told.
+    let old = g.P.Pages.standing c.args.pages.now in
+    let mid = g.P.Pages.standing c.read_catalog.new.pages in
+    let header = c.in_ok-header.ensures in
+    let found = c.in_ok-search.ensures in
+    lines_then old.access old.touches mid.touches (g.P.Pages.standing c.search.new.pages).touches old.current c.args.name.now (word c.in_ok-header.header 1) (Ok _) header.line
+    (ap (λ (line : Line). word line 1) (header.header told))
+    (found.place (subst IsTrue (sym header.continues.told) told) ∙ ap (λ (all : Lines). place_of c.args.name.now 0 (entries all)) (header.reads.current told))
+    found.lines
+
+pub returns-in-Some-clause-lines : goal.returns-in-Some-clause-lines
+returns-in-Some-clause-lines g c = λ told.
+    let old = g.P.Pages.standing c.args.pages.now in
+    let mid = g.P.Pages.standing c.read_catalog.new.pages in
+    let header = c.in_ok-header.ensures in
+    let found = c.in_ok-search.ensures in
+    lines_then old.access old.touches mid.touches (g.P.Pages.standing c.search.new.pages).touches old.current c.args.name.now (word c.in_ok-header.header 1) (Ok _) header.line
+    (ap (λ (line : Line). word line 1) (header.header told))
+    (found.place (subst IsTrue (sym header.continues.told) told) ∙ ap (λ (all : Lines). place_of c.args.name.now 0 (entries all)) (header.reads.current told))
+    found.lines

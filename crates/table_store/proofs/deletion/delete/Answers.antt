@@ -7,6 +7,7 @@ use Rattle.table_store.proofs.LookupLaws.{named_none, known_some}
 use Rattle.slotted_page.specs.Search.{Keeps}
 use Rattle.table_store.specs.Changed.{FailsChange}
 use Rattle.table_store.proofs.FailsLaws.{change_by_catalog, change_by_tree}
+use Rattle.table_catalog.proofs.TouchesLaws.{looks_up, looks_up_on}
 use Rattle.table_store.proofs.deletion.delete.Goals as goal
 
 pub returns-in-None-clause-answer : goal.returns-in-None-clause-answer
@@ -35,3 +36,13 @@ returns-in-Some-clause-fails g c =
     let old = g.P.Pages.standing c.args.pages.now in
     let now = g.P.Pages.standing c.find_entry.new.pages in
     change_by_tree c.args.limits.now old.count now.count c.delete_at.new.work.page c.delete_at.result c.in_ok-find_entry.ensures.continues.count c.delete_at.ensures.fails
+
+pub returns-in-None-clause-lines : goal.returns-in-None-clause-lines
+returns-in-None-clause-lines g c = λ told.
+    looks_up c.args.name.now (g.P.Pages.standing c.args.pages.now) (g.P.Pages.standing c.find_entry.new.pages) (c.in_ok-find_entry.ensures.lines told)
+
+pub returns-in-Some-clause-lines : goal.returns-in-Some-clause-lines
+returns-in-Some-clause-lines g c = λ told.
+    let old = g.P.Pages.standing c.args.pages.now in
+    let mid = g.P.Pages.standing c.find_entry.new.pages in
+    looks_up_on c.args.name.now old mid (g.P.Pages.standing c.delete_at.new.pages) c.delete_at.result (c.in_ok-find_entry.ensures.lines told) c.delete_at.ensures.continues.touches

@@ -4,7 +4,7 @@ use Rattle.table_catalog.specs.Catalog.{tables}
 use Rattle.table_catalog.specs.Stored.{is_known}
 use Rattle.table_store.specs.Getting.{is_no_table, got_of, FailsLookup}
 use Rattle.table_store.proofs.LookupLaws.{known_some, named_none, answer_in, sound_in, way_none, way_some}
-use Rattle.table_catalog.proofs.TouchesLaws.{first_on}
+use Rattle.table_catalog.proofs.TouchesLaws.{first_on, looks_up, looks_up_on}
 use Rattle.slotted_page.specs.Search.{Keeps}
 use Rattle.table_store.proofs.FailsLaws.{lookup_by_catalog, lookup_by_node}
 use Rattle.table_store.proofs.lookup.get.Goals as goal
@@ -74,3 +74,13 @@ returns-in-Some-clause-fails g c =
     let old = g.P.Pages.standing c.args.pages.now in
     let now = g.P.Pages.standing c.find_entry.new.pages in
     lookup_by_node c.args.limits.now old.count now.count c.get_in.new.work.page c.get_in.result c.in_ok-find_entry.ensures.continues.count c.get_in.ensures.fails
+
+pub returns-in-None-clause-lines : goal.returns-in-None-clause-lines
+returns-in-None-clause-lines g c = λ told.
+    looks_up c.args.name.now (g.P.Pages.standing c.args.pages.now) (g.P.Pages.standing c.find_entry.new.pages) (c.in_ok-find_entry.ensures.lines told)
+
+pub returns-in-Some-clause-lines : goal.returns-in-Some-clause-lines
+returns-in-Some-clause-lines g c = λ told.
+    let old = g.P.Pages.standing c.args.pages.now in
+    let mid = g.P.Pages.standing c.find_entry.new.pages in
+    looks_up_on c.args.name.now old mid (g.P.Pages.standing c.get_in.new.pages) c.get_in.result (c.in_ok-find_entry.ensures.lines told) c.get_in.ensures.continues.touches

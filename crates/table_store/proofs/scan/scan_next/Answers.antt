@@ -8,6 +8,7 @@ use Rattle.table_store.proofs.ScanLaws.{scan_none, scan_some}
 use Rattle.slotted_page.specs.Search.{Keeps}
 use Rattle.table_store.specs.Getting.{FailsLookup}
 use Rattle.table_store.proofs.FailsLaws.{lookup_by_catalog, lookup_by_node}
+use Rattle.table_catalog.proofs.TouchesLaws.{looks_up, looks_up_on}
 use Rattle.table_store.proofs.scan.scan_next.Goals as goal
 
 pub returns-in-None-clause-row : goal.returns-in-None-clause-row
@@ -67,3 +68,13 @@ returns-in-Some-clause-fails g c =
     let old = g.P.Pages.standing c.args.pages.now in
     let now = g.P.Pages.standing c.find_entry.new.pages in
     lookup_by_node c.args.limits.now old.count now.count c.next_in.new.work.page c.next_in.result c.in_ok-find_entry.ensures.continues.count c.next_in.ensures.fails
+
+pub returns-in-None-clause-lines : goal.returns-in-None-clause-lines
+returns-in-None-clause-lines g c = λ told.
+    looks_up c.args.name.now (g.P.Pages.standing c.args.pages.now) (g.P.Pages.standing c.find_entry.new.pages) (c.in_ok-find_entry.ensures.lines told)
+
+pub returns-in-Some-clause-lines : goal.returns-in-Some-clause-lines
+returns-in-Some-clause-lines g c = λ told.
+    let old = g.P.Pages.standing c.args.pages.now in
+    let mid = g.P.Pages.standing c.find_entry.new.pages in
+    looks_up_on c.args.name.now old mid (g.P.Pages.standing c.next_in.new.pages) c.next_in.result (c.in_ok-find_entry.ensures.lines told) c.next_in.ensures.continues.touches

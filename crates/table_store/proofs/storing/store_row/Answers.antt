@@ -3,7 +3,8 @@ use Rattle.line_pages.specs.declared.stop.Stop.{Stop}
 use Rattle.page_space.specs.Stops.{IsFault}
 use Rattle.slotted_page.specs.Rows.{row_put}
 use Rattle.line_pages.proofs.StandingLaws.{Continues-trans}
-use Rattle.table_store.proofs.RowsLaws.{stepped_by, rows_put, few_after, sound_put}
+use Rattle.table_store.proofs.RowsLaws.{rows_put, few_after, sound_put}
+use Rattle.table_store.proofs.PlaceLaws.{stepped_unless}
 use Rattle.bplus_tree.specs.Damage.{FailsTree}
 use Rattle.table_catalog.proofs.FailsLaws.{never_keeps}
 use Rattle.table_store.proofs.storing.store_row.Goals as goal
@@ -14,13 +15,13 @@ returns-clause-changed g c = λ told name store is found.
     let mid = g.P.Pages.standing c.put_row.new.pages in
     let place = c.args.place.now in
     let put = c.in_ok-put_row.ensures in
-    stepped_by c.args.limits.now old.count old.current mid.current (g.P.Pages.standing c.write_place.new.pages).current name place c.put_row.new.root c.rows_after-rows.result (row_put c.args.key c.args.value.now) c.write_place.result
-    c.requires.fits (rw (c.root_of-root.ensures, c.bytes.ensures.value) at (put.rows told)) (c.write_place.ensures.after (subst IsTrue (sym put.continues.told) told)) store is
+    stepped_unless c.args.limits.now old.count old.current mid.current (g.P.Pages.standing c.update_place.new.pages).current name place c.put_row.new.root c.rows_after-rows.result (row_put c.args.key c.args.value.now) c.update_place.result
+    c.requires.fits (rw (c.root_of-root.ensures, c.bytes.ensures.value) at (put.rows told)) (c.update_place.ensures.after (subst IsTrue (sym put.continues.told) told)) store is
     (rows_put c.args.limits.now old.count old.current store name place is c.args.key c.args.value.now c.args.found c.rows_after-rows.result found c.rows_after-rows.ensures)
     (few_after c.args.limits.now.rows c.rows_after-rows.result place.entry.rows c.args.found c.rows_after-rows.ensures c.requires.fits.entry.rows c.requires.left)
 
 pub returns-clause-continues : goal.returns-clause-continues
-returns-clause-continues g c = Continues-trans c.in_ok-put_row.ensures.continues c.in_ok-put_row.ensures.steady c.write_place.ensures.continues
+returns-clause-continues g c = Continues-trans c.in_ok-put_row.ensures.continues c.in_ok-put_row.ensures.steady c.update_place.ensures.continues
 
 pub returns-in_err-put_row-clause-sound : goal.returns-in_err-put_row-clause-sound
 returns-in_err-put_row-clause-sound g c = λ told name store is found enough.
@@ -36,4 +37,4 @@ returns-in_err-put_row-clause-sound g c = λ told name store is found enough.
     search (rules, here)
 
 pub returns-clause-fails : goal.returns-clause-fails
-returns-clause-fails g c = never_keeps (FailsTree (g.P.Pages.standing c.args.pages.now).count c.put_row.new.work.page) c.write_place.result c.write_place.ensures.cause
+returns-clause-fails g c = never_keeps (FailsTree (g.P.Pages.standing c.args.pages.now).count c.put_row.new.work.page) c.update_place.result c.update_place.ensures.cause
