@@ -9,3 +9,4 @@ pub mod StandLaws
 pub mod PathLaws
 pub mod RootLaws
 pub mod LeafOfKey
+pub mod LineChangeLaws

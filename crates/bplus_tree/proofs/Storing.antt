@@ -1,5 +1,5 @@
 -- Pages that were written, and the trees over them.
-use Rattle.std.proofs.Common.{◌≡◌, ◌≢◌, ℕ, suc, ◌+◌, ◌-◌, ◌<◌, ◌≤◌, Bool, true, false, List, [], ◌∷◌, ◌++◌, Some, Result, Ok, Err, IfOk, OnOk, refl, sym, ap, subst, ◌∙◌, arith, append-nil, slice_get}
+use Rattle.std.proofs.Common.{◌≡◌, ◌≢◌, ℕ, suc, ◌+◌, ◌-◌, ◌/◌, ◌<◌, ◌≤◌, Bool, true, false, List, [], ◌∷◌, ◌++◌, Some, Result, Ok, Err, IfOk, OnOk, refl, sym, ap, subst, ◌∙◌, arith, append-nil, slice_get, length}
 use Rattle.std.proofs.lemmas.Bool.{eq-eqb}
 use Rattle.std.proofs.lemmas.List.Concat.{flat_map-append}
 use Rattle.line_pages.specs.Lines.{Lines}
@@ -23,6 +23,7 @@ use Rattle.page_space.specs.Written.{Rewrites}
 use Rattle.node_edit.specs.Edit.{part, loose, Divides, Fits, child_put, IsNewRoot}
 use Rattle.bplus_tree.specs.Edit.{Became, Edits, IsOutcome, Stored, Stores, AddsChild, root_left, spent, IsSpent}
 use Rattle.page_space.proofs.CountedLaws.{times-append, SameOn-first}
+use Rattle.tree_search.proofs.SizeLaws.{page_bound}
 use Rattle.tree_search.proofs.OrderLaws.{IsChildTree, length-children, Each-get, located}
 use Rattle.tree_search.proofs.FanLaws.{spans-parts, spans-join, stay_under, beside}
 use Rattle.page_space.proofs.MovesLaws.{Moves-trans}
@@ -230,6 +231,12 @@ child_added e old mid new page key child count bytes left right fit outcome is_c
       long = long;
     }
 
+-- a tree of these rows has at most so many pages
+page_bound_of : (count : ℕ) (lines : Lines) (level page low high : ℕ) (root : Bool) (rows : List Row) → IsTree count lines level page low high root → rows ≡ tree_rows lines level page
+    → length (tree_pages lines level page) ≤ length rows / 2 + 8
+page_bound_of count lines level page low high root rows is rows_are =
+    subst (λ (all : List Row). length (tree_pages lines level page) ≤ length all / 2 + 8) (sym rows_are) (page_bound count lines level page low high root is)
+
 -- the rows of a root's tree before and after
 pub root_edited : (count : ℕ) (old new : Lines) (root : Root) (outcome : Outcome) (step : List Row → List Row) → ((k r : ℕ) → outcome ≢ Cut k r) → 1 ≤ root.levels → root.levels ≤ 4
     → Edits old new root.page (record { level = root.levels - 1; low = 0; high = last_key; root = true; pages = count }) outcome step → ChangesRows count old new root (root_left root outcome) step
@@ -247,6 +254,7 @@ root_edited count old new root Whole step uncut some few deletes rows used free 
         few_levels = few;
         tree = record { is_tree = d.tree; rows_are = ap step r.tree.rows_are ∙ sym d.rows; used_are = refl; once = once_after new used' d.rest (part_after part moves) };
       };
+      bound = page_bound_of count new (root.levels - 1) root.page 0 last_key true (step rows) d.tree (ap step r.tree.rows_are ∙ sym d.rows);
     }
 root_edited count old new root Short step uncut some few deletes rows used free r is part within =
     let d = deletes free r.tree.is_tree is (subst (λ u. ArePart old (u ++ free)) r.tree.used_are part) within in
@@ -262,6 +270,7 @@ root_edited count old new root Short step uncut some few deletes rows used free 
         few_levels = few;
         tree = record { is_tree = d.tree; rows_are = ap step r.tree.rows_are ∙ sym d.rows; used_are = refl; once = once_after new used' d.rest (part_after part moves) };
       };
+      bound = page_bound_of count new (root.levels - 1) root.page 0 last_key true (step rows) d.tree (ap step r.tree.rows_are ∙ sym d.rows);
     }
 root_edited count old new root (Alone child) step uncut some few deletes rows used free r is part within =
     let d = deletes free r.tree.is_tree is (subst (λ u. ArePart old (u ++ free)) r.tree.used_are part) within in
@@ -277,6 +286,7 @@ root_edited count old new root (Alone child) step uncut some few deletes rows us
         few_levels = omega (arith, few);
         tree = record { is_tree = d.tree.2; rows_are = ap step r.tree.rows_are ∙ sym d.rows; used_are = refl; once = once_after new used' d.rest (part_after part moves) };
       };
+      bound = page_bound_of count new (root.levels - 1 - 1) child 0 last_key true (step rows) d.tree.2 (ap step r.tree.rows_are ∙ sym d.rows);
     }
 root_edited count old new root (Cut key right) step uncut some few deletes rows used free r is part within = absurd (uncut key right refl)
 
@@ -326,6 +336,7 @@ root_cut count old mid a new root top separator right bytes step some few puts t
           once = once_after new used' t.rest (part_after part moves);
         });
       };
+      bound = page_bound_of count new (suc level) top 0 last_key true (step rows) tree (ap step r.tree.rows_are ∙ sym two_rows ∙ sym stay.rows ∙ ap (rows_of new level) (sym kids));
     }
 
 -- the room that a page takes

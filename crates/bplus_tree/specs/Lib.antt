@@ -1,5 +1,6 @@
 pub mod Changes
 pub mod Damage
 pub mod Edit
+pub mod LineChanges
 pub mod Path
 pub mod Record

@@ -176,6 +176,7 @@ pub fn store<P: Pages>(pages: &mut P, page: u64, fit: Fit, work: &mut Work) -> R
     ensures room { OnOk result ((P.standing pages.old).room ≤ (P.standing pages.new).room + spent (lines_changed work.old.spare work.old.page) fit) }
     ensures sound { IsTrue (P.standing pages.old).told → work.old.spare ≡ bytes_of (P.standing pages.old).current page → (free : List ℕ) → IsFreeList (P.standing pages.old).current free → ArePart (P.standing pages.old).current (page ∷ free) → FitsHeader (P.standing pages.old).count ((P.standing pages.old).current 0 0) → IfErr result (IsShort (spare_pages (P.standing pages.old).count (P.standing pages.old).current free) 0) }
     ensures plain { ((key : ℕ) → fit ≢ fits.Cut key) → IfErr result IsFault }
+    ensures shows { IsTrue (P.standing pages.old).told → work.old.spare ≡ bytes_of (P.standing pages.old).current page → ((key : ℕ) → fit ≢ fits.Cut key) → OnOk result (bytes_of (P.standing pages.new).current page ≡ work.old.page) }
     ensures touches { ((key : ℕ) → fit ≢ fits.Cut key) → OnOk result (WritesOnly page (Differs work.old.spare work.old.page) (P.standing pages.old) (P.standing pages.new)) }
     ensures cause { HasCause (IsTreeDamage (P.standing pages.old).told (P.standing pages.old).count work.new.page) (P.standing pages.old) (P.standing pages.new) result }
     ensures fails { IfErr result (Keeps (FailsTree (P.standing pages.old).count work.new.page)) }

@@ -13,7 +13,8 @@ ghost use Rattle.page_space.specs.Stops.{IsFault, IsShort, StopsFor, spare_pages
 ghost use Rattle.bplus_tree.specs.Edit.{Edits, Mends, IsMendable, AddsChild, IsSafe, IsSpent, StaysBelow, Rewritten, after_fit};
 ghost use Rattle.node_edit.specs.Edit.{IsPair, IsCutIn};
 ghost use Rattle.bplus_tree.specs.Path.{IsFullAt};
-ghost use Rattle.node_edit.specs.Record.{HoldsLength};
+ghost use Rattle.node_edit.specs.Record.{FitsLeaf, HoldsLength};
+ghost use Rattle.bplus_tree.specs.LineChanges.{WritesChange};
 ghost use Rattle.bplus_tree.specs.Record.{WritesRecord};
 ghost use Rattle.page_space.specs.Written.{Rewrites, lines_changed};
 
@@ -50,6 +51,8 @@ pub fn put_leaf<P: Pages>(
     ensures edits { IsTrue (P.standing pages.old).told → IfOk result (λ outcome. Edits (P.standing pages.old).current (P.standing pages.new).current page expect.now outcome (row_put key value.now)) }
     ensures again { IsTrue (P.standing pages.old).told → HoldsLength key (length value.now) (leaf_rows (bytes_of (P.standing pages.old).current page)) → OnOk result (WritesRecord page key (P.standing pages.old) (P.standing pages.new)) }
     ensures whole { IsTrue (P.standing pages.old).told → HoldsLength key (length value.now) (leaf_rows (bytes_of (P.standing pages.old).current page)) → IfOk result (λ outcome. outcome ≡ Outcome.Whole) }
+    ensures lines { IsTrue (P.standing pages.old).told → FitsLeaf (expect.now.root ≡ true) (row_put key value.now (leaf_rows (bytes_of (P.standing pages.old).current page))) → OnOk result (WritesChange page (P.standing pages.old) (P.standing pages.new)) }
+    ensures fills { IsTrue (P.standing pages.old).told → FitsLeaf (expect.now.root ≡ true) (row_put key value.now (leaf_rows (bytes_of (P.standing pages.old).current page))) → IfOk result (λ outcome. outcome ≡ Outcome.Whole) }
     ensures room { IfOk result (IsSpent 0 (P.standing pages.old).room (P.standing pages.new).room) }
     ensures sound { IsTrue (P.standing pages.old).told → (free : List ℕ) → IsWellFormed (bytes_of (P.standing pages.old).current page) expect.now → IsFreeList (P.standing pages.old).current free → ArePart (P.standing pages.old).current (page ∷ free) → FitsHeader (P.standing pages.old).count ((P.standing pages.old).current 0 0) → IfErr result (IsShort (spare_pages (P.standing pages.old).count (P.standing pages.old).current free) 0) }
     ensures cause { HasCause (IsTreeDamage (P.standing pages.old).told (P.standing pages.old).count work.new.page) (P.standing pages.old) (P.standing pages.new) result }

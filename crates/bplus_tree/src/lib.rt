@@ -10,4 +10,6 @@ mod path;
 mod tests;
 mod tree;
 
+pub use page_space::{give_page, take_page};
 pub use tree::{delete, delete_row, put, put_row};
+pub use tree_search::{Root, get, next_from};

@@ -12,6 +12,7 @@ ghost use Rattle.page_space.specs.Stops.{IsFault, StopsFor, spare_pages};
 ghost use Rattle.bplus_tree.specs.Edit.{Edits, IsSafe, IsSpent, StaysBelow};
 ghost use Rattle.page_space.specs.Written.{WritesNothing};
 ghost use Rattle.bplus_tree.specs.Record.{PutsAgain};
+ghost use Rattle.bplus_tree.specs.LineChanges.{PutsChange};
 ghost use Rattle.bplus_tree.specs.Path.{IsPlace, Leads, MayFollow, Settles, StandsAbove, StandsAt, StopsAbove, TakesFor, room_above, root_place};
 
 use crate::access::look;
@@ -173,6 +174,7 @@ pub fn put_in<P: Pages>(
     ensures below { IfOk result (StaysBelow top.expect) }
     ensures edits { IsTrue (P.standing pages.old).told → IfOk result (λ outcome. Edits (P.standing pages.old).current (P.standing pages.new).current top.page top.expect outcome (row_put key value.now)) }
     ensures again { IfOk result (PutsAgain top key (length value.now) (P.standing pages.old) (P.standing pages.new)) }
+    ensures lines { IfOk result (PutsChange top key value.now (P.standing pages.old) (P.standing pages.new)) }
     ensures room { IfOk result (IsSpent top.expect.level (P.standing pages.old).room (P.standing pages.new).room) }
     ensures takes { IsTrue (P.standing pages.old).told → IfOk result (TakesFor (P.standing pages.old).count (P.standing pages.old).current (P.standing pages.new).current top.page top.expect) }
     ensures sound { IsTrue (P.standing pages.old).told → (free : List ℕ) → StandsAt (P.standing pages.old).current top.page top.expect free → FitsHeader (P.standing pages.old).count ((P.standing pages.old).current 0 0) → IfErr result (StopsFor (spare_pages (P.standing pages.old).count (P.standing pages.old).current free ≤ top.expect.level) (1000000 < length (tree_rows (P.standing pages.old).current top.expect.level top.page))) }

@@ -11,6 +11,7 @@ ghost use Rattle.bplus_tree.specs.Damage.{IsTreeDamage, FailsTree, IsLack, Stand
 ghost use Rattle.page_space.specs.Stops.{IsFault, pages_at_hand};
 ghost use Rattle.page_space.specs.Written.{WritesNothing};
 ghost use Rattle.bplus_tree.specs.Record.{PutsRecord};
+ghost use Rattle.bplus_tree.specs.LineChanges.{PutsLines};
 
 use crate::access::{take, write_new};
 use crate::outcome::Outcome;
@@ -21,6 +22,9 @@ use slotted_page::{Value, Work};
 use tree_search::{Root, get};
 
 /// Puts a value at a key, whether or not the key is there. Its callers know that already: it is `put` without the look-up.
+/// `Damaged` comes with the first check that a page of the tree fails; where a page is to be taken or given back, with the first
+/// of the checks 31, 33, 34 and 36 that the header or the free list fails, and with 37 where no page is left; and with 39 where
+/// a root at level 3 has 240 children and would have to be cut.
 pub fn put_row<P: Pages>(
     pages: &mut P,
     root: &mut Root,
@@ -38,6 +42,7 @@ pub fn put_row<P: Pages>(
     requires room { 600 ≤ (P.standing pages.old).room }
     ensures rows { IsTrue (P.standing pages.old).told → OnOk result (ChangesRows (P.standing pages.old).count (P.standing pages.old).current (P.standing pages.new).current root.old root.new (row_put key value.now)) }
     ensures again { IsTrue (P.standing pages.old).told → OnOk result (PutsRecord root.old key (length value.now) (P.standing pages.old) (P.standing pages.new)) }
+    ensures lines { IsTrue (P.standing pages.old).told → OnOk result (PutsLines root.old key value.now (P.standing pages.old) (P.standing pages.new)) }
     ensures room { OnOk result ((P.standing pages.old).room ≤ (P.standing pages.new).room + 600) }
     ensures some { OnOk result (1 ≤ root.new.page) }
     ensures page { OnOk result (root.new.page < (P.standing pages.old).count) }
@@ -81,6 +86,8 @@ pub fn put_row<P: Pages>(
 }
 
 /// Takes a key out, if it is there. Its callers know that already: it is `delete` without the look-up.
+/// `Damaged` comes with the first check that a page of the tree fails, and where a page is to be given back, with the first of
+/// the checks 31, 33 and 34 that the header fails; on a tree beside a free list it does not come.
 pub fn delete_row<P: Pages>(
     pages: &mut P,
     root: &mut Root,
@@ -193,6 +200,8 @@ pub fn put<P: Pages>(
     ensures fresh { IsTrue (P.standing pages.old).told → (rows : List Row) (used : List ℕ) → IsRooted (P.standing pages.old).count (P.standing pages.old).current root.old rows used → IfOk result (λ fresh. fresh ≡ not (is_some (row_get key rows))) }
     // where the key has a value of this length, lines of its record are written alone
     ensures again { IsTrue (P.standing pages.old).told → OnOk result (PutsRecord root.old key (length value.now) (P.standing pages.old) (P.standing pages.new)) }
+    // where the rows of its leaf fit it with the value put, the lines of the leaf that change are written alone
+    ensures lines { IsTrue (P.standing pages.old).told → OnOk result (PutsLines root.old key value.now (P.standing pages.old) (P.standing pages.new)) }
     // why it stops
     ensures sound { IsTrue (P.standing pages.old).told → (rows : List Row) (used free : List ℕ) → StandsIn (P.standing pages.old).count (P.standing pages.old).current root.old rows used free → IfErr result (IsLack (pages_at_hand (P.standing pages.old).count (P.standing pages.old).current used free) (length (row_put key value.now rows)) (length rows)) }
     ensures cause { HasCause (IsTreeDamage (P.standing pages.old).told (P.standing pages.old).count work.new.page) (P.standing pages.old) (P.standing pages.new) result }

@@ -13,6 +13,7 @@ use Rattle.slotted_page.proofs.FactLemmas.{AllHold, all_hold, none_fails, ascend
 use Rattle.slotted_page.proofs.PageFacts.{leaf_facts}
 use Rattle.slotted_page.proofs.SlotLemmas.{length_rows}
 use Rattle.node_edit.specs.Edit.{part, Divides}
+use Rattle.node_edit.specs.Record.{FitsLeaf}
 use Rattle.page_space.specs.Written.{lines_changed}
 use Rattle.page_space.proofs.WrittenLaws.{changed_first, changed_two}
 use Rattle.node_edit.proofs.KeyPlaceLaws.{rows_few}
@@ -162,3 +163,12 @@ none_changed bytes size = let none = changed_first bytes bytes 0 size size (omeg
 pub slots_changed : (old new : List ℕ) → length old ≡ 4096 → length new ≡ 4096 → entry_count old ≤ 336 → Same (64 + 4 * entry_count old) 4096 old new → lines_changed old new ≤ 33
 slots_changed old new size new_size few same =
     let most = changed_first old new 22 size new_size (omega arith) (narrow (64 + 4 * entry_count old) 4096 1408 4096 old new same (omega (arith, few)) (omega arith)) in omega (arith, most)
+
+-- rows that stand in one leaf fill it
+pub fits_full : (root : Bool) (rows : List Row) → FitsLeaf (root ≡ true) rows → (root || nat_le 1344 (row_bytes rows)) ≡ true
+fits_full root rows fits = full_of root fits.1
+  where
+    full_of : (root : Bool) → (root ≡ true) ⊎ (1344 ≤ row_bytes rows) → (root || nat_le 1344 (row_bytes rows)) ≡ true
+    full_of true is = refl
+    full_of false (inl is) = absurd (cc)
+    full_of false (inr is) = le-leb 1344 (row_bytes rows) is

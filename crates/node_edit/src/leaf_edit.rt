@@ -4,12 +4,13 @@ ghost use Rattle.std.specs.List.{insert, remove, list_all};
 ghost use Rattle.ssd_model.specs.Page.{Same};
 ghost use Rattle.slotted_page.specs.Rows.{Row, row_put, row_delete, keys, Ascends, last_key};
 ghost use Rattle.slotted_page.specs.Node.{IsLeaf, IsWellFormed, entry_count, heap_start, is_printable, leaf_rows as rows_of};
+ghost use Rattle.slotted_page.specs.Room.{leaf_room};
 ghost use Rattle.slotted_page.specs.Sound.{IsSound, IsRows, row_bytes};
 ghost use Rattle.page_edit.specs.Packed.{IsPacked, AddsBelow};
 ghost use Rattle.node_edit.specs.declared.fit.Fit.TheVariants as fits;
 ghost use Rattle.node_edit.specs.Edit.{Fits, place_of, has_row};
 ghost use Rattle.page_space.specs.Written.{Differs, Meets, lines_changed};
-ghost use Rattle.node_edit.specs.Record.{record_at, HoldsLength};
+ghost use Rattle.node_edit.specs.Record.{record_at, FitsLeaf, HoldsLength};
 
 use crate::fit::Fit;
 use page_edit::{leaf_cut, leaf_insert, leaf_remove, leaf_set};
@@ -93,6 +94,7 @@ fn leaf_fit(page: &PageBuf, expect: &Expect) -> Fit
     ensures fits { (right : List ℕ) → Fits rows_of expect.now page.now right (rows_of page.now) result }
     ensures uncut { (key : ℕ) → result ≢ fits.Cut key }
     ensures short { result ≡ fits.Short → row_bytes (rows_of page.now) < 1344 }
+    ensures whole { FitsLeaf (expect.now.root ≡ true) (rows_of page.now) → result ≡ fits.Whole }
 {
     if is_full(page, expect) {
         Fit::Whole
@@ -118,6 +120,7 @@ fn insert_row(
     requires printable { list_all is_printable value.now ≡ true }
     ensures fits { Fits rows_of expect.now left.new right.new (insert (rows_of left.old) at (key, value.now)) result }
     ensures few { result ≡ fits.Short → (base : List ℕ) → length base ≡ 4096 → Same (64 + 4 * (entry_count left.old + 1)) 4096 base left.old → lines_changed base left.new ≤ 33 }
+    ensures whole { FitsLeaf (expect.now.root ≡ true) (insert (rows_of left.old) at (key, value.now)) → result ≡ fits.Whole }
 {
     open_leaf(left);
     if leaf_used(left) + 12 + value.len() > 4032 {
@@ -144,6 +147,7 @@ fn cut_row(
     requires over { 4032 < row_bytes (rows_of left.old) + 12 + length value.now }
     ensures fits { Fits rows_of expect.now left.new right.new (insert (rows_of left.old) at (key, value.now)) result }
     ensures long { result ≢ fits.Short }
+    ensures more { leaf_room < row_bytes (insert (rows_of left.old) at (key, value.now)) }
 {
     top_of(expect);
     open_leaf(left);
@@ -164,6 +168,7 @@ fn fit_row(page: &mut PageBuf, expect: &Expect, at: usize, key: u64, value: &[u8
     requires room { row_bytes (rows_of page.old) + 12 + length value.now ≤ 4032 }
     ensures fits { (right : List ℕ) → Fits rows_of expect.now page.new right (insert (rows_of page.old) at (key, value.now)) result }
     ensures few { result ≡ fits.Short → (base : List ℕ) → length base ≡ 4096 → Same (64 + 4 * (entry_count page.old + 1)) 4096 base page.old → lines_changed base page.new ≤ 33 }
+    ensures whole { FitsLeaf (expect.now.root ≡ true) (insert (rows_of page.old) at (key, value.now)) → result ≡ fits.Whole }
 {
     top_of(expect);
     open_leaf(page);
@@ -189,6 +194,7 @@ pub fn leaf_put(
     requires printable { list_all is_printable value.now ≡ true }
     ensures fits { Fits rows_of expect.now left.new right.new (row_put key value.now (rows_of left.old)) result }
     ensures few { result ≡ fits.Short → lines_changed left.old left.new ≤ 33 }
+    ensures whole { FitsLeaf (expect.now.root ≡ true) (row_put key value.now (rows_of left.old)) → result ≡ fits.Whole }
     ensures again { HoldsLength key (length value.now) (rows_of left.old) → (result ≡ fits.Whole) × ((line : ℕ) → Differs left.old left.new line → Meets (record_at key left.old) line) }
 {
     enter(left, expect);

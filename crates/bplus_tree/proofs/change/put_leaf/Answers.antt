@@ -1,4 +1,4 @@
-use Rattle.std.proofs.Common.{length, ◌≤◌, ℕ, List, arith, sym, subst, IsTrue, ap, ◌∙◌}
+use Rattle.std.proofs.Common.{length, ◌≤◌, ℕ, List, arith, sym, subst, IsTrue, true, ◌≡◌, ap, ◌∙◌}
 use Rattle.line_pages.specs.Lines.{Lines}
 use Rattle.line_pages.specs.Bytes.{bytes_of}
 use Rattle.slotted_page.specs.Rows.{row_put}
@@ -6,8 +6,9 @@ use Rattle.page_space.specs.Written.{lines_changed}
 use Rattle.page_space.proofs.WrittenLaws.{changed_most}
 use Rattle.bplus_tree.proofs.Storing.{spent_most, leaf_spent, leaf_edits, if_both}
 use Rattle.slotted_page.specs.Node.{leaf_rows}
-use Rattle.node_edit.specs.Record.{HoldsLength}
+use Rattle.node_edit.specs.Record.{FitsLeaf, HoldsLength}
 use Rattle.bplus_tree.proofs.SameLength.{uncut_whole, outcome_whole, record_written}
+use Rattle.bplus_tree.proofs.LineChangeLaws.{page_changed}
 use Rattle.page_space.proofs.LackLaws.{stored_sound}
 use Rattle.bplus_tree.proofs.change.put_leaf.Goals as goal
 
@@ -61,3 +62,23 @@ returns-clause-sound g c = λ told free well is_free part fits.
     let same = c.in_ok-load.ensures.keeps.current told in
     let spare = c.copy_from.ensures.value ∙ c.in_ok-load.ensures.bytes told ∙ ap (λ (lines : Lines). bytes_of lines c.args.page) (sym same) in
     stored_sound old.count first.count old.current first.current c.args.page c.copy_from.new.self free c.store.result c.in_ok-load.ensures.continues.count same spare is_free part fits (c.store.ensures.sound told_on)
+
+pub returns-clause-lines : goal.returns-clause-lines
+returns-clause-lines g c = λ told fits.
+    let old = g.P.Pages.standing c.args.pages.now in
+    let first = g.P.Pages.standing c.load.new.pages in
+    let new = g.P.Pages.standing c.store.new.pages in
+    let told_on = subst IsTrue (sym c.in_ok-load.ensures.continues.told) told in
+    let same = c.in_ok-load.ensures.keeps.current told in
+    let is = c.in_ok-load.ensures.bytes told in
+    let spare = c.copy_from.ensures.value ∙ is ∙ ap (λ (lines : Lines). bytes_of lines c.args.page) (sym same) in
+    let whole = c.leaf_put-fit.ensures.whole (subst (λ (b : List ℕ). FitsLeaf (c.args.expect.now.root ≡ true) (row_put c.args.key c.args.value.now (leaf_rows b))) (sym is) fits) in
+    let uncut = uncut_whole c.leaf_put-fit.result whole in
+    page_changed c.args.page c.copy_from.new.self c.load.new.work.page c.leaf_put-fit.new.left old first new c.leaf_put-fit.result c.store.result c.in_ok-load.ensures.reads same c.in_ok-load.ensures.keeps.room
+    spare whole (c.store.ensures.touches uncut) (c.store.ensures.shows told_on spare uncut) c.store.ensures.room
+
+pub returns-clause-fills : goal.returns-clause-fills
+returns-clause-fills g c = λ told fits.
+    let is = c.in_ok-load.ensures.bytes told in
+    let whole = c.leaf_put-fit.ensures.whole (subst (λ (b : List ℕ). FitsLeaf (c.args.expect.now.root ≡ true) (row_put c.args.key c.args.value.now (leaf_rows b))) (sym is) fits) in
+    outcome_whole (g.P.Pages.standing c.load.new.pages).count c.leaf_put-fit.result c.store.result whole c.store.ensures.is

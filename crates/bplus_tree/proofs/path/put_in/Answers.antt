@@ -13,6 +13,7 @@ use Rattle.page_space.proofs.LackLaws.{fault_stops}
 use Rattle.bplus_tree.proofs.StandLaws.{leads_stands, leaf_stops}
 use Rattle.bplus_tree.specs.declared.outcome.Outcome.{Outcome}
 use Rattle.bplus_tree.proofs.LeafOfKey.{again_start, again_on}
+use Rattle.bplus_tree.proofs.LineChangeLaws.{lines_start, lines_on}
 use Rattle.bplus_tree.proofs.path.put_in.Given as given
 use Rattle.bplus_tree.specs.Edit.{IsSafe}
 use Rattle.bplus_tree.proofs.path.put_in.Goals.{In-Some}
@@ -33,6 +34,8 @@ loop-passed-init g c =
       ssd_kept = leaf.cause.kept.1 ∙ down.cause.kept.1;
       again = again_start c.args.key (length c.args.value.now) c.args.top c.in_ok-leaf.leaf c.descend.new.path.items old mid new c.in_ok-outcome.outcome down.leads down.level down.keeps.current down.nothing
           (λ told holds. (leaf.whole (subst IsTrue (sym down.continues.told) told) holds, leaf.again (subst IsTrue (sym down.continues.told) told) holds));
+      lines = lines_start c.args.key c.args.value.now c.args.top c.in_ok-leaf.leaf c.descend.new.path.items old mid new c.in_ok-outcome.outcome down.leads down.level down.keeps.current down.keeps.room down.nothing
+          (λ told fits. (leaf.fills (subst IsTrue (sym down.continues.told) told) fits, leaf.lines (subst IsTrue (sym down.continues.told) told) fits));
       climbing = climb_start old.told old.count c.args.key old.current mid.current new.current c.args.top c.in_ok-leaf.leaf c.descend.new.path.items c.in_ok-outcome.outcome (row_put c.args.key c.args.value.now) old.room mid.room new.room old.visits mid.visits new.visits
           down.level down.place.pages down.leads down.keeps.current down.keeps.room down.few (subst (λ n. IsSafe n c.in_ok-leaf.leaf.expect c.in_ok-outcome.outcome) down.continues.count leaf.safe) leaf.below (λ told. leaf.edits (subst IsTrue (sym down.continues.told) told)) leaf.room leaf.few;
     }
@@ -80,6 +83,7 @@ loop-passed-preserved g c =
       nvm_kept = up.cause.kept.0 ∙ before.nvm_kept;
       ssd_kept = up.cause.kept.1 ∙ before.ssd_kept;
       again = again_on c.args.key (length c.args.value.now) c.args.top old mid new c.loop-passed.outcome c.in_ok-outcome-2.outcome before.again up.kept (λ whole. subst (λ (o : Outcome). MayFollow o c.in_ok-outcome-2.outcome) whole up.follows);
+      lines = lines_on c.args.key c.args.value.now c.args.top old mid new c.loop-passed.outcome c.in_ok-outcome-2.outcome before.lines up.kept (λ whole. subst (λ (o : Outcome). MayFollow o c.in_ok-outcome-2.outcome) whole up.follows);
       climbing = climb_on old.told old.count c.args.key old.current mid.current new.current c.args.top c.pop.new.self.items c.in-Some.passed c.loop-passed.outcome c.in_ok-outcome-2.outcome step old.room mid.room new.room old.visits mid.visits new.visits
           (put_local c.args.key c.args.value.now) (subst (λ (path : List Passed). Climbing old.told old.count c.args.key old.current mid.current c.args.top path c.loop-passed.outcome step old.room mid.room old.visits mid.visits) c.in-Some.ensures.items before.climbing)
           (subst (λ n. IsSafe n c.in-Some.passed.place.expect c.in_ok-outcome-2.outcome) before.continues.count up.safe) up.below (λ told. up.settles (told_on told)) up.follows up.room up.few;

@@ -3,6 +3,7 @@ use Rattle.std.proofs.Common.{◌≡◌, length}
 use Rattle.line_pages.specs.Standing.{Continues}
 use Rattle.slotted_page.specs.Rows.{row_put}
 use Rattle.bplus_tree.specs.Record.{PutsAgain}
+use Rattle.bplus_tree.specs.LineChanges.{PutsChange}
 use Rattle.bplus_tree.proofs.PathLaws.{Climbing}
 use Rattle.bplus_tree.proofs.path.put_in.Given as goal
 
@@ -14,6 +15,7 @@ invariant-loop-passed g l = record {
   nvm_kept : (g.P.Pages.standing l.pages).nvm_faults ≡ (g.P.Pages.standing l.fn.pages).nvm_faults;
   ssd_kept : (g.P.Pages.standing l.pages).ssd_faults ≡ (g.P.Pages.standing l.fn.pages).ssd_faults;
   again : PutsAgain l.fn.top l.fn.key (length l.fn.value) (g.P.Pages.standing l.fn.pages) (g.P.Pages.standing l.pages) l.outcome;
+  lines : PutsChange l.fn.top l.fn.key l.fn.value (g.P.Pages.standing l.fn.pages) (g.P.Pages.standing l.pages) l.outcome;
   climbing : Climbing (g.P.Pages.standing l.fn.pages).told (g.P.Pages.standing l.fn.pages).count l.fn.key (g.P.Pages.standing l.fn.pages).current (g.P.Pages.standing l.pages).current l.fn.top l.path.items l.outcome (row_put l.fn.key l.fn.value)
       (g.P.Pages.standing l.fn.pages).room (g.P.Pages.standing l.pages).room (g.P.Pages.standing l.fn.pages).visits (g.P.Pages.standing l.pages).visits;
 }

@@ -7,6 +7,8 @@ use Rattle.bplus_tree.proofs.RootLaws.{stands_on}
 use Rattle.bplus_tree.proofs.tree.put.Goals as goal
 use Rattle.bplus_tree.specs.Record.{PutsRecord}
 use Rattle.bplus_tree.proofs.LeafOfKey.{record_later}
+use Rattle.bplus_tree.specs.LineChanges.{PutsLines}
+use Rattle.bplus_tree.proofs.LineChangeLaws.{lines_later}
 
 pub returns-in_err-found-clause-sound : goal.returns-in_err-found-clause-sound
 returns-in_err-found-clause-sound g c = λ told rows used free stands.
@@ -37,3 +39,11 @@ returns-clause-again g c = λ told.
     let told_on = subst IsTrue (sym c.in_ok-found.ensures.continues.told) told in
     record_later c.args.root.now c.args.key (length c.args.value.now) old mid new (c.in_ok-found.ensures.keeps.current told) c.in_ok-found.ensures.continues.count c.in_ok-found.ensures.nothing
     (subst (λ (bytes : List ℕ). PutsRecord c.args.root.now c.args.key (length bytes) mid new) c.bytes.ensures.value (c.in_ok-put_row.ensures.again told_on))
+
+pub returns-clause-lines : goal.returns-clause-lines
+returns-clause-lines g c = λ told.
+    let mid = g.P.Pages.standing c.has_key.new.pages in
+    let new = g.P.Pages.standing c.put_row.new.pages in
+    let told_on = subst IsTrue (sym c.in_ok-found.ensures.continues.told) told in
+    lines_later c.args.root.now c.args.key c.args.value.now (g.P.Pages.standing c.args.pages.now) mid new (c.in_ok-found.ensures.keeps.current told) c.in_ok-found.ensures.continues.count c.in_ok-found.ensures.keeps.room c.in_ok-found.ensures.nothing
+    (subst (λ (bytes : List ℕ). PutsLines c.args.root.now c.args.key bytes mid new) c.bytes.ensures.value (c.in_ok-put_row.ensures.lines told_on))

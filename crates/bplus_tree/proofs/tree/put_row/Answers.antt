@@ -12,6 +12,7 @@ use Rattle.page_space.specs.Stops.{pages_at_hand}
 use Rattle.bplus_tree.proofs.LackLaws.{fault_lack}
 use Rattle.bplus_tree.proofs.RootLaws.{root_stands, put_lack, take_lack}
 use Rattle.bplus_tree.proofs.LeafOfKey.{root_again}
+use Rattle.bplus_tree.proofs.LineChangeLaws.{root_lines}
 use Rattle.bplus_tree.proofs.tree.put_row.Goals as goal
 
 few_levels : (levels : ℕ) → levels ≤ 4 → levels - 1 ≢ 3 → levels ≤ 3
@@ -115,4 +116,28 @@ pub returns-in_ok-write_new-in-Cut-clause-again : goal.returns-in_ok-write_new-i
 returns-in_ok-write_new-in-Cut-clause-again g c = λ told rows used rooted holds.
     let w = root_again c.args.root.now c.top_of-top.result _ c.args.key (length c.args.value.now) (g.P.Pages.standing c.args.pages.now) (g.P.Pages.standing c.put_in.new.pages) (Cut c.in-Cut.separator c.in-Cut.right) c.page_count-count.ensures.count c.top_of-top.ensures
     (rw c.in-Cut.is at c.in_ok-put_in.ensures.again) told rows used rooted holds in
+    let never = w.0 in absurd (cc)
+
+pub returns-in-Whole-clause-lines : goal.returns-in-Whole-clause-lines
+returns-in-Whole-clause-lines g c = λ told rows used rooted fits.
+    let w = root_lines c.args.root.now c.top_of-top.result _ c.args.key c.args.value.now (g.P.Pages.standing c.args.pages.now) (g.P.Pages.standing c.put_in.new.pages) Whole c.page_count-count.ensures.count c.top_of-top.ensures
+    (rw c.in-Whole.is at c.in_ok-put_in.ensures.lines) told rows used rooted fits in
+    w.1
+
+pub returns-in-Short-clause-lines : goal.returns-in-Short-clause-lines
+returns-in-Short-clause-lines g c = λ told rows used rooted fits.
+    let w = root_lines c.args.root.now c.top_of-top.result _ c.args.key c.args.value.now (g.P.Pages.standing c.args.pages.now) (g.P.Pages.standing c.put_in.new.pages) Short c.page_count-count.ensures.count c.top_of-top.ensures
+    (rw c.in-Short.is at c.in_ok-put_in.ensures.lines) told rows used rooted fits in
+    let never = w.0 in absurd (cc)
+
+pub returns-in-Alone-clause-lines : goal.returns-in-Alone-clause-lines
+returns-in-Alone-clause-lines g c = λ told rows used rooted fits.
+    let w = root_lines c.args.root.now c.top_of-top.result _ c.args.key c.args.value.now (g.P.Pages.standing c.args.pages.now) (g.P.Pages.standing c.put_in.new.pages) (Alone c.in-Alone.child) c.page_count-count.ensures.count c.top_of-top.ensures
+    (rw c.in-Alone.is at c.in_ok-put_in.ensures.lines) told rows used rooted fits in
+    let never = w.0 in absurd (cc)
+
+pub returns-in_ok-write_new-in-Cut-clause-lines : goal.returns-in_ok-write_new-in-Cut-clause-lines
+returns-in_ok-write_new-in-Cut-clause-lines g c = λ told rows used rooted fits.
+    let w = root_lines c.args.root.now c.top_of-top.result _ c.args.key c.args.value.now (g.P.Pages.standing c.args.pages.now) (g.P.Pages.standing c.put_in.new.pages) (Cut c.in-Cut.separator c.in-Cut.right) c.page_count-count.ensures.count c.top_of-top.ensures
+    (rw c.in-Cut.is at c.in_ok-put_in.ensures.lines) told rows used rooted fits in
     let never = w.0 in absurd (cc)

@@ -24,3 +24,6 @@ returns-clause-fits c =
     let over : 4032 < row_bytes all = omega (arith, size, c.requires.over) in
     cut_divides c.args.expect.now c.leaf_cut.new.left c.leaf_cut.new.right (rows_left all) all c.leaf_key.result (0, []) c.open_leaf-2.ensures.size c.open_leaf-3.ensures.size c.requires.level
     c.leaf_cut.ensures.left_leaf c.leaf_cut.ensures.right_leaf c.leaf_cut.ensures.left c.leaf_cut.ensures.right c.requires.order (c.leaf_cut.ensures.left_full over) (c.leaf_cut.ensures.right_full over) (c.leaf_key.ensures (0, []))
+
+pub returns-clause-more : goal.returns-clause-more
+returns-clause-more c = omega (arith, row_bytes-insert (leaf_rows c.args.left.now) c.args.at (c.args.key, c.args.value.now), c.requires.over)

@@ -1,10 +1,11 @@
-use Rattle.std.proofs.Common.{◌≡◌, ◌+◌, ◌*◌, List, arith, subst, ap, sym, length}
+use Rattle.std.proofs.Common.{◌≡◌, true, ◌+◌, ◌*◌, List, arith, subst, ap, sym, length}
 use Rattle.std.specs.List.{insert}
 use Rattle.std.proofs.lemmas.List.Edits.{length-insert}
 use Rattle.ssd_model.specs.Page.{Same}
 use Rattle.slotted_page.specs.Rows.{Row, keys}
 use Rattle.slotted_page.specs.Node.{leaf_rows, entry_count}
 use Rattle.node_edit.specs.Edit.{Fits}
+use Rattle.node_edit.specs.Record.{FitsLeaf}
 use Rattle.node_edit.proofs.LeafLaws.{wide_order, few_lines}
 use Rattle.node_edit.proofs.leaf_edit.fit_row.Goals as goal
 
@@ -21,3 +22,6 @@ returns-clause-few c = λ short base size same.
     omega (arith, c.open_leaf.ensures.count, c.open_leaf.ensures.entries, c.open_leaf-2.ensures.count, c.open_leaf-2.ensures.entries, ap length c.leaf_insert.ensures.rows, length-insert (leaf_rows c.args.page.now) c.args.at (c.args.key, c.args.value.now) c.requires.at) in
     few_lines base c.args.page.now c.leaf_insert.new.page (8 + length c.args.value.now) size c.open_leaf-2.ensures.size c.leaf_insert.ensures.leaf (c.leaf_fit.ensures.short short) (omega (arith, c.requires.few))
     c.open_leaf.ensures.sound.heap (subst (λ n. Same (64 + 4 * n) 4096 base c.args.page.now) (sym count) same) c.leaf_insert.ensures.rest c.leaf_insert.ensures.placed
+
+pub returns-clause-whole : goal.returns-clause-whole
+returns-clause-whole c = λ fits. c.leaf_fit.ensures.whole (subst (λ (rows : List Row). FitsLeaf (c.args.expect.now.root ≡ true) rows) (sym c.leaf_insert.ensures.rows) fits)

@@ -4,6 +4,7 @@ use Rattle.slotted_page.specs.Rows.{Row, row_put}
 use Rattle.slotted_page.specs.Node.{leaf_rows}
 use Rattle.slotted_page.specs.Sound.{row_bytes}
 use Rattle.node_edit.specs.Edit.{Fits, has_row, place_of}
+use Rattle.node_edit.specs.Record.{FitsLeaf}
 use Rattle.node_edit.proofs.KeyPlaceLaws.{put_new, put_again, put_same}
 use Rattle.node_edit.proofs.LeafLaws.{put_order, leaf_within, set_bytes}
 use Rattle.node_edit.proofs.SameLength.{held_place, set_record}
@@ -83,3 +84,15 @@ returns-clause-again c = λ h.
     let value = c.leaf_value.ensures.value none in
     let at = ap (λ (i : ℕ). (get_or (leaf_rows c.args.left.now) i none).1) c.leaf_place-at.ensures.place in
     absurd (c.if-leaf_value-value.false (ap length (value ∙ at ∙ place.1 none) ∙ h.long))
+
+pub returns-then-not-is_there-clause-whole : goal.returns-then-not-is_there-clause-whole
+returns-then-not-is_there-clause-whole c = λ fits.
+    let rows = leaf_rows c.args.left.now in
+    c.insert_row.ensures.whole (subst (λ (all : List Row). FitsLeaf (c.args.expect.now.root ≡ true) all)
+    (new_row c.args.key c.args.value.now rows c.leaf_place-at.result (sym c.is_there.ensures.there ∙ c.if-not-is_there.true) c.leaf_place-at.ensures.place) fits)
+
+pub returns-clause-whole : goal.returns-clause-whole
+returns-clause-whole c = λ fits.
+    let rows = leaf_rows c.args.left.now in
+    c.insert_row-2.ensures.whole (subst (λ (all : List Row). FitsLeaf (c.args.expect.now.root ≡ true) all)
+    (other_row c.args.key c.args.value.now rows (leaf_rows c.leaf_remove.new.page) c.leaf_place-at.result (sym c.is_there.ensures.there ∙ c.if-not-is_there.false) c.leaf_place-at.ensures.place c.leaf_remove.ensures.rows) fits)
