@@ -96,15 +96,17 @@ fn other_words_are_refused(rt: HostRuntime) -> Result<(), Fail> {
         "",
         "run ",
         "Run",
-        "load 0",
+        "load",
         "--help",
         "formatformatformatformatformatformat",
     ] {
         assert_eq!(rt; spitfire(alloc, &word(text), &mut world), 1, "{text}");
     }
-    let mut two = word("run");
-    two.push("--Trace");
-    assert_eq!(rt; spitfire(alloc, &two, &mut world), 1);
+    for (first, second) in [("run", "--Trace"), ("load", "0")] {
+        let mut two = word(first);
+        two.push(second);
+        assert_eq!(rt; spitfire(alloc, &two, &mut world), 1, "{first} {second}");
+    }
     assert_eq!(rt; spitfire(alloc, &Words::new(), &mut world), 1);
     assert_eq!(rt; world.events(), 0);
     Ok(())
@@ -172,6 +174,23 @@ fn damage_of_the_superblock(rt: HostRuntime) -> Result<(), Fail> {
         world
             .output()
             .starts_with(b"! super check 1\n! 000000000000003f 0000000000000003 ")
+    );
+    Ok(())
+}
+
+#[test]
+fn damage_of_the_log(rt: HostRuntime) -> Result<(), Fail> {
+    let mut world = filled(&rt, rt.alloc(), b"get a 7\n")?;
+    // the kind of the head at offset 0; the words behind the kind, the page and the line are zeros
+    change(&mut world, small().ring_line(0), 0, 9)?;
+    assert_eq!(rt; spitfire(rt.alloc(), &word("run"), &mut world), 5);
+    let output = world.output();
+    assert_eq!(rt; output.len(), 16 + 2 + 128 + 1);
+    assert!(rt; output.starts_with(b"! log 0 check 7\n! 0900000000000000"));
+    assert!(rt;
+        output.ends_with(
+            b"00000000000000000000000000000000000000000000000000000000000000000000000000000000\n"
+        )
     );
     Ok(())
 }
