@@ -90,6 +90,10 @@ does_same f h old a new b r it same = record {
   goes = it.goes;
 }
 
+-- how far the log may come is near its tail
+pub reach_near : (engine : Engine) (d : Standing) → StandsFor engine d → reach engine.book ≤ engine.book.log.tail + 1920
+reach_near engine d stands = let few : engine.book.room ≤ 640 = stands.ready.few in omega (arith, few)
+
 -- ---- calls of a store
 
 sizes_by : (old new : Engine) → new.book.log.geometry ≡ old.book.log.geometry → engine_sizes new ≡ engine_sizes old

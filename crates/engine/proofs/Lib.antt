@@ -8,4 +8,5 @@ pub mod AnswerLaws
 pub mod ScanningLaws
 pub mod CauseLaws
 pub mod RestLaws
+pub mod RefusalLaws
 pub mod StepLaws

@@ -28,8 +28,10 @@ use Rattle.engine.specs.Causes.{IsDamage, Stops}
 use Rattle.engine.specs.Steps.{Does, Replies, after_command, after_line, step_replies, IsBegun}
 use Rattle.engine.specs.Answers.{said_of, Answers, AnswersLine, Obeys, closed}
 use Rattle.engine.specs.Resting.{is_read, AreReads, Reads}
+use Rattle.engine.specs.Refused.{StaysIfRefused, LineStaysIfRefused}
 use Rattle.engine.proofs.CauseLaws.{causes_weaker}
 use Rattle.engine.proofs.RestLaws.{reads_still, reads_said, reads_after_rest, read_some}
+use Rattle.engine.proofs.RefusalLaws.{stays_still, refused_said, refused_after_rest}
 use Rattle.engine.proofs.TransactionLaws.{does_still, none_open, some_open, step_abort}
 use Rattle.engine.proofs.DoesLaws.{does_same}
 
@@ -59,14 +61,15 @@ unread clash = absurd (cc)
 
 -- A command that gives one reply.
 pub obeys_said : (P : Evidence → Type 0) (c d : Command) (old : Engine) (a : Standing) (new : Engine) (b : Standing) (r : Result Reply Stop) (x : Result Step Stop) → c ≡ d → x ≡ said_of r
-    → Does (after_command old (Some d)) old a new b r → Replies old a (Some d) r → ((e : Evidence) → P e → IsDamage old a new.work.page e) → HasCause P (shown old a) (shown new b) r → (IsTrue (is_read (Some d)) → Reads old a new b r) → Obeys (Some c) old a new b x
-obeys_said P c d old a new b r x same is does replies weaker cause reads =
+    → Does (after_command old (Some d)) old a new b r → Replies old a (Some d) r → ((e : Evidence) → P e → IsDamage old a new.work.page e) → HasCause P (shown old a) (shown new b) r → (IsTrue (is_read (Some d)) → Reads old a new b r) → IfOk r (StaysIfRefused old a new b) → Obeys (Some c) old a new b x
+obeys_said P c d old a new b r x same is does replies weaker cause reads refused =
     obeys_at c d old a new b x same
     (subst (λ (y : Result Step Stop). Obeys (Some d) old a new b y) (sym is)
     (record {
       does = does_said (after_command old (Some d)) old a new b r does;
       replies = said_replies old a (Some d) r replies;
       begun = said_begun r;
+      refused = refused_said old a new b r refused;
       cause = said_cause old a new b r (causes_weaker P (IsDamage old a new.work.page) (shown old a) (shown new b) r weaker cause);
       reads = λ read. reads_said old a new b r (reads read);
     }))
@@ -90,6 +93,7 @@ obeys_misplaced c old a stands wrong = record {
   does = does_still (after_command old (Some c)) old a (Said (reply.Refused reason.Transaction)) stands (λ told s shows. sym (ap (λ x. x.0) (found s shows)));
   replies = λ told s shows. ap (λ x. x.1) (found s shows);
   begun = tt;
+  refused = stays_still old a;
   cause = record { failed = tt; kept = (refl, refl) };
   reads = λ read. reads_still old a (Said (reply.Refused reason.Transaction));
 }
@@ -196,25 +200,28 @@ module _ (bounds : Bounds) (s : State) (line : List ℕ) where
 pub record Leads (line : List ℕ) (old : Engine) (a : Standing) (new : Engine) (b : Standing) (r : Result Step Stop) : Type 0 where
   pub does : Does (after_line old (command_in line)) old a new b r
   pub replies : AnswersLine old a (command_in line) r
+  pub refused : IfOk r (LineStaysIfRefused old a new b)
   pub cause : Stops old a new b r
   pub reads : AreReads (command_in line) → Reads old a new b r
 
 module _ (line : List ℕ) (old : Engine) (a : Standing) (stands : StandsFor old a) (book : Book) (same : book ≡ record old.book { accesses = book.accesses }) where
   still : (answer : Step) → ((s : State) → run.state_after (machine (bounds_in (engine_sizes old))) s (command_in line) ≡ s)
-      → ((s : State) → step_replies answer (current s) ≡ run.replies (machine (bounds_in (engine_sizes old))) s (command_in line)) → Leads line old a (record old { book = book }) a (Ok answer)
-  still answer state replied = record {
+      → ((s : State) → step_replies answer (current s) ≡ run.replies (machine (bounds_in (engine_sizes old))) s (command_in line)) → LineStaysIfRefused (record old { book = book }) a (record old { book = book }) a answer → Leads line old a (record old { book = book }) a (Ok answer)
+  still answer state replied refused = record {
     does = does_after_rest old book same (after_line old (command_in line)) a (record old { book = book }) a (Ok answer)
         (does_still (after_line old (command_in line)) (record old { book = book }) a answer (stands_after_rest old book same a stands) (λ told s shows. sym (state s)));
     replies = λ told s shows. replied s;
+    refused = refused_after_rest old book same a (record old { book = book }) a (Ok answer) refused;
     cause = record { failed = tt; kept = (refl, refl) };
     reads = λ read. reads_after_rest old a (record old { book = book }) a book (Ok answer) same (reads_still (record old { book = book }) a answer);
   }
 
   pub leads_silent : is_silent line ≡ true → Leads line old a (record old { book = book }) a (Ok Silent)
-  leads_silent silent = still Silent (λ s. silent_state (bounds_in (engine_sizes old)) s line silent) (λ s. sym (silent_replies (bounds_in (engine_sizes old)) s line silent))
+  leads_silent silent = still Silent (λ s. silent_state (bounds_in (engine_sizes old)) s line silent) (λ s. sym (silent_replies (bounds_in (engine_sizes old)) s line silent)) tt
 
   pub leads_none : is_silent line ≡ false → command_of line ≡ None → Leads line old a (record old { book = book }) a (Ok (Said (reply.Refused reason.Form)))
   leads_none said none = still (Said (reply.Refused reason.Form)) (λ s. none_state (bounds_in (engine_sizes old)) s line said none) (λ s. sym (none_replies (bounds_in (engine_sizes old)) s line said none))
+      (stays_still (record old { book = book }) a)
 
   module _ (c : Command) (new : Engine) (b : Standing) (r : Result Step Stop) where
     pub leads_some : is_silent line ≡ false → command_of line ≡ Some c → Obeys (Some c) (record old { book = book }) a new b r → Leads line old a new b r
@@ -225,6 +232,7 @@ module _ (line : List ℕ) (old : Engine) (a : Standing) (stands : StandsFor old
               (λ told s shows. sym (some_state (bounds_in (engine_sizes old)) s line c said some));
           replies = λ told s shows.
               if_ok r (λ answer found. sym (some_replies (bounds_in (engine_sizes old)) s line c said some ∙ append-nil (step (bounds_in (engine_sizes old)) s (Some c)).1 ∙ found)) (at_old.replies told s (shows_rested old book.accesses a s shows));
+          refused = refused_after_rest old book same a new b r it.refused;
           cause = cause_rested old book.accesses a new b r at_old.cause;
           reads = λ read. reads_after_rest old a new b book r same (it.reads (read_some line c said some read));
         }

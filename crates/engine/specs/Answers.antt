@@ -15,6 +15,7 @@ use Rattle.engine.specs.Engine.{engine_sizes, Shows}
 use Rattle.engine.specs.Steps.{Does, IsBegun, step_replies, after_command, after_line}
 use Rattle.engine.specs.Causes.{Stops}
 use Rattle.engine.specs.Resting.{is_read, Reads}
+use Rattle.engine.specs.Refused.{LineStaysIfRefused}
 
 -- one reply, as what a line leads to
 abbrev pub said_of : Result Reply Stop → Result Step Stop
@@ -32,11 +33,12 @@ AnswersLine engine a commands result =
     IsTrue a.told → (s : State) → Shows engine a s → IfOk result (λ step. step_replies step (current s) ≡ run.replies (machine (bounds_in (engine_sizes engine))) s commands)
 
 -- A command is done as the plain machine does it: its state, its replies, and why it stops. One that writes nothing leaves all
--- lines.
+-- lines, and one that is refused the transaction too.
 pub record Obeys (command : Option Command) (old : Engine) (a : Standing) (new : Engine) (b : Standing) (result : Result Step Stop) : Type 0 where
   pub does : Does (after_command old command) old a new b result
   pub replies : Answers old a command result
   pub begun : IfOk result IsBegun
+  pub refused : IfOk result (LineStaysIfRefused old a new b)
   pub cause : Stops old a new b result
   pub reads : IsTrue (is_read command) → Reads old a new b result
 

@@ -6,4 +6,5 @@ pub mod Scanning
 pub mod Opening
 pub mod Causes
 pub mod Resting
+pub mod Refused
 pub mod Answers

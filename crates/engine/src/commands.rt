@@ -1,5 +1,5 @@
 //! What commands on tables do.
-ghost use Rattle.std.specs.Prelude.{◌≡◌, ◌<◌, ◌≤◌, true, Some, IsTrue, IfOk};
+ghost use Rattle.std.specs.Prelude.{◌≡◌, ◌<◌, ◌≤◌, true, Some, IsTrue, IfOk, OnOk};
 ghost use Rattle.line_pages.specs.Standing.{HasCause};
 ghost use Rattle.table_catalog.specs.Stored.{is_known};
 ghost use Rattle.script.specs.Machine.{State, current as seen_tables};
@@ -11,6 +11,7 @@ ghost use Rattle.engine.specs.Holds.{bounds_in};
 ghost use Rattle.engine.specs.Engine.{engine_sizes, StandsFor, Shows};
 ghost use Rattle.engine.specs.Steps.{Does, Replies, after_command, step_replies, IsBegun};
 ghost use Rattle.engine.specs.Resting.{Reads};
+ghost use Rattle.engine.specs.Refused.{Stays, StaysIfRefused, LineStaysIfRefused};
 
 use crate::engine::Engine;
 use crate::scan::{Scan, Step};
@@ -48,6 +49,7 @@ impl Engine {
         requires { StandsFor self.old (W.Devices.standing world.old) }
         ensures does { Does (λ s. s) self.old (W.Devices.standing world.old) self.new (W.Devices.standing world.new) result }
         ensures known { IsTrue (W.Devices.standing world.old).told → (s : State) → Shows self.old (W.Devices.standing world.old) s → IfOk result (λ known. known ≡ is_known name.now (seen_tables s)) }
+        ensures stays { OnOk result (Stays self.old (W.Devices.standing world.old) self.new (W.Devices.standing world.new)) }
         ensures cause { HasCause (IsNameDamage self.old (W.Devices.standing world.old) self.new.work.page) (shown self.old (W.Devices.standing world.old)) (shown self.new (W.Devices.standing world.new)) result }
         ensures reads { Reads self.old (W.Devices.standing world.old) self.new (W.Devices.standing world.new) result }
     {
@@ -66,6 +68,7 @@ impl Engine {
         requires { StandsFor self.old (W.Devices.standing world.old) }
         ensures does { Does (λ s. s) self.old (W.Devices.standing world.old) self.new (W.Devices.standing world.new) result }
         ensures refused { IsTrue (W.Devices.standing world.old).told → (s : State) → Shows self.old (W.Devices.standing world.old) s → IfOk result (λ reply. reply ≡ Reply.Refused (reason_of (is_known name.now (seen_tables s)) creates)) }
+        ensures stays { OnOk result (Stays self.old (W.Devices.standing world.old) self.new (W.Devices.standing world.new)) }
         ensures cause { HasCause (IsNameDamage self.old (W.Devices.standing world.old) self.new.work.page) (shown self.old (W.Devices.standing world.old)) (shown self.new (W.Devices.standing world.new)) result }
     {
         let known = self.knows(world, name)?;
@@ -82,6 +85,7 @@ impl Engine {
         requires { StandsFor self.old (W.Devices.standing world.old) }
         ensures does { Does (after_command self.old (Some (Get name.now key))) self.old (W.Devices.standing world.old) self.new (W.Devices.standing world.new) result }
         ensures replies { Replies self.old (W.Devices.standing world.old) (Some (Get name.now key)) result }
+        ensures refused { IfOk result (StaysIfRefused self.old (W.Devices.standing world.old) self.new (W.Devices.standing world.new)) }
         ensures cause { HasCause (IsRowDamage self.old (W.Devices.standing world.old) self.new.work.page) (shown self.old (W.Devices.standing world.old)) (shown self.new (W.Devices.standing world.new)) result }
         ensures reads { Reads self.old (W.Devices.standing world.old) self.new (W.Devices.standing world.new) result }
     {
@@ -102,6 +106,7 @@ impl Engine {
         ensures does { Does (after_command self.old (Some (ScanRows name from to))) self.old (W.Devices.standing world.old) self.new (W.Devices.standing world.new) result }
         ensures replies { IsTrue (W.Devices.standing world.old).told → (s : State) → Shows self.old (W.Devices.standing world.old) s → IfOk result (λ step. ((machine (bounds_in (engine_sizes self.old))).step s (Some (ScanRows name from to))).1 ≡ step_replies step (seen_tables s)) }
         ensures begun { IfOk result IsBegun }
+        ensures refused { IfOk result (LineStaysIfRefused self.old (W.Devices.standing world.old) self.new (W.Devices.standing world.new)) }
         ensures cause { HasCause (IsNameDamage self.old (W.Devices.standing world.old) self.new.work.page) (shown self.old (W.Devices.standing world.old)) (shown self.new (W.Devices.standing world.new)) result }
         ensures reads { Reads self.old (W.Devices.standing world.old) self.new (W.Devices.standing world.new) result }
     {
@@ -123,6 +128,7 @@ impl Engine {
         requires is_open { self.old.book.is_open ≡ true }
         ensures does { Does (after_command self.old (Some (Create name.now))) self.old (W.Devices.standing world.old) self.new (W.Devices.standing world.new) result }
         ensures replies { Replies self.old (W.Devices.standing world.old) (Some (Create name.now)) result }
+        ensures refused { IfOk result (StaysIfRefused self.old (W.Devices.standing world.old) self.new (W.Devices.standing world.new)) }
         ensures cause { HasCause (IsNewTableDamage self.old (W.Devices.standing world.old) self.new.work.page) (shown self.old (W.Devices.standing world.old)) (shown self.new (W.Devices.standing world.new)) result }
     {
         if self.book.accepted() >= self.writes {
@@ -138,6 +144,7 @@ impl Engine {
         requires more { self.old.book.accepted < self.old.writes }
         ensures does { Does (after_command self.old (Some (Create name.now))) self.old (W.Devices.standing world.old) self.new (W.Devices.standing world.new) result }
         ensures replies { Replies self.old (W.Devices.standing world.old) (Some (Create name.now)) result }
+        ensures refused { IfOk result (StaysIfRefused self.old (W.Devices.standing world.old) self.new (W.Devices.standing world.new)) }
         ensures cause { HasCause (IsNewTableDamage self.old (W.Devices.standing world.old) self.new.work.page) (shown self.old (W.Devices.standing world.old)) (shown self.new (W.Devices.standing world.new)) result }
     {
         let mut store = Store::over(&mut self.book, world);
@@ -163,6 +170,7 @@ impl Engine {
         requires is_open { self.old.book.is_open ≡ true }
         ensures does { Does (after_command self.old (Some (Put name.now key value.now))) self.old (W.Devices.standing world.old) self.new (W.Devices.standing world.new) result }
         ensures replies { Replies self.old (W.Devices.standing world.old) (Some (Put name.now key value.now)) result }
+        ensures refused { IfOk result (StaysIfRefused self.old (W.Devices.standing world.old) self.new (W.Devices.standing world.new)) }
         ensures cause { HasCause (IsNewRowsDamage self.old (W.Devices.standing world.old) self.new.work.page) (shown self.old (W.Devices.standing world.old)) (shown self.new (W.Devices.standing world.new)) result }
     {
         if self.book.accepted() >= self.writes {
@@ -184,6 +192,7 @@ impl Engine {
         requires more { self.old.book.accepted < self.old.writes }
         ensures does { Does (after_command self.old (Some (Put name.now key value.now))) self.old (W.Devices.standing world.old) self.new (W.Devices.standing world.new) result }
         ensures replies { Replies self.old (W.Devices.standing world.old) (Some (Put name.now key value.now)) result }
+        ensures refused { IfOk result (StaysIfRefused self.old (W.Devices.standing world.old) self.new (W.Devices.standing world.new)) }
         ensures cause { HasCause (IsNewRowsDamage self.old (W.Devices.standing world.old) self.new.work.page) (shown self.old (W.Devices.standing world.old)) (shown self.new (W.Devices.standing world.new)) result }
     {
         let mut store = Store::over(&mut self.book, world);
@@ -208,6 +217,7 @@ impl Engine {
         requires is_open { self.old.book.is_open ≡ true }
         ensures does { Does (after_command self.old (Some (Del name.now key))) self.old (W.Devices.standing world.old) self.new (W.Devices.standing world.new) result }
         ensures replies { Replies self.old (W.Devices.standing world.old) (Some (Del name.now key)) result }
+        ensures refused { IfOk result (StaysIfRefused self.old (W.Devices.standing world.old) self.new (W.Devices.standing world.new)) }
         ensures cause { HasCause (IsNewRowsDamage self.old (W.Devices.standing world.old) self.new.work.page) (shown self.old (W.Devices.standing world.old)) (shown self.new (W.Devices.standing world.new)) result }
     {
         if self.book.accepted() >= self.writes {
@@ -223,6 +233,7 @@ impl Engine {
         requires more { self.old.book.accepted < self.old.writes }
         ensures does { Does (after_command self.old (Some (Del name.now key))) self.old (W.Devices.standing world.old) self.new (W.Devices.standing world.new) result }
         ensures replies { Replies self.old (W.Devices.standing world.old) (Some (Del name.now key)) result }
+        ensures refused { IfOk result (StaysIfRefused self.old (W.Devices.standing world.old) self.new (W.Devices.standing world.new)) }
         ensures cause { HasCause (IsNewRowsDamage self.old (W.Devices.standing world.old) self.new.work.page) (shown self.old (W.Devices.standing world.old)) (shown self.new (W.Devices.standing world.new)) result }
     {
         let mut store = Store::over(&mut self.book, world);

@@ -1,6 +1,5 @@
 //! What a line of a script does, and the end of a run.
 ghost use Rattle.std.specs.Prelude.{◌≡◌, ◌+◌, ◌^◌, ◌≤◌, [], ◌∷◌, Option, Some, None, Err, Ok, true, false, IfOk, IsTrue};
-ghost use Rattle.transactions.specs.StoreStanding.{reach};
 ghost use Rattle.script.specs.Machine.{transaction_wrong};
 ghost use Rattle.script.specs.Grammar.{command_in};
 
@@ -44,6 +43,7 @@ impl Engine {
     ghost use Rattle.engine.specs.Steps.{Does, IsBegun, after_line};
     ghost use Rattle.engine.specs.Answers.{AnswersLine, Obeys, closed};
     ghost use Rattle.engine.specs.Resting.{AreReads, Reads};
+    ghost use Rattle.engine.specs.Refused.{LineStaysIfRefused};
 
     /// Does what a line of a script asks, which is given without its line feed; of a line of more than 1,024 bytes the first
     /// 1,025 serve. A silent line does nothing. It begins with the end of the open access, and takes no memory.
@@ -52,11 +52,13 @@ impl Engine {
     /// pages in order.
     pub fn step<W: World>(&mut self, world: &mut W, line: &[u8]) -> Result<Step, Stop>
         requires ready { StandsFor self.old (W.Devices.standing world.old) }
-        requires low { reach self.old.book ≤ 2 ^ 61 + 2 ^ 46 }
+        requires low { self.old.book.log.tail ≤ 2 ^ 61 + 2 ^ 46 }
         // what it does, and what is replied
         ensures does { Does (after_line self.old (command_in line.now)) self.old (W.Devices.standing world.old) self.new (W.Devices.standing world.new) result }
         ensures replies { AnswersLine self.old (W.Devices.standing world.old) (command_in line.now) result }
         ensures begun { IfOk result IsBegun }
+        // a refusal changes neither the tables nor the transaction
+        ensures refused { IfOk result (LineStaysIfRefused self.old (W.Devices.standing world.old) self.new (W.Devices.standing world.new)) }
         // why it stops
         ensures cause { Stops self.old (W.Devices.standing world.old) self.new (W.Devices.standing world.new) result }
         ensures reads { AreReads (command_in line.now) → Reads self.old (W.Devices.standing world.old) self.new (W.Devices.standing world.new) result }
@@ -74,7 +76,7 @@ impl Engine {
     /// Does what a command asks, if a transaction is open where one must be and none where none may be.
     fn answer<W: World>(&mut self, world: &mut W, command: Command) -> Result<Step, Stop>
         requires ready { StandsFor self.old (W.Devices.standing world.old) }
-        requires low { reach self.old.book ≤ 2 ^ 61 + 2 ^ 46 }
+        requires low { self.old.book.log.tail ≤ 2 ^ 61 + 2 ^ 46 }
         ensures { Obeys (Some command) self.old (W.Devices.standing world.old) self.new (W.Devices.standing world.new) result }
     {
         if is_misplaced(&command, self.book.is_open()) {
@@ -86,7 +88,7 @@ impl Engine {
     /// The same where it is so.
     fn obey<W: World>(&mut self, world: &mut W, command: Command) -> Result<Step, Stop>
         requires ready { StandsFor self.old (W.Devices.standing world.old) }
-        requires low { reach self.old.book ≤ 2 ^ 61 + 2 ^ 46 }
+        requires low { self.old.book.log.tail ≤ 2 ^ 61 + 2 ^ 46 }
         requires placed { transaction_wrong command self.old.book.is_open ≡ false }
         ensures { Obeys (Some command) self.old (W.Devices.standing world.old) self.new (W.Devices.standing world.new) result }
     {

@@ -1,5 +1,5 @@
 //! The commands that open and end transactions, and those that only move what is stored.
-ghost use Rattle.std.specs.Prelude.{◌≡◌, ◌+◌, ◌^◌, ◌≤◌, true, false, Some, IsTrue};
+ghost use Rattle.std.specs.Prelude.{◌≡◌, ◌+◌, ◌^◌, ◌≤◌, true, false, Some, IsTrue, IfOk};
 ghost use Rattle.script.specs.declared.command.Command.TheVariants as command;
 
 use crate::engine::Engine;
@@ -13,6 +13,7 @@ impl Engine {
     ghost use Rattle.engine.specs.Causes.{Stops};
     ghost use Rattle.engine.specs.Steps.{Does, Replies, after_command};
     ghost use Rattle.engine.specs.Resting.{Reads};
+    ghost use Rattle.engine.specs.Refused.{StaysIfRefused};
 
     /// Opens a transaction.
     pub(crate) fn begin<W: World>(&mut self, world: &mut W) -> Result<Reply, Stop>
@@ -21,6 +22,7 @@ impl Engine {
         requires tail { self.old.book.log.tail ≤ 2 ^ 61 + 2 ^ 46 }
         ensures does { Does (after_command self.old (Some command.Begin)) self.old (W.Devices.standing world.old) self.new (W.Devices.standing world.new) result }
         ensures replies { Replies self.old (W.Devices.standing world.old) (Some command.Begin) result }
+        ensures refused { IfOk result (StaysIfRefused self.old (W.Devices.standing world.old) self.new (W.Devices.standing world.new)) }
         ensures cause { Stops self.old (W.Devices.standing world.old) self.new (W.Devices.standing world.new) result }
         ensures reads { Reads self.old (W.Devices.standing world.old) self.new (W.Devices.standing world.new) result }
     {
@@ -34,6 +36,7 @@ impl Engine {
         requires is_open { self.old.book.is_open ≡ true }
         ensures does { Does (after_command self.old (Some command.Commit)) self.old (W.Devices.standing world.old) self.new (W.Devices.standing world.new) result }
         ensures replies { Replies self.old (W.Devices.standing world.old) (Some command.Commit) result }
+        ensures refused { IfOk result (StaysIfRefused self.old (W.Devices.standing world.old) self.new (W.Devices.standing world.new)) }
         ensures cause { Stops self.old (W.Devices.standing world.old) self.new (W.Devices.standing world.new) result }
         ensures reads { Reads self.old (W.Devices.standing world.old) self.new (W.Devices.standing world.new) result }
     {
@@ -48,6 +51,7 @@ impl Engine {
         requires is_open { self.old.book.is_open ≡ true }
         ensures does { Does (after_command self.old (Some command.Abort)) self.old (W.Devices.standing world.old) self.new (W.Devices.standing world.new) result }
         ensures replies { Replies self.old (W.Devices.standing world.old) (Some command.Abort) result }
+        ensures refused { IfOk result (StaysIfRefused self.old (W.Devices.standing world.old) self.new (W.Devices.standing world.new)) }
         ensures cause { Stops self.old (W.Devices.standing world.old) self.new (W.Devices.standing world.new) result }
         ensures reads { Reads self.old (W.Devices.standing world.old) self.new (W.Devices.standing world.new) result }
     {
@@ -61,6 +65,7 @@ impl Engine {
         requires closed { self.old.book.is_open ≡ false }
         ensures does { Does (after_command self.old (Some command.Checkpoint)) self.old (W.Devices.standing world.old) self.new (W.Devices.standing world.new) result }
         ensures replies { Replies self.old (W.Devices.standing world.old) (Some command.Checkpoint) result }
+        ensures refused { IfOk result (StaysIfRefused self.old (W.Devices.standing world.old) self.new (W.Devices.standing world.new)) }
         ensures cause { Stops self.old (W.Devices.standing world.old) self.new (W.Devices.standing world.new) result }
         ensures reads { Reads self.old (W.Devices.standing world.old) self.new (W.Devices.standing world.new) result }
     {
@@ -73,6 +78,7 @@ impl Engine {
         requires { StandsFor self.old (W.Devices.standing world.old) }
         ensures does { Does (after_command self.old (Some command.Drain)) self.old (W.Devices.standing world.old) self.new (W.Devices.standing world.new) result }
         ensures replies { Replies self.old (W.Devices.standing world.old) (Some command.Drain) result }
+        ensures refused { IfOk result (StaysIfRefused self.old (W.Devices.standing world.old) self.new (W.Devices.standing world.new)) }
         ensures cause { Stops self.old (W.Devices.standing world.old) self.new (W.Devices.standing world.new) result }
         ensures reads { Reads self.old (W.Devices.standing world.old) self.new (W.Devices.standing world.new) result }
     {
@@ -85,6 +91,7 @@ impl Engine {
         requires { StandsFor self.old (W.Devices.standing world.old) }
         ensures does { Does (after_command self.old (Some (command.Clean frames))) self.old (W.Devices.standing world.old) self.new (W.Devices.standing world.new) result }
         ensures replies { Replies self.old (W.Devices.standing world.old) (Some (command.Clean frames)) result }
+        ensures refused { IfOk result (StaysIfRefused self.old (W.Devices.standing world.old) self.new (W.Devices.standing world.new)) }
         ensures cause { Stops self.old (W.Devices.standing world.old) self.new (W.Devices.standing world.new) result }
         ensures reads { Reads self.old (W.Devices.standing world.old) self.new (W.Devices.standing world.new) result }
     {

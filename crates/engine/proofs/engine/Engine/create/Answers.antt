@@ -7,6 +7,7 @@ use Rattle.engine.specs.Commands.{reason_of}
 use Rattle.engine.specs.Steps.{after_command}
 use Rattle.engine.proofs.DoesLaws.{does_same}
 use Rattle.engine.proofs.CommandLaws.{replies_by}
+use Rattle.engine.proofs.RefusalLaws.{refused_all}
 use Rattle.engine.proofs.AnswerLaws.{create_spent}
 use Rattle.engine.specs.Causes.{IsNameDamage, IsNewTableDamage}
 use Rattle.engine.proofs.CauseLaws.{causes_weaker}
@@ -25,3 +26,7 @@ pub returns-then-accepted-self-clause-cause : goal.returns-then-accepted-self-cl
 returns-then-accepted-self-clause-cause g c =
     causes_weaker (IsNameDamage c.args.self.now (g.W.Devices.standing c.args.world.now) c.refuse_write.new.self.work.page) (IsNewTableDamage c.args.self.now (g.W.Devices.standing c.args.world.now) c.refuse_write.new.self.work.page) _ _ c.refuse_write.result
     (λ e h. (inl h.0, λ told. inl (h.1 told))) c.refuse_write.ensures.cause
+
+pub returns-then-accepted-self-clause-refused : goal.returns-then-accepted-self-clause-refused
+returns-then-accepted-self-clause-refused g c =
+    refused_all c.args.self.now (g.W.Devices.standing c.args.world.now) c.refuse_write.new.self (g.W.Devices.standing c.refuse_write.new.world) c.refuse_write.result c.refuse_write.ensures.stays

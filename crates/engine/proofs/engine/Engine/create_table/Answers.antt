@@ -11,6 +11,7 @@ use Rattle.script.specs.declared.command.Reply.TheVariants as reply
 use Rattle.engine.specs.Engine.{Shows}
 use Rattle.engine.specs.Steps.{after_command}
 use Rattle.engine.proofs.CommandLaws.{on_device, does_fails, does_stays, does_writes, cause_fails, fault_is, store_shown}
+use Rattle.engine.proofs.RefusalLaws.{stays_kept}
 use Rattle.engine.proofs.AnswerLaws.{stepped, enough_pages, create_writes, make_holds, create_there, create_no_more}
 use Rattle.engine.proofs.engine.Engine.create_table.Goals as goal
 
@@ -75,3 +76,15 @@ pub returns-in-Made-clause-replies : goal.returns-in-Made-clause-replies
 returns-in-Made-clause-replies g c = λ told s shows.
     let a = g.W.Devices.standing c.args.world.now in
     ap (λ p. p.1) (create_writes c.args.self.now a c.requires.stands s shows c.requires.is_open c.requires.more c.args.name.now ((rw (c.over-store.ensures.same.0, c.over-store.ensures.same.1, c.in-Made.is) at c.in_ok-create.ensures.created) told (store_shown c.args.self.now a s c.requires.stands shows)).0 ((rw (c.over-store.ensures.same.0, c.over-store.ensures.same.1, c.in-Made.is) at c.in_ok-create.ensures.created) told (store_shown c.args.self.now a s c.requires.stands shows)).1)
+
+pub returns-in-Present-clause-refused : goal.returns-in-Present-clause-refused
+returns-in-Present-clause-refused g c =
+    stays_kept g.W.Devices.standing c.args.self.now (g.W.Devices.standing c.args.world.now) _ c.create.new.pages.dev.now c.create.new.pages.book.now c.create.new.work (search rules)
+    (rw (c.over-store.ensures.same.0, c.over-store.ensures.same.1) at c.create.ensures.continues) (ap (λ x. (g.W.Devices.standing x).clock) c.over-store.ensures.before)
+    (rw (c.over-store.ensures.same.0, c.over-store.ensures.same.1, c.in-Present.is) at c.in_ok-create.ensures.keeps)
+
+pub returns-in-NoSlot-clause-refused : goal.returns-in-NoSlot-clause-refused
+returns-in-NoSlot-clause-refused g c =
+    stays_kept g.W.Devices.standing c.args.self.now (g.W.Devices.standing c.args.world.now) _ c.create.new.pages.dev.now c.create.new.pages.book.now c.create.new.work (search rules)
+    (rw (c.over-store.ensures.same.0, c.over-store.ensures.same.1) at c.create.ensures.continues) (ap (λ x. (g.W.Devices.standing x).clock) c.over-store.ensures.before)
+    (rw (c.over-store.ensures.same.0, c.over-store.ensures.same.1, c.in-NoSlot.is) at c.in_ok-create.ensures.keeps)

@@ -11,6 +11,7 @@ use Rattle.script.specs.declared.command.Reply.TheVariants as reply
 use Rattle.engine.specs.Engine.{Shows}
 use Rattle.engine.specs.Steps.{after_command}
 use Rattle.engine.proofs.CommandLaws.{on_device, does_fails, does_stays, does_writes, cause_fails, fault_is, store_shown}
+use Rattle.engine.proofs.RefusalLaws.{stays_kept}
 use Rattle.engine.proofs.AnswerLaws.{stepped, del_writes, del_holds, del_no_row, del_no_table}
 use Rattle.engine.proofs.engine.Engine.del_row.Goals as goal
 
@@ -75,3 +76,9 @@ pub returns-in-Done-clause-replies : goal.returns-in-Done-clause-replies
 returns-in-Done-clause-replies g c = λ told s shows.
     let a = g.W.Devices.standing c.args.world.now in
     ap (λ p. p.1) (del_writes c.args.self.now a c.requires.stands s shows c.requires.is_open c.requires.more c.args.name.now c.args.key (sym c.in-Done.is ∙ ((rw (c.over-store.ensures.same.0, c.over-store.ensures.same.1) at c.in_ok-delete.ensures.answer) told (store_shown c.args.self.now a s c.requires.stands shows))))
+
+pub returns-in-NoTable-clause-refused : goal.returns-in-NoTable-clause-refused
+returns-in-NoTable-clause-refused g c =
+    stays_kept g.W.Devices.standing c.args.self.now (g.W.Devices.standing c.args.world.now) _ c.delete.new.pages.dev.now c.delete.new.pages.book.now c.delete.new.work (search rules)
+    (rw (c.over-store.ensures.same.0, c.over-store.ensures.same.1) at c.delete.ensures.continues) (ap (λ x. (g.W.Devices.standing x).clock) c.over-store.ensures.before)
+    (rw (c.over-store.ensures.same.0, c.over-store.ensures.same.1, c.in-NoTable.is) at c.in_ok-delete.ensures.keeps)

@@ -12,6 +12,7 @@ use Rattle.engine.specs.Steps.{after_command}
 use Rattle.engine.proofs.TableLaws.{get_gives}
 use Rattle.engine.proofs.CommandLaws.{on_device, does_fails, does_stays, cause_fails, fault_is, store_shown}
 use Rattle.engine.proofs.RestLaws.{reads_row, reads_stays}
+use Rattle.engine.proofs.RefusalLaws.{stays_kept, refused_any}
 use Rattle.engine.proofs.engine.Engine.get.Goals as goal
 
 pub returns-in_err-got-clause-does : goal.returns-in_err-got-clause-does
@@ -59,3 +60,10 @@ returns-clause-reads g c =
     reads_stays g.W.Devices.standing c.args.self.now (g.W.Devices.standing c.args.world.now) _ c.get.new.pages.dev.now c.get.new.pages.book.now c.get.new.work c.reply_to.result (search rules)
     (rw (c.over-store.ensures.same.0, c.over-store.ensures.same.1) at c.get.ensures.continues) (ap (λ x. (g.W.Devices.standing x).clock) c.over-store.ensures.before)
     (rw (c.over-store.ensures.same.0, c.over-store.ensures.same.1) at c.in_ok-got.ensures.keeps)
+
+pub returns-clause-refused : goal.returns-clause-refused
+returns-clause-refused g c =
+    refused_any c.args.self.now (g.W.Devices.standing c.args.world.now) _ _ c.reply_to.result
+    (stays_kept g.W.Devices.standing c.args.self.now (g.W.Devices.standing c.args.world.now) _ c.get.new.pages.dev.now c.get.new.pages.book.now c.get.new.work (search rules)
+    (rw (c.over-store.ensures.same.0, c.over-store.ensures.same.1) at c.get.ensures.continues) (ap (λ x. (g.W.Devices.standing x).clock) c.over-store.ensures.before)
+    (rw (c.over-store.ensures.same.0, c.over-store.ensures.same.1) at c.in_ok-got.ensures.keeps))

@@ -6,6 +6,7 @@ use Rattle.script.specs.Machine.{State}
 use Rattle.engine.proofs.CommandLaws.{on_device, does_fails, does_stays, cause_fails, fault_is, store_shown}
 use Rattle.engine.proofs.AnswerLaws.{put_spent}
 use Rattle.engine.proofs.RestLaws.{reads_name, reads_stays}
+use Rattle.engine.proofs.RefusalLaws.{stays_kept}
 use Rattle.engine.proofs.engine.Engine.knows.Goals as goal
 
 pub returns-in_err-known-clause-does : goal.returns-in_err-known-clause-does
@@ -46,5 +47,11 @@ returns-in_err-known-clause-reads g c =
 pub returns-clause-reads : goal.returns-clause-reads
 returns-clause-reads g c =
     reads_stays g.W.Devices.standing c.args.self.now (g.W.Devices.standing c.args.world.now) _ c.has_table.new.pages.dev.now c.has_table.new.pages.book.now c.has_table.new.work c.in_ok-known.known (search rules)
+    (rw (c.over-store.ensures.same.0, c.over-store.ensures.same.1) at c.has_table.ensures.continues) (ap (λ x. (g.W.Devices.standing x).clock) c.over-store.ensures.before)
+    (page_keeps (rw (c.over-store.ensures.same.0, c.over-store.ensures.same.1) at c.in_ok-known.ensures.reads))
+
+pub returns-clause-stays : goal.returns-clause-stays
+returns-clause-stays g c =
+    stays_kept g.W.Devices.standing c.args.self.now (g.W.Devices.standing c.args.world.now) _ c.has_table.new.pages.dev.now c.has_table.new.pages.book.now c.has_table.new.work (search rules)
     (rw (c.over-store.ensures.same.0, c.over-store.ensures.same.1) at c.has_table.ensures.continues) (ap (λ x. (g.W.Devices.standing x).clock) c.over-store.ensures.before)
     (page_keeps (rw (c.over-store.ensures.same.0, c.over-store.ensures.same.1) at c.in_ok-known.ensures.reads))

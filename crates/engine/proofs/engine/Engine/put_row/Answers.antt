@@ -11,6 +11,7 @@ use Rattle.script.specs.declared.command.Reply.TheVariants as reply
 use Rattle.engine.specs.Engine.{Shows}
 use Rattle.engine.specs.Steps.{after_command}
 use Rattle.engine.proofs.CommandLaws.{on_device, does_fails, does_stays, does_writes, cause_fails, fault_is, store_shown}
+use Rattle.engine.proofs.RefusalLaws.{stays_kept}
 use Rattle.engine.proofs.AnswerLaws.{stepped, enough_pages, put_writes, put_holds, put_no_room, put_no_table}
 use Rattle.engine.proofs.engine.Engine.put_row.Goals as goal
 
@@ -75,3 +76,15 @@ pub returns-in-Done-clause-replies : goal.returns-in-Done-clause-replies
 returns-in-Done-clause-replies g c = λ told s shows.
     let a = g.W.Devices.standing c.args.world.now in
     ap (λ p. p.1) (put_writes c.args.self.now a c.requires.stands s shows c.requires.is_open c.requires.more c.args.name.now c.args.key c.args.value.now (sym c.in-Done.is ∙ ((rw (c.over-store.ensures.same.0, c.over-store.ensures.same.1) at c.in_ok-put.ensures.answer) told (store_shown c.args.self.now a s c.requires.stands shows))))
+
+pub returns-in-TableFull-clause-refused : goal.returns-in-TableFull-clause-refused
+returns-in-TableFull-clause-refused g c =
+    stays_kept g.W.Devices.standing c.args.self.now (g.W.Devices.standing c.args.world.now) _ c.put.new.pages.dev.now c.put.new.pages.book.now c.put.new.work (search rules)
+    (rw (c.over-store.ensures.same.0, c.over-store.ensures.same.1) at c.put.ensures.continues) (ap (λ x. (g.W.Devices.standing x).clock) c.over-store.ensures.before)
+    (rw (c.over-store.ensures.same.0, c.over-store.ensures.same.1, c.in-TableFull.is) at c.in_ok-put.ensures.keeps)
+
+pub returns-in-NoTable-clause-refused : goal.returns-in-NoTable-clause-refused
+returns-in-NoTable-clause-refused g c =
+    stays_kept g.W.Devices.standing c.args.self.now (g.W.Devices.standing c.args.world.now) _ c.put.new.pages.dev.now c.put.new.pages.book.now c.put.new.work (search rules)
+    (rw (c.over-store.ensures.same.0, c.over-store.ensures.same.1) at c.put.ensures.continues) (ap (λ x. (g.W.Devices.standing x).clock) c.over-store.ensures.before)
+    (rw (c.over-store.ensures.same.0, c.over-store.ensures.same.1, c.in-NoTable.is) at c.in_ok-put.ensures.keeps)

@@ -39,3 +39,12 @@ returns-in-None-clause-reads g c = (leads_none c.args.line.now c.args.self.now (
 
 pub returns-in-Some-clause-reads : goal.returns-in-Some-clause-reads
 returns-in-Some-clause-reads g c = (leads_some c.args.line.now c.args.self.now (g.W.Devices.standing c.args.world.now) c.requires.ready c.rest.new.self c.rest.ensures.same c.in-Some.command c.answer.new.self (g.W.Devices.standing c.answer.new.world) c.answer.result (sym c.is_silent.ensures ∙ c.if-is_silent.false) (sym c.read_line.ensures ∙ c.in-Some.is) c.answer.ensures).reads
+
+pub returns-then-is_silent-clause-refused : goal.returns-then-is_silent-clause-refused
+returns-then-is_silent-clause-refused g c = (leads_silent c.args.line.now c.args.self.now (g.W.Devices.standing c.args.world.now) c.requires.ready c.rest.new.self c.rest.ensures.same (sym c.is_silent.ensures ∙ c.if-is_silent.true)).refused
+
+pub returns-in-None-clause-refused : goal.returns-in-None-clause-refused
+returns-in-None-clause-refused g c = (leads_none c.args.line.now c.args.self.now (g.W.Devices.standing c.args.world.now) c.requires.ready c.rest.new.self c.rest.ensures.same (sym c.is_silent.ensures ∙ c.if-is_silent.false) (sym c.read_line.ensures ∙ c.in-None.is)).refused
+
+pub returns-in-Some-clause-refused : goal.returns-in-Some-clause-refused
+returns-in-Some-clause-refused g c = (leads_some c.args.line.now c.args.self.now (g.W.Devices.standing c.args.world.now) c.requires.ready c.rest.new.self c.rest.ensures.same c.in-Some.command c.answer.new.self (g.W.Devices.standing c.answer.new.world) c.answer.result (sym c.is_silent.ensures ∙ c.if-is_silent.false) (sym c.read_line.ensures ∙ c.in-Some.is) c.answer.ensures).refused
