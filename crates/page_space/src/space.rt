@@ -7,7 +7,7 @@ ghost use Rattle.page_space.specs.Stops.{IsFault, IsShort, spare_pages};
 ghost use Rattle.page_space.specs.Moves.{Takes, Gives};
 ghost use Rattle.page_space.specs.Space.{word, FitsHeader, IsFreeList, IsPageEvidence, IsSpaceDamage, FailsSpace, header_checks, take_checks, space_checks, page_taken, after_take, after_give};
 ghost use Rattle.slotted_page.specs.Checks.{fails};
-ghost use Rattle.slotted_page.specs.Search.{Keeps};
+ghost use Rattle.slotted_page.specs.Search.{Keeps, Unchanged};
 
 use line_pages::{Evidence, Pages, Stop, copy_page, set_page_line};
 use nvm_model::Line;
@@ -24,6 +24,7 @@ fn damage<P: Pages>(pages: &mut P, work: &mut Work, page: u64, line: &Line, chec
     requires fails { fails (space_checks (P.standing pages.old).count line.now) check ≡ true }
     ensures cause { IsCause (λ e. IsPageEvidence page check e × (IsTrue (P.standing pages.old).told → work.new.page ≡ bytes_of (P.standing pages.old).current page)) (P.standing pages.old) (P.standing pages.new) result }
     ensures fails { Keeps (FailsSpace (P.standing pages.old).count work.new.page) result }
+    ensures unchanged { Unchanged (P.standing pages.old) (P.standing pages.new) result }
     ensures continues { Continues (P.may_leave pages.old) (P.may_leave pages.new) (P.is_steady pages.old) (P.standing pages.old) (P.standing pages.new) }
     ensures few { (P.standing pages.new).visits ≤ (P.standing pages.old).visits + 1 }
 {
@@ -49,6 +50,7 @@ fn read_header<P: Pages>(pages: &mut P, work: &mut Work) -> Result<Line, Stop>
     ensures keeps { OnOk result (KeepsLines (P.standing pages.old) (P.standing pages.new)) }
     ensures cause { HasCause (λ e. IsTrue (P.standing pages.old).told → IsSpaceDamage (header_checks (P.standing pages.old).count (P.standing pages.old).current) (P.standing pages.old).current work.new.page e) (P.standing pages.old) (P.standing pages.new) result }
     ensures fails { IfErr result (Keeps (FailsSpace (P.standing pages.old).count work.new.page)) }
+    ensures unchanged { IfErr result (Unchanged (P.standing pages.old) (P.standing pages.new)) }
     ensures continues { Continues (P.may_leave pages.old) (P.may_leave pages.new) (P.is_steady pages.old) (P.standing pages.old) (P.standing pages.new) }
     ensures few { (P.standing pages.new).visits ≤ (P.standing pages.old).visits + 2 }
     ensures work { OnOk result (work.new ≡ work.old) }
@@ -85,6 +87,7 @@ fn take_fresh<P: Pages>(pages: &mut P, header: Line, work: &mut Work) -> Result<
     ensures room { OnOk result ((P.standing pages.new).room + 1 ≡ (P.standing pages.old).room) }
     ensures cause { HasCause (λ e. IsTrue (P.standing pages.old).told → IsSpaceDamage (take_checks (P.standing pages.old).count (P.standing pages.old).current) (P.standing pages.old).current work.new.page e) (P.standing pages.old) (P.standing pages.new) result }
     ensures fails { IfErr result (Keeps (FailsSpace (P.standing pages.old).count work.new.page)) }
+    ensures unchanged { IfErr result (Unchanged (P.standing pages.old) (P.standing pages.new)) }
     ensures continues { Continues (P.may_leave pages.old) (P.may_leave pages.new) (P.is_steady pages.old) (P.standing pages.old) (P.standing pages.new) }
     ensures few { (P.standing pages.new).visits ≤ (P.standing pages.old).visits + 1 }
     ensures work { OnOk result (work.new ≡ work.old) }
@@ -115,6 +118,7 @@ fn take_free<P: Pages>(pages: &mut P, header: Line, work: &mut Work) -> Result<u
     ensures room { OnOk result ((P.standing pages.new).room + 1 ≡ (P.standing pages.old).room) }
     ensures cause { HasCause (λ e. IsTrue (P.standing pages.old).told → IsSpaceDamage (take_checks (P.standing pages.old).count (P.standing pages.old).current) (P.standing pages.old).current work.new.page e) (P.standing pages.old) (P.standing pages.new) result }
     ensures fails { IfErr result (Keeps (FailsSpace (P.standing pages.old).count work.new.page)) }
+    ensures unchanged { IfErr result (Unchanged (P.standing pages.old) (P.standing pages.new)) }
     ensures continues { Continues (P.may_leave pages.old) (P.may_leave pages.new) (P.is_steady pages.old) (P.standing pages.old) (P.standing pages.new) }
     ensures few { (P.standing pages.new).visits ≤ (P.standing pages.old).visits + 2 }
     ensures work { OnOk result (work.new ≡ work.old) }
@@ -147,6 +151,7 @@ pub fn take_page<P: Pages>(pages: &mut P, work: &mut Work) -> Result<u64, Stop>
     ensures sound { IsTrue (P.standing pages.old).told → FitsHeader (P.standing pages.old).count ((P.standing pages.old).current 0 0) → (free : List ℕ) → IsFreeList (P.standing pages.old).current free → IfErr result (IsShort (spare_pages (P.standing pages.old).count (P.standing pages.old).current free) 0) }
     ensures cause { HasCause (λ e. IsTrue (P.standing pages.old).told → IsSpaceDamage (take_checks (P.standing pages.old).count (P.standing pages.old).current) (P.standing pages.old).current work.new.page e) (P.standing pages.old) (P.standing pages.new) result }
     ensures fails { IfErr result (Keeps (FailsSpace (P.standing pages.old).count work.new.page)) }
+    ensures unchanged { IfErr result (Unchanged (P.standing pages.old) (P.standing pages.new)) }
     // what stays
     ensures continues { Continues (P.may_leave pages.old) (P.may_leave pages.new) (P.is_steady pages.old) (P.standing pages.old) (P.standing pages.new) }
     ensures few { (P.standing pages.new).visits ≤ (P.standing pages.old).visits + 4 }
@@ -175,6 +180,7 @@ pub fn give_page<P: Pages>(pages: &mut P, work: &mut Work, page: u64) -> Result<
     ensures sound { IsTrue (P.standing pages.old).told → FitsHeader (P.standing pages.old).count ((P.standing pages.old).current 0 0) → IfErr result IsFault }
     ensures cause { HasCause (λ e. IsTrue (P.standing pages.old).told → IsSpaceDamage (header_checks (P.standing pages.old).count (P.standing pages.old).current) (P.standing pages.old).current work.new.page e) (P.standing pages.old) (P.standing pages.new) result }
     ensures fails { IfErr result (Keeps (FailsSpace (P.standing pages.old).count work.new.page)) }
+    ensures unchanged { IfErr result (Unchanged (P.standing pages.old) (P.standing pages.new)) }
     // what stays
     ensures continues { Continues (P.may_leave pages.old) (P.may_leave pages.new) (P.is_steady pages.old) (P.standing pages.old) (P.standing pages.new) }
     ensures few { (P.standing pages.new).visits ≤ (P.standing pages.old).visits + 4 }

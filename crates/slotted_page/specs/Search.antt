@@ -1,11 +1,12 @@
 -- What a search in one page answers, and what damage of a page is.
-use Rattle.std.specs.Prelude.{◌≡◌, ℕ, ◌<◌, ◌≤◌, Bool, false, List, length, take, drop, Some, slice_get, ◌==◌, ◌&&◌}
+use Rattle.std.specs.Prelude.{◌≡◌, ℕ, ◌<◌, ◌≤◌, Bool, false, List, length, take, drop, Some, slice_get, ◌==◌, ◌&&◌, IsTrue}
 use Rattle.line_pages.specs.declared.stop.Evidence.{Evidence}
 use Rattle.line_pages.specs.declared.stop.Evidence.TheVariants.{Super, Frames, Log, Page, Walk}
 use Rattle.line_pages.specs.declared.stop.Stop.{Stop}
 use Rattle.line_pages.specs.declared.stop.Stop.TheVariants.{Nvm, Ssd, Damaged}
 use Rattle.line_pages.specs.Lines.{Lines}
 use Rattle.line_pages.specs.Bytes.{bytes_of}
+use Rattle.line_pages.specs.Standing.{Standing}
 use Rattle.slotted_page.specs.declared.root.Expect.{Expect}
 use Rattle.slotted_page.specs.declared.spot.Spot.{Spot}
 use Rattle.slotted_page.specs.declared.spot.Spot.TheVariants.{Row, Gap, Child}
@@ -48,6 +49,12 @@ abbrev pub Keeps : (Evidence → Type 0) → Stop → Type 0
 Keeps Fails Nvm = Unit {0}
 Keeps Fails Ssd = Unit {0}
 Keeps Fails (Damaged evidence) = Fails evidence
+
+-- a stop for damage comes where no line was changed
+abbrev pub Unchanged : {A : Type 0} → Standing A → Standing A → Stop → Type 0
+Unchanged old new Nvm = Unit {0}
+Unchanged old new Ssd = Unit {0}
+Unchanged old new (Damaged evidence) = IsTrue old.told → new.current ≡ old.current
 
 -- Whatever the store holds: the buffer fails, as a page of a tree, the check that the evidence names, and none before it.
 abbrev pub FailsNode : ℕ → List ℕ → Evidence → Type 0

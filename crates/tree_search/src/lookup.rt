@@ -5,7 +5,7 @@ ghost use Rattle.line_pages.specs.Touch.{begins};
 ghost use Rattle.line_pages.specs.Standing.{Continues, HasCause, ReadsPage, KeepsLines, AddsReads};
 ghost use Rattle.slotted_page.specs.Rows.{Row, row_get, last_key};
 ghost use Rattle.slotted_page.specs.Node.{IsWellFormed, leaf_rows, page_level};
-ghost use Rattle.slotted_page.specs.Search.{is_root_span, IsNodeDamage, FailsNode, Keeps};
+ghost use Rattle.slotted_page.specs.Search.{is_root_span, IsNodeDamage, FailsNode, Keeps, Unchanged};
 ghost use Rattle.page_search.specs.Answers.{ShowsDamage};
 ghost use Rattle.tree_search.specs.Tree.{IsTree, IsRooted, tree_rows};
 ghost use Rattle.page_space.specs.Stops.{IsFault};
@@ -36,6 +36,7 @@ fn value_at<P: Pages>(
     ensures damage { IsTrue (P.standing pages.old).told → IfErr result (ShowsDamage page expect.now (bytes_of (P.standing pages.old).current page)) }
     ensures cause { HasCause (λ e. IsTrue (P.standing pages.old).told → IsNodeDamage (P.standing pages.old).count (P.standing pages.old).current work.new.page e) (P.standing pages.old) (P.standing pages.new) result }
     ensures fails { IfErr result (Keeps (FailsNode (P.standing pages.old).count work.new.page)) }
+    ensures unchanged { IfErr result (Unchanged (P.standing pages.old) (P.standing pages.new)) }
     ensures continues { Continues (P.may_leave pages.old) (P.may_leave pages.new) (P.is_steady pages.old) (P.standing pages.old) (P.standing pages.new) }
     ensures reads { OnOk result (ReadsPage page (P.standing pages.old) (P.standing pages.new)) }
     ensures again { (P.standing pages.new).visits ≤ (P.standing pages.old).visits }
@@ -70,6 +71,7 @@ fn get_in<P: Pages>(
     ensures nothing { OnOk result (WritesNothing (P.standing pages.old) (P.standing pages.new)) }
     ensures cause { HasCause (λ e. IsTrue (P.standing pages.old).told → IsNodeDamage (P.standing pages.old).count (P.standing pages.old).current work.new.page e) (P.standing pages.old) (P.standing pages.new) result }
     ensures fails { IfErr result (Keeps (FailsNode (P.standing pages.old).count work.new.page)) }
+    ensures unchanged { IfErr result (Unchanged (P.standing pages.old) (P.standing pages.new)) }
     ensures continues { Continues (P.may_leave pages.old) (P.may_leave pages.new) (P.is_steady pages.old) (P.standing pages.old) (P.standing pages.new) }
     ensures keeps { OnOk result (KeepsLines (P.standing pages.old) (P.standing pages.new)) }
     ensures few { (P.standing pages.new).visits ≤ (P.standing pages.old).visits + expect.now.level + 1 }
@@ -107,6 +109,7 @@ pub fn get<P: Pages>(
     ensures nothing { OnOk result (WritesNothing (P.standing pages.old) (P.standing pages.new)) }
     ensures cause { HasCause (λ e. IsTrue (P.standing pages.old).told → IsNodeDamage (P.standing pages.old).count (P.standing pages.old).current work.new.page e) (P.standing pages.old) (P.standing pages.new) result }
     ensures fails { IfErr result (Keeps (FailsNode (P.standing pages.old).count work.new.page)) }
+    ensures unchanged { IfErr result (Unchanged (P.standing pages.old) (P.standing pages.new)) }
     // what is read
     ensures way { IsTrue (P.standing pages.old).told → begins (P.standing pages.old).access root.now.page false ≡ true → OnOk result (AddsReads (IsPath (P.standing pages.old).count (P.standing pages.old).current root.now key) (P.standing pages.old) (P.standing pages.new)) }
     ensures visits { IsTrue (P.standing pages.old).told → begins (P.standing pages.old).access root.now.page false ≡ true → OnOk result ((P.standing pages.new).visits ≡ (P.standing pages.old).visits + root.now.levels) }

@@ -4,7 +4,7 @@ ghost use Rattle.line_pages.specs.Bytes.{bytes_of};
 ghost use Rattle.line_pages.specs.Standing.{Continues, HasCause, ReadsPage, KeepsLines, AddsReads};
 ghost use Rattle.slotted_page.specs.Rows.{Row, row_next, last_key};
 ghost use Rattle.slotted_page.specs.Node.{IsWellFormed, leaf_rows, children as children_of};
-ghost use Rattle.slotted_page.specs.Search.{is_root_span, IsNodeDamage, FailsNode, Keeps};
+ghost use Rattle.slotted_page.specs.Search.{is_root_span, IsNodeDamage, FailsNode, Keeps, Unchanged};
 ghost use Rattle.page_search.specs.Answers.{ShowsDamage};
 ghost use Rattle.tree_search.specs.Tree.{IsTree, IsRooted, tree_rows, tree_pages};
 ghost use Rattle.tree_search.specs.Way.{AreReadsIn};
@@ -35,6 +35,7 @@ fn row_from<P: Pages>(
     ensures damage { IsTrue (P.standing pages.old).told → IfErr result (ShowsDamage page expect.now (bytes_of (P.standing pages.old).current page)) }
     ensures cause { HasCause (λ e. IsTrue (P.standing pages.old).told → IsNodeDamage (P.standing pages.old).count (P.standing pages.old).current work.new.page e) (P.standing pages.old) (P.standing pages.new) result }
     ensures fails { IfErr result (Keeps (FailsNode (P.standing pages.old).count work.new.page)) }
+    ensures unchanged { IfErr result (Unchanged (P.standing pages.old) (P.standing pages.new)) }
     ensures continues { Continues (P.may_leave pages.old) (P.may_leave pages.new) (P.is_steady pages.old) (P.standing pages.old) (P.standing pages.new) }
     ensures reads { OnOk result (ReadsPage page (P.standing pages.old) (P.standing pages.new)) }
     ensures again { (P.standing pages.new).visits ≤ (P.standing pages.old).visits }
@@ -69,6 +70,7 @@ fn next_in<P: Pages>(
     ensures touches { IsTrue (P.standing pages.old).told → IsTree expect.now.pages (P.standing pages.old).current expect.now.level page expect.now.low expect.now.high expect.now.root → OnOk result (AddsReads (AreReadsIn (tree_pages (P.standing pages.old).current expect.now.level page)) (P.standing pages.old) (P.standing pages.new)) }
     ensures cause { HasCause (λ e. IsTrue (P.standing pages.old).told → IsNodeDamage (P.standing pages.old).count (P.standing pages.old).current work.new.page e) (P.standing pages.old) (P.standing pages.new) result }
     ensures fails { IfErr result (Keeps (FailsNode (P.standing pages.old).count work.new.page)) }
+    ensures unchanged { IfErr result (Unchanged (P.standing pages.old) (P.standing pages.new)) }
     ensures continues { Continues (P.may_leave pages.old) (P.may_leave pages.new) (P.is_steady pages.old) (P.standing pages.old) (P.standing pages.new) }
     ensures keeps { OnOk result (KeepsLines (P.standing pages.old) (P.standing pages.new)) }
     ensures few { (P.standing pages.new).visits + 2 ≤ (P.standing pages.old).visits + most_visits expect.now.level }
@@ -110,6 +112,7 @@ fn next_after<P: Pages>(
     ensures touches { IsTrue (P.standing pages.old).told → IsTree expect.now.pages (P.standing pages.old).current expect.now.level page expect.now.low expect.now.high expect.now.root → OnOk result (AddsReads (AreReadsIn (tree_pages (P.standing pages.old).current expect.now.level page)) (P.standing pages.old) (P.standing pages.new)) }
     ensures cause { HasCause (λ e. IsTrue (P.standing pages.old).told → IsNodeDamage (P.standing pages.old).count (P.standing pages.old).current work.new.page e) (P.standing pages.old) (P.standing pages.new) result }
     ensures fails { IfErr result (Keeps (FailsNode (P.standing pages.old).count work.new.page)) }
+    ensures unchanged { IfErr result (Unchanged (P.standing pages.old) (P.standing pages.new)) }
     ensures continues { Continues (P.may_leave pages.old) (P.may_leave pages.new) (P.is_steady pages.old) (P.standing pages.old) (P.standing pages.new) }
     ensures keeps { OnOk result (KeepsLines (P.standing pages.old) (P.standing pages.new)) }
     ensures few { (P.standing pages.new).visits + 1 ≤ (P.standing pages.old).visits + most_visits (expect.now.level - 1) }
@@ -150,6 +153,7 @@ pub fn next_from<P: Pages>(
     ensures sound { IsTrue (P.standing pages.old).told → (rows : List Row) (used : List ℕ) → IsRooted (P.standing pages.old).count (P.standing pages.old).current root.now rows used → IfErr result IsFault }
     ensures cause { HasCause (λ e. IsTrue (P.standing pages.old).told → IsNodeDamage (P.standing pages.old).count (P.standing pages.old).current work.new.page e) (P.standing pages.old) (P.standing pages.new) result }
     ensures fails { IfErr result (Keeps (FailsNode (P.standing pages.old).count work.new.page)) }
+    ensures unchanged { IfErr result (Unchanged (P.standing pages.old) (P.standing pages.new)) }
     // what stays
     ensures continues { Continues (P.may_leave pages.old) (P.may_leave pages.new) (P.is_steady pages.old) (P.standing pages.old) (P.standing pages.new) }
     ensures keeps { OnOk result (KeepsLines (P.standing pages.old) (P.standing pages.new)) }

@@ -7,7 +7,7 @@ ghost use Rattle.line_pages.specs.Touch.{begins};
 ghost use Rattle.slotted_page.specs.Rows.{Row};
 ghost use Rattle.slotted_page.specs.Node.{IsWellFormed, leaf_rows};
 ghost use Rattle.slotted_page.specs.Sound.{slot_of};
-ghost use Rattle.slotted_page.specs.Search.{is_root_span, IsNodeDamage, FailsNode, Keeps};
+ghost use Rattle.slotted_page.specs.Search.{is_root_span, IsNodeDamage, FailsNode, Keeps, Unchanged};
 ghost use Rattle.page_search.specs.Answers.{ShowsDamage};
 ghost use Rattle.tree_search.specs.Record.{row_found};
 
@@ -131,6 +131,7 @@ fn no_row<P: Pages>(
     ensures damage { IsTrue (P.standing pages.old).told → IfErr result (ShowsDamage page expect.now (bytes_of (P.standing pages.old).current page)) }
     ensures cause { HasCause (λ e. IsTrue (P.standing pages.old).told → IsNodeDamage (P.standing pages.old).count (P.standing pages.old).current work.new.page e) (P.standing pages.old) (P.standing pages.new) result }
     ensures fails { IfErr result (Keeps (FailsNode (P.standing pages.old).count work.new.page)) }
+    ensures unchanged { IfErr result (Unchanged (P.standing pages.old) (P.standing pages.new)) }
     ensures continues { Continues (P.may_leave pages.old) (P.may_leave pages.new) (P.is_steady pages.old) (P.standing pages.old) (P.standing pages.new) }
     ensures reads { OnOk result (ReadsPage page (P.standing pages.old) (P.standing pages.new)) }
     ensures again { begins (P.standing pages.old).access page false ≡ false → (P.standing pages.new).visits ≤ (P.standing pages.old).visits }
@@ -159,6 +160,7 @@ pub fn row_at<P: Pages>(
     ensures damage { IsTrue (P.standing pages.old).told → IfErr result (ShowsDamage page expect.now (bytes_of (P.standing pages.old).current page)) }
     ensures cause { HasCause (λ e. IsTrue (P.standing pages.old).told → IsNodeDamage (P.standing pages.old).count (P.standing pages.old).current work.new.page e) (P.standing pages.old) (P.standing pages.new) result }
     ensures fails { IfErr result (Keeps (FailsNode (P.standing pages.old).count work.new.page)) }
+    ensures unchanged { IfErr result (Unchanged (P.standing pages.old) (P.standing pages.new)) }
     ensures continues { Continues (P.may_leave pages.old) (P.may_leave pages.new) (P.is_steady pages.old) (P.standing pages.old) (P.standing pages.new) }
     ensures reads { OnOk result (ReadsPage page (P.standing pages.old) (P.standing pages.new)) }
     ensures again { (P.standing pages.new).visits ≤ (P.standing pages.old).visits }
