@@ -7,3 +7,4 @@ pub mod PartLaws
 pub mod RecordLaws
 pub mod NextLaws
 pub mod NextReads
+pub mod CostLaws

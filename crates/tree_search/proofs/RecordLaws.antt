@@ -47,3 +47,10 @@ found_row bytes expect at row level well got_it =
       is = ap (λ b. cond b (with_key (row_in bytes slot).0 (value_of (row_in bytes slot).1)) None) fits
           ∙ ap (λ b. with_key (row_in bytes slot).0 (cond b (Some (row_in bytes slot).1) None)) value ∙ ap (λ (r : Row). Some r) is_row;
     }
+
+-- the slot of a row that a leaf has
+pub slot_fits : (bytes : List ℕ) (expect : Expect) (at : ℕ) (row : Row) → expect.level ≡ 0 → IsWellFormed bytes expect → slice_get (leaf_rows bytes) at ≡ Some row → InHeap (heap_start bytes) (slot_of bytes at)
+slot_fits bytes expect at row level well got_it =
+    let facts = leaf_facts bytes expect level well in
+    let within : at < entry_count bytes = omega (arith, (got (leaf_rows bytes) at row got_it).within, length_rows bytes) in
+    in_heap_one (heap_start bytes) (slot_of bytes at) (ap (is_in_heap (heap_start bytes)) (sym (slot_at bytes at (slot_of bytes at) within)) ∙ each_in_heap (heap_start bytes) (slots bytes) at (slot_of bytes at) facts.in_heap (omega (arith, within, length-slots bytes)))

@@ -1,7 +1,9 @@
 -- A row by its record alone.
-use Rattle.std.specs.Prelude.{ℕ, ◌+◌, Bool, List, Option, Some, None, nat_le, ◌&&◌, if◌then◌else◌}
+use Rattle.std.specs.Prelude.{ℕ, ◌+◌, ◌*◌, ◌++◌, Bool, List, Option, Some, None, nat_le, ◌&&◌, if◌then◌else◌}
+use Rattle.line_pages.specs.Cost.{lines_of}
 use Rattle.slotted_page.specs.Rows.{Row}
 use Rattle.slotted_page.specs.Node.{Slot, row_in}
+use Rattle.slotted_page.specs.Sound.{slot_of}
 use Rattle.slotted_page.specs.Value.{value_of}
 
 -- the record has a key and lies in the page
@@ -15,3 +17,7 @@ with_key key (Some value) = Some (key, value)
 -- the row of a record, where it is one that a leaf can have
 abbrev pub row_found : List ℕ → Slot → Option Row
 row_found bytes slot = if is_record slot then with_key (row_in bytes slot).0 (value_of (row_in bytes slot).1) else None
+
+-- the lines of the row at a place: those of its slot's two numbers, and then those of its record
+abbrev pub row_lines : List ℕ → ℕ → List ℕ
+row_lines bytes at = lines_of (64 + 4 * at) 2 ++ lines_of (64 + 4 * at + 2) 2 ++ lines_of (slot_of bytes at).place (slot_of bytes at).size

@@ -1,6 +1,7 @@
 //! The value of a key in a tree.
-ghost use Rattle.std.specs.Prelude.{◌≡◌, ◌+◌, ◌-◌, ◌<◌, ◌≤◌, ℕ, List, slice_get, Some, None, true, false, IsTrue, OnOk, IfOk, IfErr};
+ghost use Rattle.std.specs.Prelude.{◌≡◌, ◌+◌, ◌-◌, ◌*◌, ◌<◌, ◌≤◌, ℕ, List, slice_get, Some, None, true, false, IsTrue, OnOk, IfOk, IfErr};
 ghost use Rattle.line_pages.specs.Bytes.{bytes_of};
+ghost use Rattle.line_pages.specs.Cost.{Costs};
 ghost use Rattle.line_pages.specs.Touch.{begins};
 ghost use Rattle.line_pages.specs.Standing.{Continues, HasCause, ReadsPage, KeepsLines, AddsReads};
 ghost use Rattle.slotted_page.specs.Rows.{Row, row_get, last_key};
@@ -39,6 +40,7 @@ fn value_at<P: Pages>(
     ensures unchanged { IfErr result (Unchanged (P.standing pages.old) (P.standing pages.new)) }
     ensures continues { Continues (P.may_leave pages.old) (P.may_leave pages.new) (P.is_steady pages.old) (P.standing pages.old) (P.standing pages.new) }
     ensures reads { OnOk result (ReadsPage page (P.standing pages.old) (P.standing pages.new)) }
+    ensures cost { IsTrue (P.standing pages.old).told → IsWellFormed (bytes_of (P.standing pages.old).current page) expect.now → (r : Row) → slice_get (leaf_rows (bytes_of (P.standing pages.old).current page)) at ≡ Some r → OnOk result (Costs 11 (P.standing pages.old) (P.standing pages.new)) }
     ensures again { (P.standing pages.new).visits ≤ (P.standing pages.old).visits }
     ensures ready { OnOk result (P.is_ready pages.new) }
     ensures steady { P.is_steady pages.old → OnOk result (P.is_steady pages.new) }
@@ -67,6 +69,7 @@ fn get_in<P: Pages>(
     ensures value { IsTrue (P.standing pages.old).told → IsTree expect.now.pages (P.standing pages.old).current expect.now.level page expect.now.low expect.now.high expect.now.root → IfOk result (λ value. value ≡ row_get key (tree_rows (P.standing pages.old).current expect.now.level page)) }
     ensures sound { IsTrue (P.standing pages.old).told → IsTree expect.now.pages (P.standing pages.old).current expect.now.level page expect.now.low expect.now.high expect.now.root → IfErr result IsFault }
     ensures level { IsTrue (P.standing pages.old).told → OnOk result (page_level (bytes_of (P.standing pages.old).current page) ≡ expect.now.level) }
+    ensures cost { IsTrue (P.standing pages.old).told → IsTree expect.now.pages (P.standing pages.old).current expect.now.level page expect.now.low expect.now.high expect.now.root → OnOk result (Costs (10 * expect.now.level + 39) (P.standing pages.old) (P.standing pages.new)) }
     ensures way { IsTrue (P.standing pages.old).told → begins (P.standing pages.old).access page false ≡ true → OnOk result (AddsReads (IsWay (P.standing pages.old).current page expect.now key) (P.standing pages.old) (P.standing pages.new)) }
     ensures nothing { OnOk result (WritesNothing (P.standing pages.old) (P.standing pages.new)) }
     ensures cause { HasCause (λ e. IsTrue (P.standing pages.old).told → IsNodeDamage (P.standing pages.old).count (P.standing pages.old).current work.new.page e) (P.standing pages.old) (P.standing pages.new) result }
@@ -113,6 +116,7 @@ pub fn get<P: Pages>(
     // what is read
     ensures way { IsTrue (P.standing pages.old).told → begins (P.standing pages.old).access root.now.page false ≡ true → OnOk result (AddsReads (IsPath (P.standing pages.old).count (P.standing pages.old).current root.now key) (P.standing pages.old) (P.standing pages.new)) }
     ensures visits { IsTrue (P.standing pages.old).told → begins (P.standing pages.old).access root.now.page false ≡ true → OnOk result ((P.standing pages.new).visits ≡ (P.standing pages.old).visits + root.now.levels) }
+    ensures cost { IsTrue (P.standing pages.old).told → (rows : List Row) (used : List ℕ) → IsRooted (P.standing pages.old).count (P.standing pages.old).current root.now rows used → OnOk result (Costs (10 * root.now.levels + 29) (P.standing pages.old) (P.standing pages.new)) }
     // what stays
     ensures continues { Continues (P.may_leave pages.old) (P.may_leave pages.new) (P.is_steady pages.old) (P.standing pages.old) (P.standing pages.new) }
     ensures keeps { OnOk result (KeepsLines (P.standing pages.old) (P.standing pages.new)) }

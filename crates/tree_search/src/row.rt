@@ -1,7 +1,8 @@
 //! One row of a leaf, read by the lines of its slot and its record.
-ghost use Rattle.std.specs.Prelude.{◌≡◌, ◌+◌, ◌*◌, ◌<◌, ◌≤◌, ℕ, length, slice_get, Some, None, true, false, IsTrue, OnOk, IfOk, IfErr};
+ghost use Rattle.std.specs.Prelude.{◌≡◌, ◌+◌, ◌-◌, ◌*◌, ◌<◌, ◌≤◌, ℕ, length, slice_get, Some, None, true, false, IsTrue, OnOk, IfOk, IfErr};
 ghost use Rattle.ssd_model.specs.Page.{Same};
 ghost use Rattle.line_pages.specs.Bytes.{bytes_of};
+ghost use Rattle.line_pages.specs.Cost.{lines_from, lines_of, AddsLines, Costs};
 ghost use Rattle.line_pages.specs.Standing.{Continues, HasCause, Never, ReadsPage};
 ghost use Rattle.line_pages.specs.Touch.{begins};
 ghost use Rattle.slotted_page.specs.Rows.{Row};
@@ -9,7 +10,7 @@ ghost use Rattle.slotted_page.specs.Node.{IsWellFormed, leaf_rows};
 ghost use Rattle.slotted_page.specs.Sound.{slot_of};
 ghost use Rattle.slotted_page.specs.Search.{is_root_span, IsNodeDamage, FailsNode, Keeps, Unchanged};
 ghost use Rattle.page_search.specs.Answers.{ShowsDamage};
-ghost use Rattle.tree_search.specs.Record.{row_found};
+ghost use Rattle.tree_search.specs.Record.{row_found, row_lines};
 
 use line_pages::{Pages, Stop, page_word, read_half, set_page_line};
 use page_search::read_page;
@@ -33,6 +34,7 @@ fn read_lines<P: Pages>(
     ensures cause { HasCause Never (P.standing pages.old) (P.standing pages.new) result }
     ensures continues { Continues (P.may_leave pages.old) (P.may_leave pages.new) (P.is_steady pages.old) (P.standing pages.old) (P.standing pages.new) }
     ensures reads { OnOk result (ReadsPage page (P.standing pages.old) (P.standing pages.new)) }
+    ensures lines { first ≤ end → OnOk result (AddsLines (λ lines. lines ≡ lines_from first (end - first)) (P.standing pages.old) (P.standing pages.new)) }
     ensures again { (P.standing pages.new).visits ≤ (P.standing pages.old).visits }
     ensures ready { OnOk result (P.is_ready pages.new) }
     ensures steady { P.is_steady pages.old → OnOk result (P.is_steady pages.new) }
@@ -76,6 +78,7 @@ fn read_record<P: Pages>(
     ensures cause { HasCause Never (P.standing pages.old) (P.standing pages.new) result }
     ensures continues { Continues (P.may_leave pages.old) (P.may_leave pages.new) (P.is_steady pages.old) (P.standing pages.old) (P.standing pages.new) }
     ensures reads { OnOk result (ReadsPage page (P.standing pages.old) (P.standing pages.new)) }
+    ensures lines { 8 ≤ size → place + size ≤ 4096 → OnOk result (AddsLines (λ lines. lines ≡ lines_of place size) (P.standing pages.old) (P.standing pages.new)) }
     ensures again { (P.standing pages.new).visits ≤ (P.standing pages.old).visits }
     ensures ready { OnOk result (P.is_ready pages.new) }
     ensures steady { P.is_steady pages.old → OnOk result (P.is_steady pages.new) }
@@ -104,6 +107,7 @@ fn read_row<P: Pages>(
     ensures cause { HasCause Never (P.standing pages.old) (P.standing pages.new) result }
     ensures continues { Continues (P.may_leave pages.old) (P.may_leave pages.new) (P.is_steady pages.old) (P.standing pages.old) (P.standing pages.new) }
     ensures reads { OnOk result (ReadsPage page (P.standing pages.old) (P.standing pages.new)) }
+    ensures lines { IsTrue (P.standing pages.old).told → at < 1008 → 8 ≤ (slot_of (bytes_of (P.standing pages.old).current page) at).size → (slot_of (bytes_of (P.standing pages.old).current page) at).place + (slot_of (bytes_of (P.standing pages.old).current page) at).size ≤ 4096 → OnOk result (AddsLines (λ lines. lines ≡ row_lines (bytes_of (P.standing pages.old).current page) at) (P.standing pages.old) (P.standing pages.new)) }
     ensures again { (P.standing pages.new).visits ≤ (P.standing pages.old).visits }
     ensures ready { OnOk result (P.is_ready pages.new) }
     ensures steady { P.is_steady pages.old → OnOk result (P.is_steady pages.new) }
@@ -163,6 +167,8 @@ pub fn row_at<P: Pages>(
     ensures unchanged { IfErr result (Unchanged (P.standing pages.old) (P.standing pages.new)) }
     ensures continues { Continues (P.may_leave pages.old) (P.may_leave pages.new) (P.is_steady pages.old) (P.standing pages.old) (P.standing pages.new) }
     ensures reads { OnOk result (ReadsPage page (P.standing pages.old) (P.standing pages.new)) }
+    ensures lines { IsTrue (P.standing pages.old).told → IsWellFormed (bytes_of (P.standing pages.old).current page) expect.now → (r : Row) → slice_get (leaf_rows (bytes_of (P.standing pages.old).current page)) at ≡ Some r → OnOk result (AddsLines (λ lines. lines ≡ row_lines (bytes_of (P.standing pages.old).current page) at) (P.standing pages.old) (P.standing pages.new)) }
+    ensures cost { IsTrue (P.standing pages.old).told → IsWellFormed (bytes_of (P.standing pages.old).current page) expect.now → (r : Row) → slice_get (leaf_rows (bytes_of (P.standing pages.old).current page)) at ≡ Some r → OnOk result (Costs 11 (P.standing pages.old) (P.standing pages.new)) }
     ensures again { (P.standing pages.new).visits ≤ (P.standing pages.old).visits }
     ensures ready { OnOk result (P.is_ready pages.new) }
     ensures steady { P.is_steady pages.old → OnOk result (P.is_steady pages.new) }

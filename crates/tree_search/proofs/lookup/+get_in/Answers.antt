@@ -1,9 +1,13 @@
-use Rattle.std.proofs.Common.{◌≡◌, Some, slice_get, IsTrue, IfOk, sym, subst}
+use Rattle.std.proofs.Common.{◌≡◌, ◌+◌, ◌*◌, arith, OnOk, Some, slice_get, IsTrue, IfOk, sym, subst}
 use Rattle.line_pages.specs.Lines.{Lines}
 use Rattle.line_pages.specs.Bytes.{bytes_of}
 use Rattle.slotted_page.specs.Rows.{Row}
 use Rattle.slotted_page.specs.Node.{IsWellFormed, leaf_rows}
-use Rattle.tree_search.proofs.SearchLaws.{well_formed_top, found_row, found_gap, found_child, sound_child, way_on, way_end, way_row}
+use Rattle.tree_search.proofs.SearchLaws.{well_formed_top, row_of_spot, found_row, found_gap, found_child, sound_child, way_on, way_end, way_row}
+use Rattle.line_pages.specs.Cost.{Costs}
+use Rattle.line_pages.proofs.CostLaws.{Costs-weaker}
+use Rattle.page_search.specs.Cost.{search_lines}
+use Rattle.tree_search.proofs.CostLaws.{costs_then, leaf_lines, cost_child}
 use Rattle.tree_search.proofs.lookup.+get_in.Goals as goal
 
 pub returns-in-Row-clause-value : goal.returns-in-Row-clause-value
@@ -64,3 +68,35 @@ returns-in-Child-clause-way g t c = λ told starts.
     (λ tree. rw c.in-Child.is at (c.in_ok-at.ensures.spot told (well_formed_top e.pages old.current e.level c.args.page e.low e.high e.root tree)))
     starts (c.in_ok-at.ensures.reads.current told) c.in_ok-at.ensures.reads (c.in_ok-at.ensures.level told) (rw c.child_expect-lower.ensures at (c.get_in.ensures.level told_on))
     (rw c.child_expect-lower.ensures at (c.get_in.ensures.way told_on))
+
+pub returns-in-Row-clause-cost : goal.returns-in-Row-clause-cost
+returns-in-Row-clause-cost g t c = λ told tree.
+    let e = c.args.expect.now in
+    let old = g.P.Pages.standing c.args.pages.now in
+    let mid = g.P.Pages.standing c.find.new.pages in
+    let new = g.P.Pages.standing c.value_at.new.pages in
+    let well = well_formed_top e.pages old.current e.level c.args.page e.low e.high e.root tree in
+    let spot = rw c.in-Row.is at (c.in_ok-at.ensures.spot told well) in
+    let row = row_of_spot (bytes_of old.current c.args.page) e c.args.key c.in-Row.at well spot in
+    let read =
+    subst (λ (all : Lines). IsWellFormed (bytes_of all c.args.page) e → (r : Row) → slice_get (leaf_rows (bytes_of all c.args.page)) c.in-Row.at ≡ Some r → OnOk c.value_at.result (Costs 11 mid new))
+    (c.in_ok-at.ensures.reads.current told) (c.value_at.ensures.cost (subst IsTrue (sym c.in_ok-at.ensures.continues.told) told)) in
+    costs_then (search_lines e.level) 11 (10 * e.level + 39) old mid new c.value_at.result (omega (arith, leaf_lines e.level spot.0)) (c.in_ok-at.ensures.cost told well) (read well row.0 row.1)
+
+pub returns-in-Gap-clause-cost : goal.returns-in-Gap-clause-cost
+returns-in-Gap-clause-cost g t c = λ told tree.
+    let e = c.args.expect.now in
+    let well = well_formed_top e.pages (g.P.Pages.standing c.args.pages.now).current e.level c.args.page e.low e.high e.root tree in
+    let spot = rw c.in-Gap.is at (c.in_ok-at.ensures.spot told well) in
+    Costs-weaker (omega (arith, leaf_lines e.level spot.0)) (c.in_ok-at.ensures.cost told well)
+
+pub returns-in-Child-clause-cost : goal.returns-in-Child-clause-cost
+returns-in-Child-clause-cost g t c = λ told tree.
+    let e = c.args.expect.now in
+    let old = g.P.Pages.standing c.args.pages.now in
+    let mid = g.P.Pages.standing c.find.new.pages in
+    let well = well_formed_top e.pages old.current e.level c.args.page e.low e.high e.root tree in
+    let spot = rw c.in-Child.is at (c.in_ok-at.ensures.spot told well) in
+    cost_child e c.args.page c.args.key c.in-Child.field-0 c.in-Child.child c.in-Child.low c.in-Child.high old mid (g.P.Pages.standing c.get_in.new.pages) c.get_in.result
+    (c.in_ok-at.ensures.reads.current told) tree c.requires.above c.requires.within (rw c.in-Child.is at c.in_ok-at.ensures.safe) spot (c.in_ok-at.ensures.cost told well)
+    (rw c.child_expect-lower.ensures at (c.get_in.ensures.cost (subst IsTrue (sym c.in_ok-at.ensures.continues.told) told)))

@@ -1,6 +1,7 @@
 use Rattle.std.proofs.Common.{◌≡◌, ℕ, ◌+◌, ◌-◌, ◌≤◌, arith, Result, Ok, Err, OnOk, subst}
 use Rattle.slotted_page.specs.declared.root.Expect.{Expect}
 use Rattle.tree_search.proofs.SearchLaws.{way_visits}
+use Rattle.tree_search.proofs.CostLaws.{cost_rooted}
 use Rattle.tree_search.proofs.lookup.get.Goals as goal
 
 by_levels : {T E : Type 0} (r : Result T E) (new old levels : ℕ) → 1 ≤ levels → OnOk r (new ≡ old + (levels - 1 + 1)) → OnOk r (new ≡ old + levels)
@@ -15,3 +16,10 @@ returns-clause-visits g c = λ told starts.
     by_levels c.get_in.result new.visits old.visits root.levels c.requires.some_levels
     (subst (λ (e : Expect). OnOk c.get_in.result (new.visits ≡ old.visits + (e.level + 1))) c.root_expect-expect.ensures
     (way_visits c.root_expect-expect.result root.page c.args.key old new c.get_in.result starts (c.get_in.ensures.way told starts)))
+
+pub returns-clause-cost : goal.returns-clause-cost
+returns-clause-cost g c = λ told rows used rooted.
+    let old = g.P.Pages.standing c.args.pages.now in
+    let root = c.args.root.now in
+    cost_rooted old (g.P.Pages.standing c.get_in.new.pages) c.get_in.result c.root_expect-expect.result root.page root.levels c.page_count.result old.count
+    c.root_expect-expect.ensures c.page_count.ensures.count c.requires.some_levels rooted.tree.is_tree (c.get_in.ensures.cost told)

@@ -1,7 +1,8 @@
 -- So far the lines below are in their place, by reads of this page alone.
-use Rattle.std.proofs.Common.{◌≡◌, ◌*◌, ◌≤◌, length, IsTrue}
+use Rattle.std.proofs.Common.{◌≡◌, ◌-◌, ◌*◌, ◌≤◌, length, IsTrue}
 use Rattle.ssd_model.specs.Page.{Same}
 use Rattle.line_pages.specs.Bytes.{bytes_of}
+use Rattle.line_pages.specs.Cost.{lines_from, AddsLines}
 use Rattle.line_pages.specs.Standing.{Continues, ReadsPage}
 use Rattle.tree_search.proofs.row.read_lines.Given as goal
 
@@ -11,6 +12,9 @@ invariant-loop-line g l = record {
   steady : g.P.Pages.is_steady l.fn.pages → g.P.Pages.is_steady l.pages;
   continues : Continues (g.P.Pages.may_leave l.fn.pages) (g.P.Pages.may_leave l.pages) (g.P.Pages.is_steady l.fn.pages) (g.P.Pages.standing l.fn.pages) (g.P.Pages.standing l.pages);
   reads : ReadsPage l.page (g.P.Pages.standing l.fn.pages) (g.P.Pages.standing l.pages);
+  lines : AddsLines (λ lines. lines ≡ lines_from l.first (l.line - l.first)) (g.P.Pages.standing l.fn.pages) (g.P.Pages.standing l.pages);
+  from : l.first ≤ l.line;
+  within : l.first ≤ l.end → l.line ≤ l.end;
   again : (g.P.Pages.standing l.pages).visits ≤ (g.P.Pages.standing l.fn.pages).visits;
   nvm_kept : (g.P.Pages.standing l.pages).nvm_faults ≡ (g.P.Pages.standing l.fn.pages).nvm_faults;
   ssd_kept : (g.P.Pages.standing l.pages).ssd_faults ≡ (g.P.Pages.standing l.fn.pages).ssd_faults;
