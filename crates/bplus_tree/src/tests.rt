@@ -5,7 +5,7 @@ use crate::tree::{delete, put};
 use line_pages::{Pages, Stop, VecPages};
 use nvm_model::{Line, NoMemory};
 use slotted_page::{Value, Work};
-use std::alloc::{AllocFailed, Global};
+use std::alloc::Global;
 use std::collections::BTreeMap;
 use tree_search::{Root, get, next_from};
 
@@ -32,17 +32,6 @@ impl From<NoMemory> for Early {
     }
 }
 
-impl From<AllocFailed<(u64, usize)>> for Early {
-    ghost from_gives = { λ error made. made ≡ Memory };
-
-    ghost use Rattle.std.specs.Prelude.{◌≡◌};
-    ghost use Rattle.bplus_tree.specs.declared.tests.Early.TheVariants.{Memory};
-
-    fn from(_error: AllocFailed<(u64, usize)>) -> Early {
-        Early::Memory
-    }
-}
-
 impl From<Stop> for Early {
     ghost from_gives = { λ error made. made ≡ Stopped error };
 
@@ -57,24 +46,10 @@ impl From<Stop> for Early {
 /// A value of this many bytes.
 fn value_of(size: usize) -> Result<Value, Early> {
     let bytes = [b'v'; 480];
-    if size > 480 {
-        return Err(Early::NoValue);
-    }
-    match Value::from_bytes(&bytes[..size]) {
+    match Value::from_bytes(&bytes[..size.min(480)]) {
         Some(value) => Ok(value),
         None => Err(Early::NoValue),
     }
-}
-
-/// The lines of an empty catalog and of an empty leaf at page 1.
-fn empty_lines() -> (Line, Line) {
-    let header = Line {
-        words: [4, 0, 2, 0, 0, 0, 0, 0],
-    };
-    let leaf = Line {
-        words: [1, 0, 0, 4096, 0, 0, 0, 0],
-    };
-    (header, leaf)
 }
 
 /// A tree over pages in memory, beside the length of the value that each of its keys is to have, and how many changes may
@@ -94,14 +69,15 @@ struct Grown {
 }
 
 impl Grown {
-    /// An empty tree over this many pages.
+    /// An empty tree, a leaf at page 1, over this many pages.
     fn new(alloc: Global, count: u64) -> Result<Grown, Early>
         requires { 3 ≤ count }
     {
         let mut pages = VecPages::new(alloc, count, 60_000_002)?;
-        let (header, leaf) = empty_lines();
-        pages.write_line(0, 0, &header)?;
-        pages.write_line(1, 0, &leaf)?;
+        let header = [4, 0, 2, 0, 0, 0, 0, 0];
+        let leaf = [1, 0, 0, 4096, 0, 0, 0, 0];
+        pages.write_line(0, 0, &Line { words: header })?;
+        pages.write_line(1, 0, &Line { words: leaf })?;
         Ok(Grown {
             pages,
             root: Root { page: 1, levels: 1 },
@@ -123,11 +99,10 @@ impl Grown {
         let fresh = put(&mut self.pages, &mut root, key, &value, &mut self.work)?;
         self.root = root;
         self.left = left - 1;
-        let was = self.rows.insert(key, size)?;
-        if fresh == was.is_none() {
-            Ok(())
-        } else {
-            Err(Early::Differs(key))
+        match self.rows.insert(key, size) {
+            Ok(was) if fresh == was.is_none() => Ok(()),
+            Ok(_) => Err(Early::Differs(key)),
+            Err(_) => Err(Early::Memory),
         }
     }
 
@@ -149,13 +124,18 @@ impl Grown {
         }
     }
 
-    /// The value of a key is to have its length.
-    fn look(&mut self, key: u64) -> Result<(), Early> {
+    /// The value of a key.
+    fn value(&mut self, key: u64) -> Result<Option<Value>, Early> {
         let left = self.left;
         self.left = 0;
         let found = get(&mut self.pages, &self.root, key, &mut self.work)?;
         self.left = left;
-        let size = match found {
+        Ok(found)
+    }
+
+    /// The value of a key is to have its length.
+    fn look(&mut self, key: u64) -> Result<(), Early> {
+        let size = match self.value(key)? {
             Some(value) => Some(value.bytes().len()),
             None => None,
         };
@@ -163,18 +143,6 @@ impl Grown {
             Ok(())
         } else {
             Err(Early::Differs(key))
-        }
-    }
-
-    /// Whether a key has this value.
-    fn is_put(&mut self, key: u64, bytes: &[u8]) -> Result<bool, Early> {
-        let left = self.left;
-        self.left = 0;
-        let found = get(&mut self.pages, &self.root, key, &mut self.work)?;
-        self.left = left;
-        match found {
-            Some(value) => Ok(value.bytes() == bytes),
-            None => Ok(false),
         }
     }
 
@@ -264,8 +232,10 @@ fn scattered(i: u64) -> u64 {
 fn gives_back_what_was_put(rt: HostRuntime) -> Result<(), Early> {
     let mut grown = Grown::new(rt.alloc(), 100)?;
     grown.put(5, 3)?;
-    assert!(rt; grown.is_put(5, b"vvv")?);
-    assert!(rt; !grown.is_put(5, b"vv")?);
+    match grown.value(5)? {
+        Some(value) => assert!(rt; value.bytes() == b"vvv".as_slice()),
+        None => return Err(Early::NoValue),
+    }
     Ok(())
 }
 
@@ -329,20 +299,16 @@ fn keeps_the_outermost_rows(rt: HostRuntime) -> Result<(), Early> {
 /// Keys that go up, down and about, to three levels.
 #[test]
 fn grows_in_any_order(rt: HostRuntime) -> Result<(), Early> {
-    let mut up = Grown::new(rt.alloc(), 2_000)?;
-    let mut down = Grown::new(rt.alloc(), 2_000)?;
-    let mut about = Grown::new(rt.alloc(), 2_000)?;
-    for i in 0..2_000 {
-        up.put(i, 480)?;
-        down.put(2_000 - i, 480)?;
-        about.put(scattered(i), 480)?;
+    for way in 0..3 {
+        let mut grown = Grown::new(rt.alloc(), 2_000)?;
+        for i in 0..2_000 {
+            let keys = [i, 2_000 - i, scattered(i)];
+            grown.put(keys[way], 480)?;
+        }
+        assert_eq!(rt; grown.root.levels, 3);
+        grown.compare()?;
     }
-    assert_eq!(rt; up.root.levels, 3);
-    assert_eq!(rt; down.root.levels, 3);
-    assert_eq!(rt; about.root.levels, 3);
-    up.compare()?;
-    down.compare()?;
-    about.compare()
+    Ok(())
 }
 
 /// Puts and deletes by a fixed rule, and then deletes of all that is left.
