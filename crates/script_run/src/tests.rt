@@ -51,14 +51,18 @@ fn full() -> Geometry {
     }
 }
 
-/// A store of one table of nine rows, with four writes to a transaction.
-fn nine() -> Geometry {
+/// A store of one table of so many rows, with two writes to a transaction.
+fn short(rows: u64, frames: u32) -> Geometry
+    requires some { 1 ≤ rows }
+    requires few { rows ≤ 9 }
+    requires frames { frames ≤ 13 }
+{
     Geometry {
         tables: 1,
-        rows: 9,
-        writes: 4,
-        frames: 13,
-        log_blocks: 121,
+        rows,
+        writes: 2,
+        frames,
+        log_blocks: 61,
     }
 }
 
@@ -629,7 +633,8 @@ fn comes(
 
 #[test]
 fn each_nvm_fault_keeps_what_was_acknowledged(rt: HostRuntime) -> Result<(), Fail> {
-    let empty = formatted(rt.alloc(), &small(), b"", &[])?;
+    let empty = formatted(rt.alloc(), &short(1, 9), b"", &[])?;
+    let empty = reopened(rt.alloc(), &empty, b"")?;
     let kind = FaultKind::Nvm;
     for nth in 0..10000 {
         if !comes(&rt, rt.alloc(), &empty, Fault { kind, nth }, 6)? {
@@ -642,7 +647,7 @@ fn each_nvm_fault_keeps_what_was_acknowledged(rt: HostRuntime) -> Result<(), Fai
 
 #[test]
 fn a_run_asks_nothing_of_the_disk(rt: HostRuntime) -> Result<(), Fail> {
-    let empty = formatted(rt.alloc(), &small(), b"", &[])?;
+    let empty = formatted(rt.alloc(), &short(1, 9), b"", &[])?;
     let kind = FaultKind::Ssd;
     assert!(rt; !comes(&rt, rt.alloc(), &empty, Fault { kind, nth: 0 }, 7)?);
     Ok(())
@@ -699,6 +704,12 @@ fn crashes(
     Ok(())
 }
 
+#[test]
+fn a_crash_keeps_what_was_acknowledged(rt: HostRuntime) -> Result<(), Fail> {
+    let empty = formatted(rt.alloc(), &short(1, 9), b"", &[])?;
+    crashes(&rt, rt.alloc(), &empty, TWICE, false, &AFTER_TWICE)
+}
+
 /// What a scan finds where so many rows of long values stand.
 fn long_rows(alloc: Global, rows: u8) -> Result<Vec<u8>, Fail>
     requires { rows ≤ 9 }
@@ -715,44 +726,39 @@ fn long_rows(alloc: Global, rows: u8) -> Result<Vec<u8>, Fail>
     Ok(text)
 }
 
+/// The ninth row of long values cuts the leaf of the eight others.
 #[test]
-fn a_crash_keeps_what_was_acknowledged(rt: HostRuntime) -> Result<(), Fail> {
-    let empty = formatted(rt.alloc(), &small(), b"", &[])?;
-    crashes(&rt, rt.alloc(), &empty, TWICE, false, &AFTER_TWICE)
-}
-
-#[test]
-fn a_crash_keeps_a_tree_that_is_cut(rt: HostRuntime) -> Result<(), Fail> {
+fn a_crash_keeps_a_leaf_that_is_cut(rt: HostRuntime) -> Result<(), Fail> {
     let alloc = rt.alloc();
     let mut script = Vec::new(alloc);
     script.extend_from_slice(b"begin\ncreate a\n")?;
-    for digit in b"123456789" {
+    for digit in b"12345678" {
         long_put(&mut script, *digit)?;
-        if *digit == b'3' || *digit == b'6' {
-            script.extend_from_slice(b"commit\nbegin\n")?;
-        }
+        script.extend_from_slice(b"commit\nbegin\n")?;
     }
+    let mut store = formatted(alloc, &short(9, 13), script.as_slice(), &[])?;
+    assert_eq!(rt; run(alloc, &mut store, LIMIT)?, 0);
+    script.clear();
+    script.extend_from_slice(b"begin\n")?;
+    long_put(&mut script, b'9')?;
     script.extend_from_slice(b"commit\n")?;
-    let (three, six, all) = (
-        long_rows(alloc, 3)?,
-        long_rows(alloc, 6)?,
-        long_rows(alloc, 9)?,
-    );
-    let after = [b"refused table\n".as_slice(), &three, &six, &all];
-    let empty = formatted(alloc, &nine(), b"", &[])?;
-    crashes(&rt, alloc, &empty, script.as_slice(), true, &after)
+    let after = [long_rows(alloc, 8)?, long_rows(alloc, 9)?];
+    crashes(
+        &rt,
+        alloc,
+        &store,
+        script.as_slice(),
+        true,
+        &[&after[0], &after[1]],
+    )
 }
 
 #[test]
 fn a_crash_in_an_abort_keeps_what_stood(rt: HostRuntime) -> Result<(), Fail> {
     let alloc = rt.alloc();
-    let mut store = formatted(
-        alloc,
-        &small(),
-        b"begin\ncreate a\nput a 1 x\ncommit\n",
-        &[],
-    )?;
+    let script = b"begin\ncreate a\nput a 1 x\ncommit\n";
+    let mut store = formatted(alloc, &short(1, 9), script, &[])?;
     assert_eq!(rt; run(alloc, &mut store, LIMIT)?, 0);
-    let script = b"begin\nput a 1 y\nput a 2 y\nabort\n";
+    let script = b"begin\nput a 1 y\nabort\n";
     crashes(&rt, alloc, &store, script, false, &[b"row 1 x\nend 1\n"])
 }
