@@ -51,18 +51,14 @@ fn full() -> Geometry {
     }
 }
 
-/// A store of one table of so many rows, with two writes to a transaction.
-fn short(rows: u64, frames: u32) -> Geometry
-    requires some { 1 ≤ rows }
-    requires few { rows ≤ 9 }
-    requires frames { frames ≤ 13 }
-{
+/// A store of one table of nine rows, with one write to a transaction.
+fn nine() -> Geometry {
     Geometry {
         tables: 1,
-        rows,
-        writes: 2,
-        frames,
-        log_blocks: 61,
+        rows: 9,
+        writes: 1,
+        frames: 13,
+        log_blocks: 31,
     }
 }
 
@@ -600,11 +596,11 @@ fn is_after(after: &[&[u8]], commits: usize, found: &[u8]) -> bool {
     false
 }
 
-/// Two commits: a table of one row, and another value there.
-const TWICE: &[u8] = b"begin\ncreate a\nput a 1 x\ncommit\nbegin\nput a 1 y\ncommit\n";
+/// Two commits: a table, and a row of it.
+const TWICE: &[u8] = b"begin\ncreate a\ncommit\nbegin\nput a 1 x\ncommit\n";
 
 /// What a scan finds after none, one and both of them.
-const AFTER_TWICE: [&[u8]; 3] = [b"refused table\n", b"row 1 x\nend 1\n", b"row 1 y\nend 1\n"];
+const AFTER_TWICE: [&[u8]; 3] = [b"refused table\n", b"end 0\n", b"row 1 x\nend 1\n"];
 
 /// Makes the two commits over an empty store with one call of a device failing: the replies are a beginning of those without
 /// a fault, and what was acknowledged stands. The answer is whether the fault came.
@@ -615,7 +611,7 @@ fn comes(
     fault: Fault,
     status: u8,
 ) -> Result<bool, Fail> {
-    let whole = b"ok\nok\nok\ncommitted 1\nok\nok\ncommitted 2\n".as_slice();
+    let whole = b"ok\nok\ncommitted 1\nok\nok\ncommitted 2\n".as_slice();
     let mut world = failing(alloc, empty, TWICE, &[fault])?;
     let ended = run(alloc, &mut world, LIMIT)?;
     let came = world.faults(fault.kind) > 0;
@@ -633,7 +629,7 @@ fn comes(
 
 #[test]
 fn each_nvm_fault_keeps_what_was_acknowledged(rt: HostRuntime) -> Result<(), Fail> {
-    let empty = formatted(rt.alloc(), &short(1, 9), b"", &[])?;
+    let empty = formatted(rt.alloc(), &tiny(), b"", &[])?;
     let empty = reopened(rt.alloc(), &empty, b"")?;
     let kind = FaultKind::Nvm;
     for nth in 0..10000 {
@@ -647,7 +643,7 @@ fn each_nvm_fault_keeps_what_was_acknowledged(rt: HostRuntime) -> Result<(), Fai
 
 #[test]
 fn a_run_asks_nothing_of_the_disk(rt: HostRuntime) -> Result<(), Fail> {
-    let empty = formatted(rt.alloc(), &short(1, 9), b"", &[])?;
+    let empty = formatted(rt.alloc(), &tiny(), b"", &[])?;
     let kind = FaultKind::Ssd;
     assert!(rt; !comes(&rt, rt.alloc(), &empty, Fault { kind, nth: 0 }, 7)?);
     Ok(())
@@ -706,7 +702,7 @@ fn crashes(
 
 #[test]
 fn a_crash_keeps_what_was_acknowledged(rt: HostRuntime) -> Result<(), Fail> {
-    let empty = formatted(rt.alloc(), &short(1, 9), b"", &[])?;
+    let empty = formatted(rt.alloc(), &tiny(), b"", &[])?;
     crashes(&rt, rt.alloc(), &empty, TWICE, false, &AFTER_TWICE)
 }
 
@@ -726,22 +722,26 @@ fn long_rows(alloc: Global, rows: u8) -> Result<Vec<u8>, Fail>
     Ok(text)
 }
 
+/// A transaction of one `put` of a long value.
+fn put_alone(script: &mut Vec<u8>, digit: u8) -> Result<(), Fail> {
+    script.extend_from_slice(b"begin\n")?;
+    long_put(script, digit)?;
+    Ok(script.extend_from_slice(b"commit\n")?)
+}
+
 /// The ninth row of long values cuts the leaf of the eight others.
 #[test]
 fn a_crash_keeps_a_leaf_that_is_cut(rt: HostRuntime) -> Result<(), Fail> {
     let alloc = rt.alloc();
     let mut script = Vec::new(alloc);
-    script.extend_from_slice(b"begin\ncreate a\n")?;
+    script.extend_from_slice(b"begin\ncreate a\ncommit\n")?;
     for digit in b"12345678" {
-        long_put(&mut script, *digit)?;
-        script.extend_from_slice(b"commit\nbegin\n")?;
+        put_alone(&mut script, *digit)?;
     }
-    let mut store = formatted(alloc, &short(9, 13), script.as_slice(), &[])?;
+    let mut store = formatted(alloc, &nine(), script.as_slice(), &[])?;
     assert_eq!(rt; run(alloc, &mut store, LIMIT)?, 0);
     script.clear();
-    script.extend_from_slice(b"begin\n")?;
-    long_put(&mut script, b'9')?;
-    script.extend_from_slice(b"commit\n")?;
+    put_alone(&mut script, b'9')?;
     let after = [long_rows(alloc, 8)?, long_rows(alloc, 9)?];
     crashes(
         &rt,
@@ -756,8 +756,7 @@ fn a_crash_keeps_a_leaf_that_is_cut(rt: HostRuntime) -> Result<(), Fail> {
 #[test]
 fn a_crash_in_an_abort_keeps_what_stood(rt: HostRuntime) -> Result<(), Fail> {
     let alloc = rt.alloc();
-    let script = b"begin\ncreate a\nput a 1 x\ncommit\n";
-    let mut store = formatted(alloc, &short(1, 9), script, &[])?;
+    let mut store = formatted(alloc, &tiny(), TWICE, &[])?;
     assert_eq!(rt; run(alloc, &mut store, LIMIT)?, 0);
     let script = b"begin\nput a 1 y\nabort\n";
     crashes(&rt, alloc, &store, script, false, &[b"row 1 x\nend 1\n"])
