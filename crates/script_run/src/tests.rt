@@ -51,14 +51,14 @@ fn full() -> Geometry {
     }
 }
 
-/// A store of one table of nine rows, with four writes to a transaction.
+/// A store of one table of nine rows, with one write to a transaction.
 fn nine() -> Geometry {
     Geometry {
         tables: 1,
         rows: 9,
-        writes: 4,
+        writes: 1,
         frames: 13,
-        log_blocks: 121,
+        log_blocks: 31,
     }
 }
 
@@ -596,11 +596,11 @@ fn is_after(after: &[&[u8]], commits: usize, found: &[u8]) -> bool {
     false
 }
 
-/// Two commits: a table of one row, and another value there.
-const TWICE: &[u8] = b"begin\ncreate a\nput a 1 x\ncommit\nbegin\nput a 1 y\ncommit\n";
+/// Two commits: a table, and a row of it.
+const TWICE: &[u8] = b"begin\ncreate a\ncommit\nbegin\nput a 1 x\ncommit\n";
 
 /// What a scan finds after none, one and both of them.
-const AFTER_TWICE: [&[u8]; 3] = [b"refused table\n", b"row 1 x\nend 1\n", b"row 1 y\nend 1\n"];
+const AFTER_TWICE: [&[u8]; 3] = [b"refused table\n", b"end 0\n", b"row 1 x\nend 1\n"];
 
 /// Makes the two commits over an empty store with one call of a device failing: the replies are a beginning of those without
 /// a fault, and what was acknowledged stands. The answer is whether the fault came.
@@ -611,7 +611,7 @@ fn comes(
     fault: Fault,
     status: u8,
 ) -> Result<bool, Fail> {
-    let whole = b"ok\nok\nok\ncommitted 1\nok\nok\ncommitted 2\n".as_slice();
+    let whole = b"ok\nok\ncommitted 1\nok\nok\ncommitted 2\n".as_slice();
     let mut world = failing(alloc, empty, TWICE, &[fault])?;
     let ended = run(alloc, &mut world, LIMIT)?;
     let came = world.faults(fault.kind) > 0;
@@ -629,7 +629,8 @@ fn comes(
 
 #[test]
 fn each_nvm_fault_keeps_what_was_acknowledged(rt: HostRuntime) -> Result<(), Fail> {
-    let empty = formatted(rt.alloc(), &small(), b"", &[])?;
+    let empty = formatted(rt.alloc(), &tiny(), b"", &[])?;
+    let empty = reopened(rt.alloc(), &empty, b"")?;
     let kind = FaultKind::Nvm;
     for nth in 0..10000 {
         if !comes(&rt, rt.alloc(), &empty, Fault { kind, nth }, 6)? {
@@ -642,7 +643,7 @@ fn each_nvm_fault_keeps_what_was_acknowledged(rt: HostRuntime) -> Result<(), Fai
 
 #[test]
 fn a_run_asks_nothing_of_the_disk(rt: HostRuntime) -> Result<(), Fail> {
-    let empty = formatted(rt.alloc(), &small(), b"", &[])?;
+    let empty = formatted(rt.alloc(), &tiny(), b"", &[])?;
     let kind = FaultKind::Ssd;
     assert!(rt; !comes(&rt, rt.alloc(), &empty, Fault { kind, nth: 0 }, 7)?);
     Ok(())
@@ -699,6 +700,12 @@ fn crashes(
     Ok(())
 }
 
+#[test]
+fn a_crash_keeps_what_was_acknowledged(rt: HostRuntime) -> Result<(), Fail> {
+    let empty = formatted(rt.alloc(), &tiny(), b"", &[])?;
+    crashes(&rt, rt.alloc(), &empty, TWICE, false, &AFTER_TWICE)
+}
+
 /// What a scan finds where so many rows of long values stand.
 fn long_rows(alloc: Global, rows: u8) -> Result<Vec<u8>, Fail>
     requires { rows ≤ 9 }
@@ -715,44 +722,42 @@ fn long_rows(alloc: Global, rows: u8) -> Result<Vec<u8>, Fail>
     Ok(text)
 }
 
-#[test]
-fn a_crash_keeps_what_was_acknowledged(rt: HostRuntime) -> Result<(), Fail> {
-    let empty = formatted(rt.alloc(), &small(), b"", &[])?;
-    crashes(&rt, rt.alloc(), &empty, TWICE, false, &AFTER_TWICE)
+/// A transaction of one `put` of a long value.
+fn put_alone(script: &mut Vec<u8>, digit: u8) -> Result<(), Fail> {
+    script.extend_from_slice(b"begin\n")?;
+    long_put(script, digit)?;
+    Ok(script.extend_from_slice(b"commit\n")?)
 }
 
+/// The ninth row of long values cuts the leaf of the eight others.
 #[test]
-fn a_crash_keeps_a_tree_that_is_cut(rt: HostRuntime) -> Result<(), Fail> {
+fn a_crash_keeps_a_leaf_that_is_cut(rt: HostRuntime) -> Result<(), Fail> {
     let alloc = rt.alloc();
     let mut script = Vec::new(alloc);
-    script.extend_from_slice(b"begin\ncreate a\n")?;
-    for digit in b"123456789" {
-        long_put(&mut script, *digit)?;
-        if *digit == b'3' || *digit == b'6' {
-            script.extend_from_slice(b"commit\nbegin\n")?;
-        }
+    script.extend_from_slice(b"begin\ncreate a\ncommit\n")?;
+    for digit in b"12345678" {
+        put_alone(&mut script, *digit)?;
     }
-    script.extend_from_slice(b"commit\n")?;
-    let (three, six, all) = (
-        long_rows(alloc, 3)?,
-        long_rows(alloc, 6)?,
-        long_rows(alloc, 9)?,
-    );
-    let after = [b"refused table\n".as_slice(), &three, &six, &all];
-    let empty = formatted(alloc, &nine(), b"", &[])?;
-    crashes(&rt, alloc, &empty, script.as_slice(), true, &after)
+    let mut store = formatted(alloc, &nine(), script.as_slice(), &[])?;
+    assert_eq!(rt; run(alloc, &mut store, LIMIT)?, 0);
+    script.clear();
+    put_alone(&mut script, b'9')?;
+    let after = [long_rows(alloc, 8)?, long_rows(alloc, 9)?];
+    crashes(
+        &rt,
+        alloc,
+        &store,
+        script.as_slice(),
+        true,
+        &[&after[0], &after[1]],
+    )
 }
 
 #[test]
 fn a_crash_in_an_abort_keeps_what_stood(rt: HostRuntime) -> Result<(), Fail> {
     let alloc = rt.alloc();
-    let mut store = formatted(
-        alloc,
-        &small(),
-        b"begin\ncreate a\nput a 1 x\ncommit\n",
-        &[],
-    )?;
+    let mut store = formatted(alloc, &tiny(), TWICE, &[])?;
     assert_eq!(rt; run(alloc, &mut store, LIMIT)?, 0);
-    let script = b"begin\nput a 1 y\nput a 2 y\nabort\n";
+    let script = b"begin\nput a 1 y\nabort\n";
     crashes(&rt, alloc, &store, script, false, &[b"row 1 x\nend 1\n"])
 }
