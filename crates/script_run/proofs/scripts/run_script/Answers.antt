@@ -1,5 +1,5 @@
 -- Each end of the run has its status.
-use Rattle.std.proofs.Common.{◌≡◌, ◌+◌, ◌^◌, ◌≤◌, arith, subst, false, IsTrue}
+use Rattle.std.proofs.Common.{◌+◌, ◌^◌, ◌≤◌, arith, subst, false, IsTrue}
 use Rattle.script.specs.Machine.{State}
 use Rattle.transactions.specs.StoreStanding.{reach}
 use Rattle.engine.specs.Engine.{Shows}
