@@ -1,5 +1,5 @@
 -- A refused command changes neither the tables nor the transaction.
-use Rattle.std.proofs.Common.{◌≡◌, ℕ, refl, sym, subst, arith, IsTrue, Result, Ok, Err}
+use Rattle.std.proofs.Common.{◌≡◌, ℕ, refl, sym, subst, arith, Result, Ok, Err}
 use Rattle.std.specs.Prelude.{OnOk, IfOk}
 use Rattle.devices.specs.World.{Standing as Device}
 use Rattle.line_pages.specs.Standing.{Continues, KeepsLines}

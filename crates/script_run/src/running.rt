@@ -163,7 +163,7 @@ pub(crate) fn run_lines<W: World>(
     limit: u64,
 ) -> Result<Ending, Halt>
     requires ready { StandsFor engine.old (W.Devices.standing world.old) }
-    requires low { reach engine.old.book ≤ 2 ^ 61 }
+    requires low { reach engine.old.book ≤ 2 ^ 61 + 1920 }
     requires few { limit ≤ 2 ^ 32 }
     ensures goes { GoesOn (W.Devices.standing world.old) (W.Devices.standing world.new) }
     ensures cause { HasCause (W.Devices.standing world.old) engine.new (W.Devices.standing world.new) result }

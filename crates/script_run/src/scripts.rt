@@ -3,7 +3,6 @@ ghost use Rattle.std.specs.Prelude.{◌≡◌, ◌^◌, ◌≤◌, ℕ, [], IsTr
 ghost use Rattle.devices.specs.World.{Standing, GoesOn};
 ghost use Rattle.script.specs.Grammar.{commands};
 ghost use Rattle.script.specs.Machine.{State};
-ghost use Rattle.transactions.specs.StoreStanding.{reach};
 ghost use Rattle.engine.specs.Engine.{engine_sizes, StandsFor};
 ghost use Rattle.script_run.specs.Run.{Aim, Owes, AreSafe, IsDone};
 ghost use Rattle.script_run.specs.Statuses.{ScriptCauses};
@@ -21,7 +20,7 @@ use line_pages::{Evidence, Stop};
 /// the disk, the script and the output.
 pub fn run_script<W: World>(engine: &mut Engine, world: &mut W, limit: u64) -> u8
     requires ready { StandsFor engine.old (W.Devices.standing world.old) }
-    requires low { reach engine.old.book ≤ 2 ^ 61 }
+    requires low { engine.old.book.log.tail ≤ 2 ^ 61 }
     requires few { limit ≤ 2 ^ 32 }
     // why each status comes
     ensures causes { ScriptCauses limit engine.old (W.Devices.standing world.old) engine.new (W.Devices.standing world.new) result }

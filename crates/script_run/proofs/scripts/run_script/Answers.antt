@@ -1,7 +1,9 @@
 -- Each end of the run has its status.
-use Rattle.std.proofs.Common.{subst, false, IsTrue}
+use Rattle.std.proofs.Common.{◌+◌, ◌^◌, ◌≤◌, arith, subst, false, IsTrue}
 use Rattle.script.specs.Machine.{State}
+use Rattle.transactions.specs.StoreStanding.{reach}
 use Rattle.engine.specs.Engine.{Shows}
+use Rattle.engine.proofs.DoesLaws.{reach_near}
 use Rattle.script_run.specs.declared.stop.Ending.{Ending}
 use Rattle.script_run.specs.Run.{Ends}
 use Rattle.script_run.proofs.StartLaws.{aim_of, begun_read}
@@ -9,6 +11,12 @@ use Rattle.script_run.proofs.StatusLaws.{damaged_causes, no_fault, shown_of, pag
 use Rattle.script_run.proofs.scripts.run_script.Given as given
 use Rattle.script_run.proofs.scripts.run_script.Goals.{After-show_damage}
 use Rattle.script_run.proofs.scripts.run_script.Goals as goal
+
+pub run_lines-requires-clause-low : goal.run_lines-requires-clause-low
+run_lines-requires-clause-low g c =
+    let near : reach c.args.engine.now.book ≤ c.args.engine.now.book.log.tail + 1920 = reach_near c.args.engine.now (g.W.Devices.standing c.args.world.now) c.requires.ready in
+    let low : c.args.engine.now.book.log.tail ≤ 2 ^ 61 = c.requires.low in
+    omega (arith, near, low)
 
 pub returns-in-Ok-End-clause-ends : goal.returns-in-Ok-End-clause-ends
 returns-in-Ok-End-clause-ends g c = λ aim s told owes done.
