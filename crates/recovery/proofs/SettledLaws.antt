@@ -4,7 +4,7 @@ use Rattle.std.proofs.Common.{◌≡◌, ◌≢◌, ◌⊎◌, ℕ, zero, suc, �
 use Rattle.nvm_model.specs.declared.line.Line.{Line}
 use Rattle.nvm_model.specs.Word.{Word, IsSingle, trimmed}
 use Rattle.nvm_model.proofs.WordLaws.{single_version}
-use Rattle.devices.specs.State.{State, Image, Call, Leaves, Amid, after_all, current, fenced, word_stored}
+use Rattle.devices.specs.State.{State, Call, Amid, after_all, current, fenced, word_stored}
 use Rattle.devices.specs.Growth.{Grows, IsWithin, AreWithin, no_write}
 use Rattle.devices.proofs.GrowthLaws.{Amid_end, Amid-grows, Grows-single, after_all_append}
 use Rattle.devices.proofs.StateLaws.{word_stored_other, flushed_other}

@@ -415,7 +415,9 @@ fn a_recovery_is_recovered(rt: HostRuntime) {
 
 /// A store whose lines 0 and 5 of page 3 were 7 and 8, over whose end of a commit of 9 and 10 a fault comes: at this one of its
 /// calls.
-fn with_a_failed_end(alloc: Global, call: u64) -> Option<MemWorld> {
+fn with_a_failed_end(alloc: Global, call: u64) -> Option<MemWorld>
+    requires { call < 6 }
+{
     let mut first = empty(alloc, 1980)?;
     let mut log = recover(alloc, &mut first).ok()?.log;
     write(&mut log, &mut first, 0, &filled(7))?;
@@ -446,6 +448,9 @@ fn what_a_recovery_read_stands(rt: HostRuntime) {
         };
         let read = if call < 4 { 7 } else { 9 };
         assert!(rt; recovered(&mut world, rt.alloc()) == Some((read, read + 1)));
-        assert!(rt; gives_either(&world, rt.alloc(), world.events(), read, read), "at {call}");
+        assert!(rt;
+            gives_either(&world, rt.alloc(), world.events(), read, read),
+            "at {call}"
+        );
     }
 }
