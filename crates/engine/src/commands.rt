@@ -163,7 +163,7 @@ impl Engine {
         requires is_open { self.old.book.is_open ≡ true }
         ensures does { Does (after_command self.old (Some (Put name.now key value.now))) self.old (W.Devices.standing world.old) self.new (W.Devices.standing world.new) result }
         ensures replies { Replies self.old (W.Devices.standing world.old) (Some (Put name.now key value.now)) result }
-        ensures cause { HasCause (IsNewRowsDamage self.old (W.Devices.standing world.old) self.new.work.page) (shown self.old (W.Devices.standing world.old)) (shown self.new (W.Devices.standing world.new)) result }
+        ensures cause { HasCause (IsNewRowsDamage self.old (W.Devices.standing world.old) (W.Devices.standing world.new) self.new.work.page) (shown self.old (W.Devices.standing world.old)) (shown self.new (W.Devices.standing world.new)) result }
     {
         if self.book.accepted() >= self.writes {
             return self.refuse_write(world, name, false);
@@ -184,7 +184,7 @@ impl Engine {
         requires more { self.old.book.accepted < self.old.writes }
         ensures does { Does (after_command self.old (Some (Put name.now key value.now))) self.old (W.Devices.standing world.old) self.new (W.Devices.standing world.new) result }
         ensures replies { Replies self.old (W.Devices.standing world.old) (Some (Put name.now key value.now)) result }
-        ensures cause { HasCause (IsNewRowsDamage self.old (W.Devices.standing world.old) self.new.work.page) (shown self.old (W.Devices.standing world.old)) (shown self.new (W.Devices.standing world.new)) result }
+        ensures cause { HasCause (IsNewRowsDamage self.old (W.Devices.standing world.old) (W.Devices.standing world.new) self.new.work.page) (shown self.old (W.Devices.standing world.old)) (shown self.new (W.Devices.standing world.new)) result }
     {
         let mut store = Store::over(&mut self.book, world);
         match table_store::put(&mut store, &self.limits, name, key, value, &mut self.work)? {
@@ -208,7 +208,7 @@ impl Engine {
         requires is_open { self.old.book.is_open ≡ true }
         ensures does { Does (after_command self.old (Some (Del name.now key))) self.old (W.Devices.standing world.old) self.new (W.Devices.standing world.new) result }
         ensures replies { Replies self.old (W.Devices.standing world.old) (Some (Del name.now key)) result }
-        ensures cause { HasCause (IsNewRowsDamage self.old (W.Devices.standing world.old) self.new.work.page) (shown self.old (W.Devices.standing world.old)) (shown self.new (W.Devices.standing world.new)) result }
+        ensures cause { HasCause (IsNewRowsDamage self.old (W.Devices.standing world.old) (W.Devices.standing world.new) self.new.work.page) (shown self.old (W.Devices.standing world.old)) (shown self.new (W.Devices.standing world.new)) result }
     {
         if self.book.accepted() >= self.writes {
             return self.refuse_write(world, name, false);
@@ -223,7 +223,7 @@ impl Engine {
         requires more { self.old.book.accepted < self.old.writes }
         ensures does { Does (after_command self.old (Some (Del name.now key))) self.old (W.Devices.standing world.old) self.new (W.Devices.standing world.new) result }
         ensures replies { Replies self.old (W.Devices.standing world.old) (Some (Del name.now key)) result }
-        ensures cause { HasCause (IsNewRowsDamage self.old (W.Devices.standing world.old) self.new.work.page) (shown self.old (W.Devices.standing world.old)) (shown self.new (W.Devices.standing world.new)) result }
+        ensures cause { HasCause (IsNewRowsDamage self.old (W.Devices.standing world.old) (W.Devices.standing world.new) self.new.work.page) (shown self.old (W.Devices.standing world.old)) (shown self.new (W.Devices.standing world.new)) result }
     {
         let mut store = Store::over(&mut self.book, world);
         match table_store::delete(&mut store, &self.limits, name, key, &mut self.work)? {
