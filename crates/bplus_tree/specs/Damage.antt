@@ -23,11 +23,11 @@ IsFullRoot count lines buffer (Frames first second entry check) = ⊥
 IsFullRoot count lines buffer (Log offset line tail check) = ⊥
 IsFullRoot count lines buffer (Walk page kept found check) = ⊥
 
--- Where the store is told: of the pages as they were at that moment, the page that the evidence names has the buffer's
--- bytes and fails the check that it names, as a page of a tree, before a page is taken, or as a full root.
-unfoldable pub IsTreeDamage : Bool → ℕ → List ℕ → Evidence → Type 0
-IsTreeDamage told count buffer evidence =
-    IsTrue told → (lines : Lines) × (IsNodeDamage count lines buffer evidence ⊎ (IsSpaceDamage (take_checks count lines) lines buffer evidence ⊎ IsFullRoot count lines buffer evidence))
+-- Where the store is told, and these are its lines at the stop: the page that the evidence names has the buffer's bytes, and
+-- fails the check that it names, as a page of a tree, before a page is taken, or as a full root.
+unfoldable pub IsTreeDamage : Bool → ℕ → Lines → List ℕ → Evidence → Type 0
+IsTreeDamage told count lines buffer evidence =
+    IsTrue told → IsNodeDamage count lines buffer evidence ⊎ (IsSpaceDamage (take_checks count lines) lines buffer evidence ⊎ IsFullRoot count lines buffer evidence)
 
 -- the buffer is a root at level 3 that has all the children that a page has room for
 abbrev pub FailsRoot : ℕ → List ℕ → Evidence → Type 0

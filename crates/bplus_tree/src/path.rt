@@ -93,7 +93,7 @@ fn descend<P: Pages>(
     ensures keeps { OnOk result (KeepsLines (P.standing pages.old) (P.standing pages.new)) }
     ensures sound { IsTrue (P.standing pages.old).told → (free : List ℕ) → StandsAt (P.standing pages.old).current top.page top.expect free → IfErr result IsFault }
     ensures nothing { OnOk result (WritesNothing (P.standing pages.old) (P.standing pages.new)) }
-    ensures cause { HasCause (IsTreeDamage (P.standing pages.old).told (P.standing pages.old).count work.new.page) (P.standing pages.old) (P.standing pages.new) result }
+    ensures cause { HasCause (IsTreeDamage (P.standing pages.old).told (P.standing pages.old).count (P.standing pages.new).current work.new.page) (P.standing pages.old) (P.standing pages.new) result }
     ensures fails { IfErr result (Keeps (FailsTree (P.standing pages.old).count work.new.page)) }
     ensures continues { Continues (P.may_leave pages.old) (P.may_leave pages.new) (P.is_steady pages.old) (P.standing pages.old) (P.standing pages.new) }
     ensures few { (P.standing pages.new).visits ≤ (P.standing pages.old).visits + top.expect.level + 1 }
@@ -135,7 +135,7 @@ fn settle<P: Pages>(
     ensures kept { child ≡ Outcome.Whole → P.standing pages.new ≡ P.standing pages.old }
     ensures room { OnOk result ((P.standing pages.old).room ≤ (P.standing pages.new).room + room_above child) }
     ensures sound { IsTrue (P.standing pages.old).told → (free : List ℕ) → StandsAbove (P.standing pages.old).current passed.now child free → FitsHeader (P.standing pages.old).count ((P.standing pages.old).current 0 0) → IfErr result (StopsAbove (P.standing pages.old).count (P.standing pages.old).current passed.now child free) }
-    ensures cause { HasCause (IsTreeDamage (P.standing pages.old).told (P.standing pages.old).count work.new.page) (P.standing pages.old) (P.standing pages.new) result }
+    ensures cause { HasCause (IsTreeDamage (P.standing pages.old).told (P.standing pages.old).count (P.standing pages.new).current work.new.page) (P.standing pages.old) (P.standing pages.new) result }
     ensures fails { IfErr result (Keeps (FailsTree (P.standing pages.old).count work.new.page)) }
     ensures continues { Continues (P.may_leave pages.old) (P.may_leave pages.new) (P.is_steady pages.old) (P.standing pages.old) (P.standing pages.new) }
     ensures few { (P.standing pages.new).visits ≤ (P.standing pages.old).visits + 13 }
@@ -178,7 +178,7 @@ pub fn put_in<P: Pages>(
     ensures room { IfOk result (IsSpent top.expect.level (P.standing pages.old).room (P.standing pages.new).room) }
     ensures takes { IsTrue (P.standing pages.old).told → IfOk result (TakesFor (P.standing pages.old).count (P.standing pages.old).current (P.standing pages.new).current top.page top.expect) }
     ensures sound { IsTrue (P.standing pages.old).told → (free : List ℕ) → StandsAt (P.standing pages.old).current top.page top.expect free → FitsHeader (P.standing pages.old).count ((P.standing pages.old).current 0 0) → IfErr result (StopsFor (spare_pages (P.standing pages.old).count (P.standing pages.old).current free ≤ top.expect.level) (1000000 < length (tree_rows (P.standing pages.old).current top.expect.level top.page))) }
-    ensures cause { HasCause (IsTreeDamage (P.standing pages.old).told (P.standing pages.old).count work.new.page) (P.standing pages.old) (P.standing pages.new) result }
+    ensures cause { HasCause (IsTreeDamage (P.standing pages.old).told (P.standing pages.old).count (P.standing pages.new).current work.new.page) (P.standing pages.old) (P.standing pages.new) result }
     ensures fails { IfErr result (Keeps (FailsTree (P.standing pages.old).count work.new.page)) }
     ensures continues { Continues (P.may_leave pages.old) (P.may_leave pages.new) (P.is_steady pages.old) (P.standing pages.old) (P.standing pages.new) }
     ensures few { (P.standing pages.new).visits ≤ (P.standing pages.old).visits + 14 * top.expect.level + 10 }
@@ -212,7 +212,7 @@ pub fn delete_in<P: Pages>(
     ensures uncut { IfOk result (λ outcome. (k r : ℕ) → outcome ≢ Outcome.Cut k r) }
     ensures room { IfOk result (IsSpent top.expect.level (P.standing pages.old).room (P.standing pages.new).room) }
     ensures sound { IsTrue (P.standing pages.old).told → (free : List ℕ) → StandsAt (P.standing pages.old).current top.page top.expect free → FitsHeader (P.standing pages.old).count ((P.standing pages.old).current 0 0) → IfErr result IsFault }
-    ensures cause { HasCause (IsTreeDamage (P.standing pages.old).told (P.standing pages.old).count work.new.page) (P.standing pages.old) (P.standing pages.new) result }
+    ensures cause { HasCause (IsTreeDamage (P.standing pages.old).told (P.standing pages.old).count (P.standing pages.new).current work.new.page) (P.standing pages.old) (P.standing pages.new) result }
     ensures fails { IfErr result (Keeps (FailsTree (P.standing pages.old).count work.new.page)) }
     ensures continues { Continues (P.may_leave pages.old) (P.may_leave pages.new) (P.is_steady pages.old) (P.standing pages.old) (P.standing pages.new) }
     ensures few { (P.standing pages.new).visits ≤ (P.standing pages.old).visits + 14 * top.expect.level + 10 }

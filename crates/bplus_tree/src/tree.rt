@@ -49,7 +49,7 @@ pub fn put_row<P: Pages>(
     ensures some_levels { 1 ≤ root.new.levels }
     ensures few_levels { root.new.levels ≤ 4 }
     ensures sound { IsTrue (P.standing pages.old).told → (rows : List Row) (used free : List ℕ) → StandsIn (P.standing pages.old).count (P.standing pages.old).current root.old rows used free → IfErr result (IsLack (pages_at_hand (P.standing pages.old).count (P.standing pages.old).current used free) (length (row_put key value.now rows)) (length rows)) }
-    ensures cause { HasCause (IsTreeDamage (P.standing pages.old).told (P.standing pages.old).count work.new.page) (P.standing pages.old) (P.standing pages.new) result }
+    ensures cause { HasCause (IsTreeDamage (P.standing pages.old).told (P.standing pages.old).count (P.standing pages.new).current work.new.page) (P.standing pages.old) (P.standing pages.new) result }
     ensures fails { IfErr result (Keeps (FailsTree (P.standing pages.old).count work.new.page)) }
     // what stays
     ensures continues { Continues (P.may_leave pages.old) (P.may_leave pages.new) (P.is_steady pages.old) (P.standing pages.old) (P.standing pages.new) }
@@ -107,7 +107,7 @@ pub fn delete_row<P: Pages>(
     ensures some_levels { 1 ≤ root.new.levels }
     ensures few_levels { root.new.levels ≤ 4 }
     ensures sound { IsTrue (P.standing pages.old).told → (rows : List Row) (used free : List ℕ) → StandsIn (P.standing pages.old).count (P.standing pages.old).current root.old rows used free → IfErr result IsFault }
-    ensures cause { HasCause (IsTreeDamage (P.standing pages.old).told (P.standing pages.old).count work.new.page) (P.standing pages.old) (P.standing pages.new) result }
+    ensures cause { HasCause (IsTreeDamage (P.standing pages.old).told (P.standing pages.old).count (P.standing pages.new).current work.new.page) (P.standing pages.old) (P.standing pages.new) result }
     ensures fails { IfErr result (Keeps (FailsTree (P.standing pages.old).count work.new.page)) }
     // what stays
     ensures continues { Continues (P.may_leave pages.old) (P.may_leave pages.new) (P.is_steady pages.old) (P.standing pages.old) (P.standing pages.new) }
@@ -138,7 +138,7 @@ fn has_key<P: Pages>(pages: &mut P, root: &Root, key: u64, work: &mut Work) -> R
     ensures found { IsTrue (P.standing pages.old).told → (rows : List Row) (used : List ℕ) → IsRooted (P.standing pages.old).count (P.standing pages.old).current root.now rows used → IfOk result (λ found. found ≡ is_some (row_get key rows)) }
     ensures sound { IsTrue (P.standing pages.old).told → (rows : List Row) (used : List ℕ) → IsRooted (P.standing pages.old).count (P.standing pages.old).current root.now rows used → IfErr result IsFault }
     ensures nothing { OnOk result (WritesNothing (P.standing pages.old) (P.standing pages.new)) }
-    ensures cause { HasCause (IsTreeDamage (P.standing pages.old).told (P.standing pages.old).count work.new.page) (P.standing pages.old) (P.standing pages.new) result }
+    ensures cause { HasCause (IsTreeDamage (P.standing pages.old).told (P.standing pages.old).count (P.standing pages.new).current work.new.page) (P.standing pages.old) (P.standing pages.new) result }
     ensures fails { IfErr result (Keeps (FailsTree (P.standing pages.old).count work.new.page)) }
     ensures continues { Continues (P.may_leave pages.old) (P.may_leave pages.new) (P.is_steady pages.old) (P.standing pages.old) (P.standing pages.new) }
     ensures keeps { OnOk result (KeepsLines (P.standing pages.old) (P.standing pages.new)) }
@@ -167,7 +167,7 @@ fn seek<P: Pages>(
     ensures value { IsTrue (P.standing pages.old).told → (rows : List Row) (used : List ℕ) → IsRooted (P.standing pages.old).count (P.standing pages.old).current root.now rows used → IfOk result (λ value. value ≡ row_get key rows) }
     ensures sound { IsTrue (P.standing pages.old).told → (rows : List Row) (used : List ℕ) → IsRooted (P.standing pages.old).count (P.standing pages.old).current root.now rows used → IfErr result IsFault }
     ensures nothing { OnOk result (WritesNothing (P.standing pages.old) (P.standing pages.new)) }
-    ensures cause { HasCause (IsTreeDamage (P.standing pages.old).told (P.standing pages.old).count work.new.page) (P.standing pages.old) (P.standing pages.new) result }
+    ensures cause { HasCause (IsTreeDamage (P.standing pages.old).told (P.standing pages.old).count (P.standing pages.new).current work.new.page) (P.standing pages.old) (P.standing pages.new) result }
     ensures fails { IfErr result (Keeps (FailsTree (P.standing pages.old).count work.new.page)) }
     ensures continues { Continues (P.may_leave pages.old) (P.may_leave pages.new) (P.is_steady pages.old) (P.standing pages.old) (P.standing pages.new) }
     ensures keeps { OnOk result (KeepsLines (P.standing pages.old) (P.standing pages.new)) }
@@ -204,7 +204,7 @@ pub fn put<P: Pages>(
     ensures lines { IsTrue (P.standing pages.old).told → OnOk result (PutsLines root.old key value.now (P.standing pages.old) (P.standing pages.new)) }
     // why it stops
     ensures sound { IsTrue (P.standing pages.old).told → (rows : List Row) (used free : List ℕ) → StandsIn (P.standing pages.old).count (P.standing pages.old).current root.old rows used free → IfErr result (IsLack (pages_at_hand (P.standing pages.old).count (P.standing pages.old).current used free) (length (row_put key value.now rows)) (length rows)) }
-    ensures cause { HasCause (IsTreeDamage (P.standing pages.old).told (P.standing pages.old).count work.new.page) (P.standing pages.old) (P.standing pages.new) result }
+    ensures cause { HasCause (IsTreeDamage (P.standing pages.old).told (P.standing pages.old).count (P.standing pages.new).current work.new.page) (P.standing pages.old) (P.standing pages.new) result }
     ensures fails { IfErr result (Keeps (FailsTree (P.standing pages.old).count work.new.page)) }
     // the root, and what stays
     ensures some { OnOk result (1 ≤ root.new.page) }
@@ -240,7 +240,7 @@ pub fn delete<P: Pages>(
     ensures found { IsTrue (P.standing pages.old).told → (rows : List Row) (used : List ℕ) → IsRooted (P.standing pages.old).count (P.standing pages.old).current root.old rows used → IfOk result (λ found. found ≡ is_some (row_get key rows)) }
     // why it stops
     ensures sound { IsTrue (P.standing pages.old).told → (rows : List Row) (used free : List ℕ) → StandsIn (P.standing pages.old).count (P.standing pages.old).current root.old rows used free → IfErr result IsFault }
-    ensures cause { HasCause (IsTreeDamage (P.standing pages.old).told (P.standing pages.old).count work.new.page) (P.standing pages.old) (P.standing pages.new) result }
+    ensures cause { HasCause (IsTreeDamage (P.standing pages.old).told (P.standing pages.old).count (P.standing pages.new).current work.new.page) (P.standing pages.old) (P.standing pages.new) result }
     ensures fails { IfErr result (Keeps (FailsTree (P.standing pages.old).count work.new.page)) }
     // the root, and what stays
     ensures some { OnOk result (1 ≤ root.new.page) }

@@ -66,6 +66,16 @@ cause_fails {W} {T} {U} standing Fails Damage old new a w v book_name device_nam
     (subst (λ (x : Result U Stop). HasCause (λ e. Fails e × Damage e) (standing_of old a 0 0 0) (standing_of new (standing v) 0 0 0) x) (sym (handed_on r why is))
     (record { failed = cause_is Fails Damage old new a (standing v) book_name device_name since book_name_after device_name_after since_after why fails cause.failed; kept = tt }))
 
+-- the same where the damage is of the pages at the stop
+pub cause_fails_at : {W T U : Type 0} (standing : W → Device) (Fails : Evidence → Type 0) (Damage : Lines → Evidence → Type 0) (old new : Book) (a : Device) (w v : W) (book_name device_name since book_name_after device_name_after since_after : ℕ) (r : Result U Stop) (why : Stop)
+    → w ≡ v → IsErr r × IsErrAnd r (λ found. found ≡ why) → Keeps Fails why → new.log.geometry ≡ old.log.geometry
+    → HasCause {T = T} (Damage (pages_in (book_sizes new) (now (standing v)))) (standing_of old a book_name device_name since) (standing_of new (standing v) book_name_after device_name_after since_after) (Err why)
+    → HasCause (λ e. Fails e × Damage (pages_in (book_sizes old) (now (standing w))) e) (standing_of old a 0 0 0) (standing_of new (standing w) 0 0 0) r
+cause_fails_at {W} {T} {U} standing Fails Damage old new a w v book_name device_name since book_name_after device_name_after since_after r why same is fails sizes cause =
+    subst (λ (lines : Lines). HasCause (λ e. Fails e × Damage lines e) (standing_of old a 0 0 0) (standing_of new (standing w) 0 0 0) r)
+    (ap (λ (x : Geometry). pages_in (sizes_of x) (now (standing v))) sizes ∙ ap (λ (x : W). pages_in (book_sizes old) (now (standing x))) (sym same))
+    (cause_fails {T = T} standing Fails (Damage (pages_in (book_sizes new) (now (standing v)))) old new a w v book_name device_name since book_name_after device_name_after since_after r why same is fails cause)
+
 -- the pages that an engine shows are a store of its limits
 pub store_shown : (old : Engine) (a : Device) (s : State) → StandsFor old a → Shows old a s → IsStore old.limits (pages (engine_sizes old)) (pages_in (engine_sizes old) (now a))
 store_shown old a s stands shows = holds_with (engine_sizes old) (pages_in (engine_sizes old) (now a)) (current s) old.limits stands.limits shows.seen

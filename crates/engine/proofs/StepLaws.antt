@@ -61,7 +61,7 @@ unread clash = absurd (cc)
 
 -- A command that gives one reply.
 pub obeys_said : (P : Evidence → Type 0) (c d : Command) (old : Engine) (a : Standing) (new : Engine) (b : Standing) (r : Result Reply Stop) (x : Result Step Stop) → c ≡ d → x ≡ said_of r
-    → Does (after_command old (Some d)) old a new b r → Replies old a (Some d) r → ((e : Evidence) → P e → IsDamage old a new.work.page e) → HasCause P (shown old a) (shown new b) r → (IsTrue (is_read (Some d)) → Reads old a new b r) → IfOk r (StaysIfRefused old a new b) → Obeys (Some c) old a new b x
+    → Does (after_command old (Some d)) old a new b r → Replies old a (Some d) r → ((e : Evidence) → P e → IsDamage old a b new.work.page e) → HasCause P (shown old a) (shown new b) r → (IsTrue (is_read (Some d)) → Reads old a new b r) → IfOk r (StaysIfRefused old a new b) → Obeys (Some c) old a new b x
 obeys_said P c d old a new b r x same is does replies weaker cause reads refused =
     obeys_at c d old a new b x same
     (subst (λ (y : Result Step Stop). Obeys (Some d) old a new b y) (sym is)
@@ -70,7 +70,7 @@ obeys_said P c d old a new b r x same is does replies weaker cause reads refused
       replies = said_replies old a (Some d) r replies;
       begun = said_begun r;
       refused = refused_said old a new b r refused;
-      cause = said_cause old a new b r (causes_weaker P (IsDamage old a new.work.page) (shown old a) (shown new b) r weaker cause);
+      cause = said_cause old a new b r (causes_weaker P (IsDamage old a b new.work.page) (shown old a) (shown new b) r weaker cause);
       reads = λ read. reads_said old a new b r (reads read);
     }))
 
@@ -148,7 +148,7 @@ module _ (old : Engine) (touched : Accesses) where
     goes = it.goes;
   }
 
-  one_cause : (a : Standing) (new : Engine) (b : Standing) (why : Stop) → IsCause (IsDamage rested a new.work.page) (shown rested a) (shown new b) why → IsCause (IsDamage old a new.work.page) (shown old a) (shown new b) why
+  one_cause : (a : Standing) (new : Engine) (b : Standing) (why : Stop) → IsCause (IsDamage rested a b new.work.page) (shown rested a) (shown new b) why → IsCause (IsDamage old a b new.work.page) (shown old a) (shown new b) why
   one_cause a new b Nvm h = h
   one_cause a new b Ssd h = h
   one_cause a new b (Damaged e) h = h

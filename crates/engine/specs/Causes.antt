@@ -32,18 +32,20 @@ IsNewTableDamage engine d buffer kept =
     FailsCreate engine.limits (pages (engine_sizes engine)) buffer kept
     × (IsTrue d.told → IsCreateDamage engine.limits (pages (engine_sizes engine)) (pages_in (engine_sizes engine) (now d)) buffer kept)
 
-abbrev pub IsNewRowsDamage : Engine → Device → List ℕ → Evidence → Type 0
-IsNewRowsDamage engine d buffer kept =
+-- The catalog is checked before any line changes, a page of a tree as it is when the call stops.
+abbrev pub IsNewRowsDamage : Engine → Device → Device → List ℕ → Evidence → Type 0
+IsNewRowsDamage engine d stop buffer kept =
     FailsChange engine.limits (pages (engine_sizes engine)) buffer kept
-    × IsChangeDamage d.told engine.limits (pages (engine_sizes engine)) (pages_in (engine_sizes engine) (now d)) buffer kept
+    × IsChangeDamage d.told engine.limits (pages (engine_sizes engine)) (pages_in (engine_sizes engine) (now d)) (pages_in (engine_sizes engine) (now stop)) buffer kept
 
 -- The evidence shows damage of a page, which stands in the buffer, or of a line of the log that an abort read, and this of no
--- devices that are told: an engine that stands for them finds its own records.
-abbrev pub IsDamage : Engine → Device → List ℕ → Evidence → Type 0
-IsDamage engine d buffer kept =
-    IsRowDamage engine d buffer kept ⊎ (IsNewTableDamage engine d buffer kept ⊎ (IsNewRowsDamage engine d buffer kept
+-- devices that are told: an engine that stands for them finds its own records. The call began on the first devices, and stopped
+-- on the second.
+abbrev pub IsDamage : Engine → Device → Device → List ℕ → Evidence → Type 0
+IsDamage engine d stop buffer kept =
+    IsRowDamage engine d buffer kept ⊎ (IsNewTableDamage engine d buffer kept ⊎ (IsNewRowsDamage engine d stop buffer kept
     ⊎ (IsLogDamage (engine_sizes engine) engine.book.log.start engine.book.log.tail d kept × (IsTrue d.told → ⊥))))
 
 -- A fault comes only where its count rose, damage only with such evidence, and no fault is passed over.
 abbrev pub Stops : {T : Type 0} → Engine → Device → Engine → Device → Result T Stop → Type 0
-Stops old a new b result = HasCause (IsDamage old a new.work.page) (shown old a) (shown new b) result
+Stops old a new b result = HasCause (IsDamage old a b new.work.page) (shown old a) (shown new b) result

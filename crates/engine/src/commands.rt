@@ -171,7 +171,7 @@ impl Engine {
         ensures does { Does (after_command self.old (Some (Put name.now key value.now))) self.old (W.Devices.standing world.old) self.new (W.Devices.standing world.new) result }
         ensures replies { Replies self.old (W.Devices.standing world.old) (Some (Put name.now key value.now)) result }
         ensures refused { IfOk result (StaysIfRefused self.old (W.Devices.standing world.old) self.new (W.Devices.standing world.new)) }
-        ensures cause { HasCause (IsNewRowsDamage self.old (W.Devices.standing world.old) self.new.work.page) (shown self.old (W.Devices.standing world.old)) (shown self.new (W.Devices.standing world.new)) result }
+        ensures cause { HasCause (IsNewRowsDamage self.old (W.Devices.standing world.old) (W.Devices.standing world.new) self.new.work.page) (shown self.old (W.Devices.standing world.old)) (shown self.new (W.Devices.standing world.new)) result }
     {
         if self.book.accepted() >= self.writes {
             return self.refuse_write(world, name, false);
@@ -193,7 +193,7 @@ impl Engine {
         ensures does { Does (after_command self.old (Some (Put name.now key value.now))) self.old (W.Devices.standing world.old) self.new (W.Devices.standing world.new) result }
         ensures replies { Replies self.old (W.Devices.standing world.old) (Some (Put name.now key value.now)) result }
         ensures refused { IfOk result (StaysIfRefused self.old (W.Devices.standing world.old) self.new (W.Devices.standing world.new)) }
-        ensures cause { HasCause (IsNewRowsDamage self.old (W.Devices.standing world.old) self.new.work.page) (shown self.old (W.Devices.standing world.old)) (shown self.new (W.Devices.standing world.new)) result }
+        ensures cause { HasCause (IsNewRowsDamage self.old (W.Devices.standing world.old) (W.Devices.standing world.new) self.new.work.page) (shown self.old (W.Devices.standing world.old)) (shown self.new (W.Devices.standing world.new)) result }
     {
         let mut store = Store::over(&mut self.book, world);
         match table_store::put(&mut store, &self.limits, name, key, value, &mut self.work)? {
@@ -218,7 +218,7 @@ impl Engine {
         ensures does { Does (after_command self.old (Some (Del name.now key))) self.old (W.Devices.standing world.old) self.new (W.Devices.standing world.new) result }
         ensures replies { Replies self.old (W.Devices.standing world.old) (Some (Del name.now key)) result }
         ensures refused { IfOk result (StaysIfRefused self.old (W.Devices.standing world.old) self.new (W.Devices.standing world.new)) }
-        ensures cause { HasCause (IsNewRowsDamage self.old (W.Devices.standing world.old) self.new.work.page) (shown self.old (W.Devices.standing world.old)) (shown self.new (W.Devices.standing world.new)) result }
+        ensures cause { HasCause (IsNewRowsDamage self.old (W.Devices.standing world.old) (W.Devices.standing world.new) self.new.work.page) (shown self.old (W.Devices.standing world.old)) (shown self.new (W.Devices.standing world.new)) result }
     {
         if self.book.accepted() >= self.writes {
             return self.refuse_write(world, name, false);
@@ -234,7 +234,7 @@ impl Engine {
         ensures does { Does (after_command self.old (Some (Del name.now key))) self.old (W.Devices.standing world.old) self.new (W.Devices.standing world.new) result }
         ensures replies { Replies self.old (W.Devices.standing world.old) (Some (Del name.now key)) result }
         ensures refused { IfOk result (StaysIfRefused self.old (W.Devices.standing world.old) self.new (W.Devices.standing world.new)) }
-        ensures cause { HasCause (IsNewRowsDamage self.old (W.Devices.standing world.old) self.new.work.page) (shown self.old (W.Devices.standing world.old)) (shown self.new (W.Devices.standing world.new)) result }
+        ensures cause { HasCause (IsNewRowsDamage self.old (W.Devices.standing world.old) (W.Devices.standing world.new) self.new.work.page) (shown self.old (W.Devices.standing world.old)) (shown self.new (W.Devices.standing world.new)) result }
     {
         let mut store = Store::over(&mut self.book, world);
         match table_store::delete(&mut store, &self.limits, name, key, &mut self.work)? {

@@ -31,7 +31,7 @@ rose_then first middle last same rose = subst (λ (n : ℕ). Rose n last) same r
 pub shown_since : (page : List ℕ) (kept : Evidence) (engine : Engine) (a b c : Standing) → a.clock ≤ b.clock → Shown page kept engine b c → Shown page kept engine a c
 shown_since page kept engine a b c since it =
     let from : b.clock ≤ it.at.clock = it.since in
-    record { before = it.before; at = it.at; sizes = it.sizes; stands = it.stands; damage = it.damage; told = it.told; since = omega arith; past = it.past; same = it.same }
+    record { before = it.before; at = it.at; stop = it.stop; sizes = it.sizes; stands = it.stands; damage = it.damage; told = it.told; since = omega arith; until = it.until; past = it.past; same = it.same; same_at_stop = it.same_at_stop }
 
 caused_then : (a b c : Standing) (engine : Engine) (why : Halt) → a.clock ≤ b.clock → NoFault a b → Caused why b engine c → Caused why a engine c
 caused_then a b c engine (Store Nvm) since quiet it = rose_then a.nvm_faults b.nvm_faults c.nvm_faults quiet.nvm it
@@ -57,34 +57,41 @@ cause_err {a = a} {b = b} {engine = engine} (Err found) why is it = record { fai
 -- damage that was shown is shown later too
 pub shown_later : (page : List ℕ) (kept : Evidence) (engine : Engine) (old a b : Standing) → GoesOn a b → Shown page kept engine old a → Shown page kept engine old b
 shown_later page kept engine old a b goes it =
-    let early : it.at.clock ≤ a.clock = it.past in
+    let first : it.at.clock ≤ it.stop.clock = it.until in
+    let early : it.stop.clock ≤ a.clock = it.past in
     let on : a.clock ≤ b.clock = goes.clock in
     record {
       before = it.before;
       at = it.at;
+      stop = it.stop;
       sizes = it.sizes;
       stands = it.stands;
       damage = it.damage;
       told = it.told ∙ sym goes.told;
       since = it.since;
+      until = it.until;
       past = omega arith;
-      same = it.same ∙ sym (goes.earlier it.at.clock early);
+      same = it.same ∙ sym (goes.earlier it.at.clock (omega arith));
+      same_at_stop = it.same_at_stop ∙ sym (goes.earlier it.stop.clock early);
     }
 
 stop_caused : (old : Engine) (a : Standing) (new : Engine) (b : Standing) (why : Stop) → StandsFor old a → Goes a b → engine_sizes new ≡ engine_sizes old
-    → IsCause (IsDamage old a new.work.page) (shown old a) (shown new b) why → StoreCaused why a new b
+    → IsCause (IsDamage old a b new.work.page) (shown old a) (shown new b) why → StoreCaused why a new b
 stop_caused old a new b Nvm stands goes sizes it = it
 stop_caused old a new b Ssd stands goes sizes it = it
 stop_caused old a new b (Damaged kept) stands goes sizes it = record {
   before = old;
   at = a;
+  stop = b;
   sizes = sym sizes;
   stands = stands;
   damage = it;
   told = sym goes.told;
   since = omega arith;
-  past = goes.clock;
+  until = goes.clock;
+  past = omega arith;
   same = sym (goes.earlier a.clock (omega arith));
+  same_at_stop = refl;
 }
 
 module _ (old : Engine) (a : Standing) (new : Engine) (b : Standing) (stands : StandsFor old a) (goes : Goes a b) (sizes : engine_sizes new ≡ engine_sizes old) where

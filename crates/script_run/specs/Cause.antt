@@ -11,18 +11,21 @@ use Rattle.script_run.specs.declared.stop.Halt.{Halt}
 use Rattle.script_run.specs.declared.stop.Halt.TheVariants.{Store, Source, Sink}
 
 -- The engine stopped for damage: at a moment between these two an engine of these sizes stood for the devices as they were
--- then, and the evidence shows damage of them; a page of the evidence stands in this buffer, and whatever the devices hold, it
--- or the line that is kept fails the check named.
+-- then, it stopped at this or a later moment, and the evidence shows damage of them; a page of the evidence stands in this
+-- buffer, and whatever the devices hold, it or the line that is kept fails the check named.
 pub record Shown (page : List ℕ) (kept : Evidence) (engine : Engine) (old new : Standing) : Type 0 where
   pub before : Engine
   pub at : Standing
+  pub stop : Standing
   pub sizes : engine_sizes before ≡ engine_sizes engine
   pub stands : StandsFor before at
-  pub damage : IsDamage before at page kept
+  pub damage : IsDamage before at stop page kept
   pub told : at.told ≡ new.told
   pub since : old.clock ≤ at.clock
-  pub past : at.clock ≤ new.clock
+  pub until : at.clock ≤ stop.clock
+  pub past : stop.clock ≤ new.clock
   pub same : now at ≡ new.at at.clock
+  pub same_at_stop : now stop ≡ new.at stop.clock
 
 -- the count of the device or the stream rose, or there is damage, whose page is that of the engine
 abbrev pub StoreCaused : Stop → Standing → Engine → Standing → Type 0

@@ -33,10 +33,11 @@ pub record ChangesTable (limits : Limits) (count : ℕ) (old new : Lines) (name 
   pub tables_are : (rows : List Row) → rows_of name (tables old) ≡ Some rows → tables new ≡ with_rows name (step rows) (tables old)
   pub beyond : (n : ℕ) → high_of new ≤ n → new n ≡ old n
 
--- The evidence shows damage of the catalog, or what a call on a tree that changes it may show.
-abbrev pub IsChangeDamage : Bool → Limits → ℕ → Lines → List ℕ → Evidence → Type 0
-IsChangeDamage told limits count lines buffer evidence =
-    (IsTrue told → IsCatalogDamage limits count lines buffer evidence) ⊎ IsTreeDamage told count buffer evidence
+-- The evidence shows damage of the catalog, as its lines are before any of them is changed, or of the lines at the stop what a
+-- call on a tree that changes it may show.
+abbrev pub IsChangeDamage : Bool → Limits → ℕ → Lines → Lines → List ℕ → Evidence → Type 0
+IsChangeDamage told limits count before lines buffer evidence =
+    (IsTrue told → IsCatalogDamage limits count before buffer evidence) ⊎ IsTreeDamage told count lines buffer evidence
 
 -- whatever the store holds, the buffer fails that check
 abbrev pub FailsChange : Limits → ℕ → List ℕ → Evidence → Type 0

@@ -26,7 +26,7 @@ fn value_at<P: Pages>(
     requires fits { FitsRoot _limits.now (P.standing pages.old).count place.now }
     ensures value { IsTrue (P.standing pages.old).told → (rows : List Row) (used : List ℕ) → IsRooted (P.standing pages.old).count (P.standing pages.old).current (root_at place.now) rows used → IfOk result (λ value. value ≡ row_get key rows) }
     ensures sound { IsTrue (P.standing pages.old).told → (rows : List Row) (used : List ℕ) → IsRooted (P.standing pages.old).count (P.standing pages.old).current (root_at place.now) rows used → IfErr result IsFault }
-    ensures cause { HasCause (IsTreeDamage (P.standing pages.old).told (P.standing pages.old).count work.new.page) (P.standing pages.old) (P.standing pages.new) result }
+    ensures cause { HasCause (IsTreeDamage (P.standing pages.old).told (P.standing pages.old).count (P.standing pages.new).current work.new.page) (P.standing pages.old) (P.standing pages.new) result }
     ensures fails { IfErr result (Keeps (FailsTree (P.standing pages.old).count work.new.page)) }
     ensures continues { Continues (P.may_leave pages.old) (P.may_leave pages.new) (P.is_steady pages.old) (P.standing pages.old) (P.standing pages.new) }
     ensures keeps { OnOk result (KeepsLines (P.standing pages.old) (P.standing pages.new)) }
@@ -50,7 +50,7 @@ pub(crate) fn has_row<P: Pages>(
     requires fits { FitsRoot _limits.now (P.standing pages.old).count place.now }
     ensures found { IsTrue (P.standing pages.old).told → (rows : List Row) (used : List ℕ) → IsRooted (P.standing pages.old).count (P.standing pages.old).current (root_at place.now) rows used → IfOk result (λ found. found ≡ is_some (row_get key rows)) }
     ensures sound { IsTrue (P.standing pages.old).told → (rows : List Row) (used : List ℕ) → IsRooted (P.standing pages.old).count (P.standing pages.old).current (root_at place.now) rows used → IfErr result IsFault }
-    ensures cause { HasCause (IsTreeDamage (P.standing pages.old).told (P.standing pages.old).count work.new.page) (P.standing pages.old) (P.standing pages.new) result }
+    ensures cause { HasCause (IsTreeDamage (P.standing pages.old).told (P.standing pages.old).count (P.standing pages.new).current work.new.page) (P.standing pages.old) (P.standing pages.new) result }
     ensures fails { IfErr result (Keeps (FailsTree (P.standing pages.old).count work.new.page)) }
     ensures continues { Continues (P.may_leave pages.old) (P.may_leave pages.new) (P.is_steady pages.old) (P.standing pages.old) (P.standing pages.new) }
     ensures keeps { OnOk result (KeepsLines (P.standing pages.old) (P.standing pages.new)) }

@@ -1,11 +1,10 @@
-use Rattle.line_pages.proofs.CauseLaws.{wider_cause}
-use Rattle.bplus_tree.proofs.TreeDamageLaws.{node_damage, node_fails}
+use Rattle.bplus_tree.proofs.TreeDamageLaws.{node_cause, node_fails}
 use Rattle.bplus_tree.proofs.access.load.Goals as goal
 
 pub returns-clause-cause : goal.returns-clause-cause
 returns-clause-cause g c =
     let old = g.P.Pages.standing c.args.pages.now in
-    wider_cause (λ e shown. node_damage old.told old.count old.current c.read_page.new.work.page e shown) c.read_page.result c.read_page.ensures.cause
+    node_cause old.count c.read_page.new.work.page old (g.P.Pages.standing c.read_page.new.pages) c.read_page.result c.read_page.ensures.unchanged c.read_page.ensures.cause
 
 pub returns-clause-fails : goal.returns-clause-fails
 returns-clause-fails g c = node_fails (g.P.Pages.standing c.args.pages.now).count c.read_page.new.work.page c.read_page.result c.read_page.ensures.fails

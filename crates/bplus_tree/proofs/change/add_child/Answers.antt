@@ -62,9 +62,9 @@ returns-then-is_full_root-clause-cause g c =
     let new = g.P.Pages.standing c.load.new.pages in
     let buffer = c.load.new.work.page in
     let yes_full = c.if-is_full_root.true in
-    subst (λ (s : Stop). HasCause {T = Outcome} (IsTreeDamage old.told old.count buffer) old new (Err s)) (sym c.full_root.ensures) (record {
-      failed = root_damage old.told old.count old.current buffer (Page c.args.page e.level e.low e.high 39)
-          (λ told. (c.requires.page, c.in_ok-load.ensures.bytes told, c.is_full_root.ensures.level yes_full, c.requires.span (c.is_full_root.ensures.root yes_full), refl, c.is_full_root.ensures.full yes_full));
+    subst (λ (s : Stop). HasCause {T = Outcome} (IsTreeDamage old.told old.count new.current buffer) old new (Err s)) (sym c.full_root.ensures) (record {
+      failed = root_damage old.told old.count new.current buffer (Page c.args.page e.level e.low e.high 39)
+          (λ told. (c.requires.page, c.in_ok-load.ensures.bytes told ∙ ap (λ (lines : Lines). bytes_of lines c.args.page) (sym (c.in_ok-load.ensures.keeps.current told)), c.is_full_root.ensures.level yes_full, c.requires.span (c.is_full_root.ensures.root yes_full), refl, c.is_full_root.ensures.full yes_full));
       kept = tt;
     })
 

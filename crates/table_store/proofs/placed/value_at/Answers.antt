@@ -1,11 +1,10 @@
-use Rattle.line_pages.proofs.CauseLaws.{wider_cause}
-use Rattle.bplus_tree.proofs.TreeDamageLaws.{node_damage, node_fails}
+use Rattle.bplus_tree.proofs.TreeDamageLaws.{node_cause, node_fails}
 use Rattle.table_store.proofs.placed.value_at.Goals as goal
 
 pub returns-clause-cause : goal.returns-clause-cause
 returns-clause-cause g c =
     let old = g.P.Pages.standing c.args.pages.now in
-    wider_cause (λ e shown. node_damage old.told old.count old.current c.get.new.work.page e shown) c.get.result c.get.ensures.cause
+    node_cause old.count c.get.new.work.page old (g.P.Pages.standing c.get.new.pages) c.get.result c.get.ensures.unchanged c.get.ensures.cause
 
 pub returns-clause-value : goal.returns-clause-value
 returns-clause-value g c = rw c.root_of-root.ensures at c.get.ensures.value

@@ -24,7 +24,7 @@ returns-then-accepted-self-clause-replies g c = λ told s shows.
 
 pub returns-then-accepted-self-clause-cause : goal.returns-then-accepted-self-clause-cause
 returns-then-accepted-self-clause-cause g c =
-    causes_weaker (IsNameDamage c.args.self.now (g.W.Devices.standing c.args.world.now) c.refuse_write.new.self.work.page) (IsNewRowsDamage c.args.self.now (g.W.Devices.standing c.args.world.now) c.refuse_write.new.self.work.page) _ _ c.refuse_write.result
+    causes_weaker (IsNameDamage c.args.self.now (g.W.Devices.standing c.args.world.now) c.refuse_write.new.self.work.page) (IsNewRowsDamage c.args.self.now (g.W.Devices.standing c.args.world.now) (g.W.Devices.standing c.refuse_write.new.world) c.refuse_write.new.self.work.page) _ _ c.refuse_write.result
     (λ e h. (inl h.0, inl h.1)) c.refuse_write.ensures.cause
 
 pub returns-then-accepted-self-clause-refused : goal.returns-then-accepted-self-clause-refused

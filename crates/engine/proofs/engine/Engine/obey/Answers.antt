@@ -67,6 +67,6 @@ returns-in-Scan g c =
       replies = c.scan.ensures.replies;
       begun = c.scan.ensures.begun;
       refused = c.scan.ensures.refused;
-      cause = causes_weaker _ (IsDamage c.args.self.now (g.W.Devices.standing c.args.world.now) c.scan.new.self.work.page) _ _ c.scan.result (λ e h. inl (inl h.0, λ told. inl (h.1 told))) c.scan.ensures.cause;
+      cause = causes_weaker _ (IsDamage c.args.self.now (g.W.Devices.standing c.args.world.now) (g.W.Devices.standing c.scan.new.world) c.scan.new.self.work.page) _ _ c.scan.result (λ e h. inl (inl h.0, λ told. inl (h.1 told))) c.scan.ensures.cause;
       reads = λ is. c.scan.ensures.reads;
     })

@@ -1,5 +1,6 @@
 use Rattle.std.proofs.Common.{◌≡◌, ◌∙◌, ap, rules, Ok, Some, List, ◌∷◌, [], sym, true}
 use Rattle.devices.specs.World.{now}
+use Rattle.store_meaning.specs.Layout.{pages}
 use Rattle.store_laws.specs.ShownPages.{pages_in}
 use Rattle.transactions.specs.StoreStanding.{book_sizes}
 use Rattle.slotted_page.specs.Rows.{row_put, row_delete}
@@ -8,9 +9,11 @@ use Rattle.script.specs.Tables.{with_table}
 use Rattle.script.specs.declared.command.Command.TheVariants as command
 use Rattle.script.specs.declared.command.Reason.TheVariants as reason
 use Rattle.script.specs.declared.command.Reply.TheVariants as reply
-use Rattle.engine.specs.Engine.{Shows}
+use Rattle.table_store.specs.Changed.{IsChangeDamage}
+use Rattle.engine.specs.Engine.{Shows, engine_sizes}
 use Rattle.engine.specs.Steps.{after_command}
-use Rattle.engine.proofs.CommandLaws.{on_device, does_fails, does_stays, does_writes, cause_fails, fault_is, store_shown}
+use Rattle.engine.proofs.DoesLaws.{pages_geometry}
+use Rattle.engine.proofs.CommandLaws.{on_device, does_fails, does_stays, does_writes, cause_fails_at, fault_is, store_shown}
 use Rattle.engine.proofs.RefusalLaws.{stays_kept}
 use Rattle.engine.proofs.AnswerLaws.{stepped, enough_pages, put_writes, put_holds, put_no_room, put_no_table}
 use Rattle.engine.proofs.engine.Engine.put_row.Goals as goal
@@ -26,8 +29,12 @@ returns-in_err-put-clause-does g c =
 
 pub returns-in_err-put-clause-cause : goal.returns-in_err-put-clause-cause
 returns-in_err-put-clause-cause g c =
-    cause_fails g.W.Devices.standing _ _ c.args.self.now.book c.put.new.pages.book.now (g.W.Devices.standing c.args.world.now) _ c.put.new.pages.dev.now _ _ _ _ _ _ c.from_residual.result c.in_err-put.field-0.0 (search rules) c.from_residual.ensures
+    let a = g.W.Devices.standing c.args.world.now in
+    let engine = c.args.self.now in
+    cause_fails_at g.W.Devices.standing _ (λ lines e. IsChangeDamage a.told engine.limits (pages (engine_sizes engine)) (pages_in (engine_sizes engine) (now a)) lines c.put.new.work.page e) engine.book c.put.new.pages.book.now a _ c.put.new.pages.dev.now _ _ _ _ _ _
+    c.from_residual.result c.in_err-put.field-0.0 (search rules) c.from_residual.ensures
     (rw c.over-store.ensures.same.0 at c.in_err-put.ensures.fails)
+    (pages_geometry engine.book c.put.new.pages.book.now a (g.W.Devices.standing c.put.new.pages.dev.now) _ _ _ _ _ _ (rw (c.over-store.ensures.same.0, c.over-store.ensures.same.1) at c.put.ensures.continues) (ap (λ x. (g.W.Devices.standing x).clock) c.over-store.ensures.before))
     (rw (c.over-store.ensures.same.0, c.over-store.ensures.same.1) at c.in_err-put.ensures.cause)
 
 pub returns-in-TableFull-clause-does : goal.returns-in-TableFull-clause-does
