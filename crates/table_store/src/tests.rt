@@ -1,4 +1,4 @@
-//! Each public call once with ample memory, worked examples, and each check of the catalog in turn.
+//! Each public call once with ample memory, worked examples, and two tables of interleaved keys against lists.
 ghost use Rattle.std.specs.Prelude.{◌+◌, ◌≤◌, OnOk};
 
 use crate::answer::{Created, Deleted, Got, Next, Stored};
@@ -294,11 +294,13 @@ fn makes_as_many_tables_as_there_may_be(rt: HostRuntime) -> Result<(), Early> {
     Ok(())
 }
 
-/// A table as a list: at each key the number of its value, or 0 where there is no row.
+/// A table as a list: at each place the number of its value, or 0 where there is no row. The key at place `i` is `3 * i` and
+/// the shift.
 #[derive(Drop)]
 struct Plain {
     numbers: [u64; 128],
     rows: u64,
+    shift: u64,
 }
 
 const MIXED: Limits = Limits {
@@ -307,6 +309,20 @@ const MIXED: Limits = Limits {
 };
 
 impl Plain {
+    fn empty(shift: u64) -> Plain {
+        Plain {
+            numbers: [0; 128],
+            rows: 0,
+            shift,
+        }
+    }
+
+    fn key(&self, at: u64) -> u64
+        ensures small { result ≤ 383 }
+    {
+        (at % 128) * 3 + self.shift % 3
+    }
+
     fn put(&mut self, key: u64, number: u64) -> Stored {
         let at = (key % 128) as usize;
         if self.numbers[at] == 0 {
@@ -346,10 +362,10 @@ fn agrees<P: Pages>(
     let key = (draw >> 8) % 128;
     let number = 1 + (draw >> 16) % 1000;
     if draw % 3 == 0 {
-        return Ok(delete(pages, &MIXED, name, 3 * key, work)? == plain.delete(key));
+        return Ok(delete(pages, &MIXED, name, plain.key(key), work)? == plain.delete(key));
     }
     let value = text(number)?;
-    Ok(put(pages, &MIXED, name, 3 * key, &value, work)? == plain.put(key, number))
+    Ok(put(pages, &MIXED, name, plain.key(key), &value, work)? == plain.put(key, number))
 }
 
 /// Whether the answer is the row with this key and this value, or none for the number 0.
@@ -364,7 +380,42 @@ fn is_row(next: &Next, key: u64, number: u64) -> Result<bool, Early> {
     }
 }
 
-/// Whether the rows of a table are those of a list.
+/// Whether the answer is this value, or none for the number 0.
+fn is_value(got: &Got, number: u64) -> Result<bool, Early> {
+    match got {
+        Got::Found(value) => {
+            let wanted = text(number)?;
+            Ok(number != 0 && value.bytes() == wanted.bytes())
+        }
+        Got::Absent => Ok(number == 0),
+        Got::NoTable => Ok(false),
+    }
+}
+
+/// Whether the table has the row of the list at this place, and no row at the keys beside it.
+fn same_row<P: Pages>(
+    pages: &mut P,
+    name: &Name,
+    plain: &Plain,
+    at: u64,
+    work: &mut Work,
+) -> Result<bool, Early>
+    requires ready { P.is_ready pages.old }
+    ensures ready { OnOk result (P.is_ready pages.new) }
+{
+    let key = plain.key(at);
+    let number = plain.numbers[(at % 128) as usize];
+    let next = scan_next(pages, &MIXED, name, key, key + 2, work)?;
+    let here = get(pages, &MIXED, name, key, work)?;
+    let beside = get(pages, &MIXED, name, key + 1, work)?;
+    let behind = get(pages, &MIXED, name, key + 2, work)?;
+    let scanned = is_row(&next, key, number)?;
+    let found = is_value(&here, number)?;
+    let alone = matches!(beside, Got::Absent) && matches!(behind, Got::Absent);
+    Ok(scanned && found && alone)
+}
+
+/// Whether the rows of a table are those of a list, and those of the other table's keys are not in it.
 fn same_rows<P: Pages>(
     pages: &mut P,
     name: &Name,
@@ -374,9 +425,8 @@ fn same_rows<P: Pages>(
     requires ready { P.is_ready pages.old }
     ensures ready { OnOk result (P.is_ready pages.new) }
 {
-    for key in 0..128u64 {
-        let next = scan_next(pages, &MIXED, name, 3 * key, 3 * key + 2, work)?;
-        if !is_row(&next, 3 * key, plain.numbers[key as usize])? {
+    for at in 0..128u64 {
+        if !same_row(pages, name, plain, at, work)? {
             return Ok(false);
         }
     }
@@ -432,17 +482,57 @@ fn keeps_two_tables_apart(rt: HostRuntime) -> Result<(), Early> {
     let mut two = Two {
         cat: named(b"cat")?,
         cow: named(b"cow")?,
-        first: Plain {
-            numbers: [0; 128],
-            rows: 0,
-        },
-        second: Plain {
-            numbers: [0; 128],
-            rows: 0,
-        },
+        first: Plain::empty(0),
+        second: Plain::empty(1),
     };
     assert!(rt; run_mixed(&mut pages, &mut two, &mut work)?);
     assert!(rt; same_rows(&mut pages, &two.cat, &two.first, &mut work)?);
     assert!(rt; same_rows(&mut pages, &two.cow, &two.second, &mut work)?);
+    Ok(())
+}
+
+#[test]
+fn keeps_long_and_short_names_apart(rt: HostRuntime) -> Result<(), Early> {
+    let mut pages = VecPages::new(rt.alloc(), 30, 20_000)?;
+    let mut work = Work::new();
+    pages.write_line(0, 0, &line([4, 0, 1, 0, 0, 0, 0, 0]))?;
+    let long = named(b"abcdefghijklmnopqrstuvwxyz01234")?;
+    let short = named(b"a")?;
+    let x = text(2)?;
+    let y = text(400)?;
+    assert_eq!(rt;
+        create(&mut pages, &TWO_TABLES, &long, &mut work)?,
+        Created::Made
+    );
+    assert_eq!(rt;
+        create(&mut pages, &TWO_TABLES, &short, &mut work)?,
+        Created::Made
+    );
+    assert_eq!(rt;
+        put(&mut pages, &TWO_TABLES, &long, 1, &x, &mut work)?,
+        Stored::Done
+    );
+    assert_eq!(rt;
+        put(&mut pages, &TWO_TABLES, &short, 1, &y, &mut work)?,
+        Stored::Done
+    );
+    let first = get(&mut pages, &TWO_TABLES, &long, 1, &mut work)?;
+    assert!(rt; is_value(&first, 2)?);
+    let second = get(&mut pages, &TWO_TABLES, &short, 1, &mut work)?;
+    assert!(rt; is_value(&second, 400)?);
+    assert_eq!(rt;
+        pages.read_line(0, 2)?,
+        line([
+            0x6766_6564_6362_611f,
+            0x6f6e_6d6c_6b6a_6968,
+            0x7776_7574_7372_7170,
+            0x3433_3231_307a_7978,
+            1,
+            1,
+            1,
+            0
+        ])
+    );
+    assert_eq!(rt; pages.read_line(0, 3)?, line([0x6101, 0, 0, 0, 2, 1, 1, 0]));
     Ok(())
 }
