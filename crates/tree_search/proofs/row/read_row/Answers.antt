@@ -1,4 +1,4 @@
-use Rattle.std.proofs.Common.{◌≡◌, ◌+◌, ◌*◌, ◌≤◌, IsTrue, arith, sym, ap, subst, ◌∙◌}
+use Rattle.std.proofs.Common.{◌≡◌, ◌+◌, ◌*◌, IsTrue, arith, sym, ap, subst, ◌∙◌}
 use Rattle.line_pages.specs.Bytes.{bytes_of, u16_at}
 use Rattle.line_pages.proofs.CostLaws.{lines_then}
 use Rattle.tree_search.proofs.CostLaws.{row_read}
