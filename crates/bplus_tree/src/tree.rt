@@ -10,6 +10,7 @@ ghost use Rattle.bplus_tree.specs.Changes.{ChangesRows};
 ghost use Rattle.bplus_tree.specs.Damage.{IsTreeDamage, FailsTree, IsLack, StandsIn};
 ghost use Rattle.page_space.specs.Stops.{IsFault, pages_at_hand};
 ghost use Rattle.page_space.specs.Written.{WritesNothing};
+ghost use Rattle.node_edit.specs.Record.{HoldsLength};
 ghost use Rattle.bplus_tree.specs.Record.{PutsRecord};
 ghost use Rattle.bplus_tree.specs.LineChanges.{PutsLines};
 
@@ -43,6 +44,7 @@ pub fn put_row<P: Pages>(
     ensures rows { IsTrue (P.standing pages.old).told → OnOk result (ChangesRows (P.standing pages.old).count (P.standing pages.old).current (P.standing pages.new).current root.old root.new (row_put key value.now)) }
     ensures again { IsTrue (P.standing pages.old).told → OnOk result (PutsRecord root.old key (length value.now) (P.standing pages.old) (P.standing pages.new)) }
     ensures lines { IsTrue (P.standing pages.old).told → OnOk result (PutsLines root.old key value.now (P.standing pages.old) (P.standing pages.new)) }
+    ensures same_root { IsTrue (P.standing pages.old).told → OnOk result ((rows : List Row) (used : List ℕ) → IsRooted (P.standing pages.old).count (P.standing pages.old).current root.old rows used → HoldsLength key (length value.now) rows → root.new ≡ root.old) }
     ensures room { OnOk result ((P.standing pages.old).room ≤ (P.standing pages.new).room + 600) }
     ensures some { OnOk result (1 ≤ root.new.page) }
     ensures page { OnOk result (root.new.page < (P.standing pages.old).count) }

@@ -9,3 +9,4 @@ pub mod ChangeLaws
 pub mod RowsLaws
 pub mod ScanLaws
 pub mod PlaceLaws
+pub mod RecordLaws

@@ -1,9 +1,14 @@
 -- A row that is put into a table.
-use Rattle.std.specs.Prelude.{ℕ, Bool, true, false, ◌||◌, nat_lt, List, length, Option, Some, None, is_some, if◌then◌else◌}
+use Rattle.std.specs.Prelude.{◌≡◌, ℕ, ◌-◌, Bool, true, false, ◌||◌, nat_lt, List, length, Option, Some, None, is_some, if◌then◌else◌}
 use Rattle.line_pages.specs.Lines.{Lines}
 use Rattle.line_pages.specs.Standing.{Standing, KeepsLines}
 use Rattle.slotted_page.specs.Rows.{Row, row_get, row_put}
+use Rattle.node_edit.specs.Record.{HoldsLength}
+use Rattle.tree_search.specs.Tree.{leaf_for}
+use Rattle.bplus_tree.specs.Record.{WritesRecord}
 use Rattle.table_catalog.specs.declared.limits.Limits.{Limits}
+use Rattle.table_catalog.specs.declared.entry.Place.{Place}
+use Rattle.table_catalog.specs.Catalog.{entries, place_of, entry_rows}
 use Rattle.table_store.specs.declared.answer.Stored.{Stored}
 use Rattle.table_store.specs.declared.answer.Stored.TheVariants.{Done, TableFull, NoTable}
 use Rattle.table_store.specs.Changed.{ChangesTable}
@@ -30,3 +35,9 @@ abbrev pub KeepsUnlessDone : {A : Type 0} → Standing A → Standing A → Stor
 KeepsUnlessDone old new Done = Unit {0}
 KeepsUnlessDone old new TableFull = KeepsLines old new
 KeepsUnlessDone old new NoTable = KeepsLines old new
+
+-- where the table has a value of this length at the key, lines of the key's record in its leaf are written alone
+abbrev pub RewritesRecord : {A : Type 0} → List ℕ → ℕ → ℕ → Standing A → Standing A → Type 0
+RewritesRecord name key size old new =
+    (place : Place) → place_of name 0 (entries old.current) ≡ Some place → HoldsLength key size (entry_rows old.current place.entry)
+    → WritesRecord (leaf_for old.current (place.entry.levels - 1) place.entry.root key) key old new

@@ -5,6 +5,7 @@ ghost use Rattle.slotted_page.specs.Rows.{Row, row_get};
 ghost use Rattle.slotted_page.specs.Search.{Keeps};
 ghost use Rattle.tree_search.specs.Tree.{IsRooted};
 ghost use Rattle.page_space.specs.Stops.{IsFault};
+ghost use Rattle.page_space.specs.Written.{WritesNothing};
 ghost use Rattle.bplus_tree.specs.Damage.{IsTreeDamage, FailsTree};
 ghost use Rattle.table_catalog.specs.Catalog.{entry_in as entry_of_line, FitsRoot};
 ghost use Rattle.table_store.specs.Changed.{root_at, stays_as, Enters};
@@ -30,6 +31,7 @@ fn value_at<P: Pages>(
     ensures fails { IfErr result (Keeps (FailsTree (P.standing pages.old).count work.new.page)) }
     ensures continues { Continues (P.may_leave pages.old) (P.may_leave pages.new) (P.is_steady pages.old) (P.standing pages.old) (P.standing pages.new) }
     ensures keeps { OnOk result (KeepsLines (P.standing pages.old) (P.standing pages.new)) }
+    ensures nothing { OnOk result (WritesNothing (P.standing pages.old) (P.standing pages.new)) }
     ensures few { (P.standing pages.new).visits ≤ (P.standing pages.old).visits + 4 }
     ensures ready { OnOk result (P.is_ready pages.new) }
     ensures steady { P.is_steady pages.old → OnOk result (P.is_steady pages.new) }
@@ -54,6 +56,7 @@ pub(crate) fn has_row<P: Pages>(
     ensures fails { IfErr result (Keeps (FailsTree (P.standing pages.old).count work.new.page)) }
     ensures continues { Continues (P.may_leave pages.old) (P.may_leave pages.new) (P.is_steady pages.old) (P.standing pages.old) (P.standing pages.new) }
     ensures keeps { OnOk result (KeepsLines (P.standing pages.old) (P.standing pages.new)) }
+    ensures nothing { OnOk result (WritesNothing (P.standing pages.old) (P.standing pages.new)) }
     ensures few { (P.standing pages.new).visits ≤ (P.standing pages.old).visits + 4 }
     ensures ready { OnOk result (P.is_ready pages.new) }
     ensures steady { P.is_steady pages.old → OnOk result (P.is_steady pages.new) }

@@ -141,3 +141,21 @@ returns-in_ok-write_new-in-Cut-clause-lines g c = λ told rows used rooted fits.
     let w = root_lines c.args.root.now c.top_of-top.result _ c.args.key c.args.value.now (g.P.Pages.standing c.args.pages.now) (g.P.Pages.standing c.put_in.new.pages) (Cut c.in-Cut.separator c.in-Cut.right) c.page_count-count.ensures.count c.top_of-top.ensures
     (rw c.in-Cut.is at c.in_ok-put_in.ensures.lines) told rows used rooted fits in
     let never = w.0 in absurd (cc)
+
+pub returns-in-Whole-clause-same_root : goal.returns-in-Whole-clause-same_root
+returns-in-Whole-clause-same_root g c = λ told rows used rooted holds. refl
+
+pub returns-in-Short-clause-same_root : goal.returns-in-Short-clause-same_root
+returns-in-Short-clause-same_root g c = λ told rows used rooted holds. refl
+
+pub returns-in-Alone-clause-same_root : goal.returns-in-Alone-clause-same_root
+returns-in-Alone-clause-same_root g c = λ told rows used rooted holds.
+    let w = root_again c.args.root.now c.top_of-top.result _ c.args.key (length c.args.value.now) (g.P.Pages.standing c.args.pages.now) (g.P.Pages.standing c.put_in.new.pages) (Alone c.in-Alone.child) c.page_count-count.ensures.count c.top_of-top.ensures
+    (rw c.in-Alone.is at c.in_ok-put_in.ensures.again) told rows used rooted holds in
+    let never = w.0 in absurd (cc)
+
+pub returns-in_ok-write_new-in-Cut-clause-same_root : goal.returns-in_ok-write_new-in-Cut-clause-same_root
+returns-in_ok-write_new-in-Cut-clause-same_root g c = λ told rows used rooted holds.
+    let w = root_again c.args.root.now c.top_of-top.result _ c.args.key (length c.args.value.now) (g.P.Pages.standing c.args.pages.now) (g.P.Pages.standing c.put_in.new.pages) (Cut c.in-Cut.separator c.in-Cut.right) c.page_count-count.ensures.count c.top_of-top.ensures
+    (rw c.in-Cut.is at c.in_ok-put_in.ensures.again) told rows used rooted holds in
+    let never = w.0 in absurd (cc)

@@ -1,4 +1,4 @@
-use Rattle.std.proofs.Common.{rules, not, ap, refl, sym, ◌∙◌}
+use Rattle.std.proofs.Common.{rules, not, ap, refl, length, IsTrue, sym, subst, ◌∙◌}
 use Rattle.table_catalog.specs.Catalog.{tables}
 use Rattle.table_catalog.specs.Stored.{is_known}
 use Rattle.table_store.specs.Putting.{stored_of, is_no_table}
@@ -8,6 +8,8 @@ use Rattle.slotted_page.specs.Search.{Keeps}
 use Rattle.table_store.specs.Changed.{FailsChange}
 use Rattle.table_store.proofs.FailsLaws.{change_by_catalog, change_by_tree}
 use Rattle.table_catalog.proofs.TouchesLaws.{looks_up, looks_up_on}
+use Rattle.page_space.proofs.TouchedLaws.{nothing_read}
+use Rattle.table_store.proofs.RecordLaws.{again_named}
 use Rattle.table_store.proofs.storing.put.Goals as goal
 
 pub returns-in-None-clause-answer : goal.returns-in-None-clause-answer
@@ -46,3 +48,14 @@ returns-in-Some-clause-lines g c = λ told.
     let old = g.P.Pages.standing c.args.pages.now in
     let mid = g.P.Pages.standing c.find_entry.new.pages in
     looks_up_on c.args.name.now old mid (g.P.Pages.standing c.put_at.new.pages) c.put_at.result (c.in_ok-find_entry.ensures.lines told) c.put_at.ensures.continues.touches
+
+pub returns-in-None-clause-again : goal.returns-in-None-clause-again
+returns-in-None-clause-again g c = λ told store place is holds. let none = sym (c.in_ok-find_entry.ensures.place told) ∙ c.in-None.is in absurd (cc)
+
+pub returns-in-Some-clause-again : goal.returns-in-Some-clause-again
+returns-in-Some-clause-again g c = λ told.
+    let old = g.P.Pages.standing c.args.pages.now in
+    let mid = g.P.Pages.standing c.find_entry.new.pages in
+    let found = c.in_ok-find_entry.ensures in
+    again_named c.args.limits.now c.args.name.now c.args.key (length c.args.value.now) c.in-Some.place old mid (g.P.Pages.standing c.put_at.new.pages) c.put_at.result (sym (found.place told) ∙ c.in-Some.is) (rw c.in-Some.is at found.fits)
+    (found.reads.current told) found.continues.count (nothing_read found.reads) (c.put_at.ensures.again (subst IsTrue (sym found.continues.told) told))

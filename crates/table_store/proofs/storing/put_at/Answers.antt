@@ -1,4 +1,4 @@
-use Rattle.std.proofs.Common.{◌≡◌, ◌+◌, ◌*◌, ◌/◌, Result, IfErr, rules, ◌≤◌, ℕ, List, Some, Bool, is_some, IsTrue, sym, subst, ◌∙◌, arith}
+use Rattle.std.proofs.Common.{◌≡◌, ◌+◌, ◌*◌, ◌/◌, Result, IfErr, rules, ◌≤◌, ℕ, List, length, Some, Bool, is_some, IsTrue, sym, subst, ◌∙◌, arith}
 use Rattle.slotted_page.specs.Rows.{row_get, row_put}
 use Rattle.table_catalog.specs.Catalog.{entries, place_of, entry_rows, entry_pages}
 use Rattle.table_catalog.specs.Stored.{IsStore}
@@ -9,6 +9,8 @@ use Rattle.table_store.proofs.RowsLaws.{place_rooted, as_before, is_full, is_sto
 use Rattle.table_store.proofs.storing.put_at.Goals.{else-not-found-via-then-not-found+else-place-limits, else-not-found-via-else-not-found}
 use Rattle.slotted_page.specs.Search.{Keeps}
 use Rattle.bplus_tree.specs.Damage.{FailsTree}
+use Rattle.page_space.proofs.TouchedLaws.{only_nothing}
+use Rattle.table_store.proofs.RecordLaws.{again_found}
 use Rattle.table_store.proofs.storing.put_at.Goals as goal
 
 pub returns-then-place-limits-clause-answer : goal.returns-then-place-limits-clause-answer
@@ -70,3 +72,14 @@ returns-in_err-store_row-clause-fails g c =
     let here : Keeps (FailsTree (g.P.Pages.standing c.args.pages.now).count c.store_row.new.work.page) c.in_err-store_row.field-0.0 =
     subst (λ (n : ℕ). Keeps (FailsTree n c.store_row.new.work.page) c.in_err-store_row.field-0.0) c.in_ok-found.ensures.continues.count c.in_err-store_row.ensures.fails in
     search (rules, here)
+
+pub returns-then-place-limits-clause-again : goal.returns-then-place-limits-clause-again
+returns-then-place-limits-clause-again g c = λ told all used rooted holds. only_nothing _ _ c.in_ok-found.ensures.nothing
+
+pub returns-clause-again : goal.returns-clause-again
+returns-clause-again g c = λ told.
+    let old = g.P.Pages.standing c.args.pages.now in
+    let mid = g.P.Pages.standing c.has_row.new.pages in
+    let found = c.in_ok-found.ensures in
+    again_found c.args.place.now c.in_ok-found.found c.args.key (length c.args.value.now) old mid (g.P.Pages.standing c.store_row.new.pages) (found.keeps.current told) found.continues.count found.nothing (found.found told)
+    (c.in_ok-store_row.ensures.again (subst IsTrue (sym found.continues.told) told))

@@ -1,4 +1,4 @@
-use Rattle.std.proofs.Common.{◌+◌, ◌≤◌, cond, Result, IsTrue, IfErr, refl, sym, subst, rules}
+use Rattle.std.proofs.Common.{◌+◌, ◌≤◌, cond, length, Result, IsTrue, IfErr, refl, sym, subst, rules}
 use Rattle.line_pages.specs.declared.stop.Stop.{Stop}
 use Rattle.page_space.specs.Stops.{IsFault}
 use Rattle.slotted_page.specs.Rows.{row_put}
@@ -7,6 +7,7 @@ use Rattle.table_store.proofs.RowsLaws.{rows_put, few_after, sound_put}
 use Rattle.table_store.proofs.PlaceLaws.{stepped_unless}
 use Rattle.bplus_tree.specs.Damage.{FailsTree}
 use Rattle.table_catalog.proofs.FailsLaws.{never_keeps}
+use Rattle.table_store.proofs.RecordLaws.{again_stored}
 use Rattle.table_store.proofs.storing.store_row.Goals as goal
 
 pub returns-clause-changed : goal.returns-clause-changed
@@ -38,3 +39,10 @@ returns-in_err-put_row-clause-sound g c = λ told name store is found enough.
 
 pub returns-clause-fails : goal.returns-clause-fails
 returns-clause-fails g c = never_keeps (FailsTree (g.P.Pages.standing c.args.pages.now).count c.put_row.new.work.page) c.update_place.result c.update_place.ensures.cause
+
+pub returns-clause-again : goal.returns-clause-again
+returns-clause-again g c = λ told.
+    let put = c.in_ok-put_row.ensures in
+    again_stored c.args.place.now c.put_row.new.root c.rows_after-rows.result c.args.found c.args.key (length c.args.value.now) (g.P.Pages.standing c.args.pages.now) (g.P.Pages.standing c.put_row.new.pages)
+    (g.P.Pages.standing c.update_place.new.pages) c.update_place.result (rw (c.root_of-root.ensures, c.bytes.ensures.value) at (put.again told)) (rw (c.root_of-root.ensures, c.bytes.ensures.value) at (put.same_root told))
+    c.rows_after-rows.ensures c.update_place.ensures.unwritten
