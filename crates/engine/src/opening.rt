@@ -17,7 +17,7 @@ use transactions::Book;
 impl Engine {
     ghost use Rattle.engine.specs.Holds.{Holds, InOrder, AreLimits};
     ghost use Rattle.nvm_layout.specs.Sizes.{sizes_of};
-    ghost use Rattle.engine.specs.Engine.{StandsFor};
+    ghost use Rattle.engine.specs.Engine.{StandsFor, IsSteadyFor};
     ghost use Rattle.engine.specs.Opening.{Opens, ShowsHeld, KeepsOrder, IsOver};
     ghost use Rattle.engine.specs.Resting.{Rests};
     ghost use Rattle.store_laws.specs.ShownPages.{committed_in};
@@ -32,6 +32,7 @@ impl Engine {
 
         // What the engine stands for.
         ensures stands { IfOk result (λ engine. StandsFor engine (W.Devices.standing world.new)) }
+        ensures steady { IfOk result (λ engine. IsSteadyFor engine (W.Devices.standing world.new)) }
         ensures low { IfOk result (λ engine. reach engine.book ≤ 2 ^ 61) }
         ensures rests { IsTrue (W.Devices.standing world.old).told → IfOk result (λ engine. Rests (committed_in (now (W.Devices.standing world.old))) engine (W.Devices.standing world.new)) }
         ensures shows { IsTrue (W.Devices.standing world.old).told → (g : Sizes) (T : List Table) → Holds g T (now (W.Devices.standing world.old)) → IfOk result (ShowsHeld g T (W.Devices.standing world.new)) }

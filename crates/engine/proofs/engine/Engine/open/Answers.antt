@@ -19,11 +19,15 @@ returns-clause-rests g c = λ told.
     over_rests c.in_ok-parts.parts c.over.result (g.W.Devices.standing c.args.world.now) (g.W.Devices.standing c.recover.new.dev) c.in_ok-parts.ensures.goes c.in_ok-parts.ensures.parts c.over.ensures
     (c.in_ok-parts.ensures.recovered told) (c.in_ok-parts.ensures.keeps told)
 
+pub returns-clause-steady : goal.returns-clause-steady
+returns-clause-steady g c =
+    over_steady c.in_ok-parts.parts c.over.result (g.W.Devices.standing c.args.world.now) (g.W.Devices.standing c.recover.new.dev) c.in_ok-parts.ensures.goes c.in_ok-parts.ensures.parts c.over.ensures
+    (λ told_now. (c.in_ok-parts.ensures.recovered told_now).steady)
+
 pub returns-clause-order : goal.returns-clause-order
 returns-clause-order g c = λ told sizes T order. record {
   moments = order_stays sizes T (g.W.Devices.standing c.args.world.now) (g.W.Devices.standing c.recover.new.dev) (c.in_ok-parts.ensures.keeps told) order;
-  steady = over_steady c.in_ok-parts.parts c.over.result (g.W.Devices.standing c.args.world.now) (g.W.Devices.standing c.recover.new.dev) c.in_ok-parts.ensures.goes c.in_ok-parts.ensures.parts c.over.ensures
-      (λ told_now. (c.in_ok-parts.ensures.recovered told_now).steady);
+  steady = returns-clause-steady g c;
 }
 
 pub returns-in_err-parts-clause-order : goal.returns-in_err-parts-clause-order
