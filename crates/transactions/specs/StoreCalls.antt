@@ -59,38 +59,42 @@ LeavesOnly g lines d = (left : Lines) → MayLeave g d d.clock left → left ≡
 abbrev pub has_room : Book → Bool
 has_room book = nat_le (1920 * book.log.geometry.writes + 1) (ring_lines (book_sizes book) - (book.log.tail - book.log.start))
 
--- The log has room for the longest transaction, behind a checkpoint where it had none.
+-- The log has room for the longest transaction, behind a checkpoint where it had none, and then it names no line.
 pub record MakesRoom (old new : Book) : Type 0 where
   pub is_open : new.is_open ≡ false
   pub room : new.room ≡ 0
   pub start : new.log.start ≡ (if has_room old then old.log.start else old.log.tail)
   pub tail : new.log.tail ≡ old.log.tail
+  pub loose : pairs_of new.loose ≡ (if has_room old then pairs_of old.loose else no_pairs)
   pub takes : new.log.tail + (1920 * new.log.geometry.writes + 1) ≤ new.log.start + ring_lines (book_sizes new)
 
--- A transaction begins, behind a checkpoint where the log had no room for it.
+-- A transaction begins, behind a checkpoint where the log had no room for it, and then the log names no line.
 pub record Begins (old new : Book) : Type 0 where
   pub is_open : new.is_open ≡ true
   pub accepted : new.accepted ≡ 0
   pub room : new.room ≡ 640
   pub start : new.log.start ≡ (if has_room old then old.log.start else old.log.tail)
   pub tail : new.log.tail ≡ old.log.tail
+  pub loose : pairs_of new.loose ≡ (if has_room old then pairs_of old.loose else no_pairs)
   pub reach_rises : reach new ≤ reach old + 1921
 
--- A write of the transaction is done; the next one, if there is one, may write 640 lines.
+-- A write of the transaction is done; the next one, if there is one, may write 640 lines. The log names the same lines.
 pub record NextWrite (old new : Book) : Type 0 where
   pub log : new.log ≡ old.log
+  pub loose : new.loose ≡ old.loose
   pub is_open : new.is_open ≡ true
   pub accepted : new.accepted ≡ old.accepted + 1
   pub room : new.room ≡ (if old.accepted + 1 == old.log.geometry.writes then 0 else 640)
   pub reach_rises : reach new ≤ reach old + 1921
 
--- The transaction ends.
+-- The transaction ends. The log names the same lines.
 pub record Ends (old new : Book) : Type 0 where
   pub is_open : new.is_open ≡ false
   pub accepted : new.accepted ≡ old.accepted
   pub room : new.room ≡ 0
   pub start : new.log.start ≡ old.log.start
   pub tail : new.log.tail ≡ old.log.tail + 1
+  pub loose : new.loose ≡ old.loose
   pub reach_rises : reach new ≤ reach old + 1921
 
 -- The log is emptied, and names no line.
