@@ -1,5 +1,5 @@
 -- Calls on pages in order answer no damage.
-use Rattle.std.proofs.Common.{◌≡◌, ℕ, ◌+◌, ◌*◌, inl, inr, Bool, true, List, [], ◌∷◌, ◌++◌, None, Result, Ok, Err, IfErr, ◌==◌, ◌&&◌, ◌||◌, refl, sym, ◌∙◌, nat_le}
+use Rattle.std.proofs.Common.{◌≡◌, ℕ, inl, inr, Bool, true, List, [], ◌∷◌, ◌++◌, None, Result, Ok, Err, IfErr, ◌||◌, refl, sym, ◌∙◌, nat_le}
 use Rattle.std.proofs.lemmas.Bool.{cases_Bool, cases_eq, eq-eqb, ne_eqb}
 use Rattle.line_pages.specs.declared.stop.Stop.{Stop}
 use Rattle.line_pages.specs.declared.stop.Stop.TheVariants.{Nvm, Ssd, Damaged}
@@ -7,15 +7,14 @@ use Rattle.line_pages.specs.declared.stop.Evidence.TheVariants.{Super, Frames, L
 use Rattle.line_pages.specs.Lines.{Lines}
 use Rattle.slotted_page.specs.declared.root.Expect.{Expect}
 use Rattle.slotted_page.specs.Checks.{first_failure}
-use Rattle.std.specs.List.{list_all}
 use Rattle.line_pages.specs.Bytes.{bytes_of}
-use Rattle.slotted_page.specs.Rows.{keys, ascends}
-use Rattle.slotted_page.specs.Room.{leaf_room, leaf_floor, inner_room, inner_floor}
-use Rattle.slotted_page.specs.Node.{page_kind, page_level, entry_count, heap_start, slots, bytes_used, is_in_heap, all_apart, has_printable_value, begins_at, first_keys, is_page_below, leaf_rows, children, first_failing, IsWellFormed}
+use Rattle.slotted_page.specs.Room.{leaf_floor, inner_floor}
+use Rattle.slotted_page.specs.Node.{entry_count, slots, bytes_used, first_failing, IsWellFormed}
 use Rattle.node_edit.specs.Edit.{loose}
 use Rattle.tree_search.specs.Tree.{IsTree}
 use Rattle.tree_search.proofs.SearchLaws.{well_formed_top}
 use Rattle.page_search.specs.Answers.{ShowsDamage}
+use Rattle.page_search.proofs.DamageLaws.{leaf_front, inner_front}
 use Rattle.page_space.specs.Stops.{IsFault}
 
 -- a page that is well formed shows no damage
@@ -37,24 +36,6 @@ last_holds (x ∷ xs) n b e =
       | inl holds ↦ rw holds (last_holds xs n b (rw holds at e))
       | inr fails ↦ let there = rw fails at e in absurd (cc)
     ]
-
-abbrev leaf_front : List ℕ → Expect → List (ℕ × Bool)
-leaf_front bytes expect =
-    (11, page_kind bytes == 1)
-    ∷ (12, page_level bytes == expect.level)
-    ∷ (13, nat_le (64 + 4 * entry_count bytes) (heap_start bytes) && nat_le (heap_start bytes) 4096)
-    ∷ (14, list_all (is_in_heap (heap_start bytes)) (slots bytes) && all_apart (slots bytes))
-    ∷ (15, nat_le (bytes_used (slots bytes)) leaf_room)
-    ∷ (16, ascends expect.low expect.high (keys (leaf_rows bytes)))
-    ∷ (17, list_all has_printable_value (leaf_rows bytes)) ∷ []
-
-abbrev inner_front : List ℕ → Expect → List (ℕ × Bool)
-inner_front bytes expect =
-    (11, page_kind bytes == 2)
-    ∷ (12, page_level bytes == expect.level)
-    ∷ (18, nat_le 2 (entry_count bytes) && nat_le (entry_count bytes) inner_room)
-    ∷ (19, begins_at expect.low (children bytes) && ascends expect.low expect.high (first_keys (children bytes)))
-    ∷ (20, list_all (is_page_below expect.pages) (children bytes)) ∷ []
 
 pub loose_well : (bytes : List ℕ) (expect : Expect) → IsWellFormed bytes expect → IsWellFormed bytes (loose expect)
 unfolding first_failing

@@ -25,7 +25,8 @@ last_more (x ∷ xs) n c b e =
       | inr fails ↦ let there = rw fails at e in rw fails there
     ]
 
-abbrev leaf_front : List ℕ → Expect → List (ℕ × Bool)
+-- the checks of a leaf and of an inner page, but the last, which a root need not pass
+abbrev pub leaf_front : List ℕ → Expect → List (ℕ × Bool)
 leaf_front bytes expect =
     (11, page_kind bytes == 1)
     ∷ (12, page_level bytes == expect.level)
@@ -35,7 +36,7 @@ leaf_front bytes expect =
     ∷ (16, ascends expect.low expect.high (keys (leaf_rows bytes)))
     ∷ (17, list_all has_printable_value (leaf_rows bytes)) ∷ []
 
-abbrev inner_front : List ℕ → Expect → List (ℕ × Bool)
+abbrev pub inner_front : List ℕ → Expect → List (ℕ × Bool)
 inner_front bytes expect =
     (11, page_kind bytes == 2)
     ∷ (12, page_level bytes == expect.level)

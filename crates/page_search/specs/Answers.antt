@@ -1,5 +1,5 @@
 -- What the search by single lines and the reading of a whole page answer.
-use Rattle.std.specs.Prelude.{◌≡◌, ℕ, List, Option, Some, None}
+use Rattle.std.specs.Prelude.{◌≡◌, ℕ, true, List, Option, Some, None}
 use Rattle.line_pages.specs.declared.stop.Evidence.{Evidence}
 use Rattle.line_pages.specs.declared.stop.Evidence.TheVariants.{Super, Frames, Log, Page, Walk}
 use Rattle.line_pages.specs.declared.stop.Stop.{Stop}
@@ -7,7 +7,7 @@ use Rattle.line_pages.specs.declared.stop.Stop.TheVariants.{Nvm, Ssd, Damaged}
 use Rattle.slotted_page.specs.declared.root.Expect.{Expect}
 use Rattle.slotted_page.specs.declared.spot.Spot.{Spot}
 use Rattle.slotted_page.specs.Node.{page_kind, page_level, entry_count, first_failing}
-use Rattle.slotted_page.specs.Search.{IsSpot, IsSafeSpot}
+use Rattle.slotted_page.specs.Search.{is_root_span, IsSpot, IsSafeSpot}
 use Rattle.page_search.specs.declared.probe.Header.{Header}
 
 -- The right answer of a search that answers nothing where something looks odd, which it does not on a well-formed page.
@@ -44,3 +44,9 @@ abbrev pub ShowsDamage : ℕ → Expect → List ℕ → Stop → Type 0
 ShowsDamage number expect bytes Nvm = Unit {0}
 ShowsDamage number expect bytes Ssd = Unit {0}
 ShowsDamage number expect bytes (Damaged evidence) = IsShownDamage number expect bytes evidence
+
+-- What is expected can be told by the evidence, which has neither the pages of the store nor whether the page is a root: it names
+-- the pages of the store, and the bounds of a root come with a root.
+pub record FitsEvidence (count : ℕ) (expect : Expect) : Type 0 where
+  pub pages : expect.pages ≡ count
+  pub root : is_root_span expect.low expect.high ≡ true → expect.root ≡ true

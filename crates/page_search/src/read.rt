@@ -1,11 +1,11 @@
 //! A whole page read and checked.
-ghost use Rattle.std.specs.Prelude.{false, ◌≡◌, ◌+◌, ◌<◌, ◌≤◌, true, length, IsTrue, OnOk, IfErr};
+ghost use Rattle.std.specs.Prelude.{false, ◌≡◌, ◌+◌, ◌<◌, ◌≤◌, length, IsTrue, OnOk, IfErr};
 ghost use Rattle.line_pages.specs.Bytes.{bytes_of};
 ghost use Rattle.line_pages.specs.Touch.{begins};
 ghost use Rattle.line_pages.specs.Standing.{Continues, HasCause, ReadsPage};
 ghost use Rattle.slotted_page.specs.Node.{IsWellFormed};
-ghost use Rattle.slotted_page.specs.Search.{is_root_span, IsNodeDamage, FailsNode, Keeps, Unchanged};
-ghost use Rattle.page_search.specs.Answers.{IsShownDamage, ShowsDamage};
+ghost use Rattle.slotted_page.specs.Search.{IsNodeDamage, FailsNode, Keeps, Unchanged};
+ghost use Rattle.page_search.specs.Answers.{FitsEvidence, IsShownDamage, ShowsDamage};
 ghost use Rattle.slotted_page.specs.Work.{KeepsOthers};
 
 use line_pages::{Evidence, Pages, Stop, copy_page};
@@ -21,15 +21,14 @@ pub fn read_page<P: Pages>(
 ) -> Result<(), Stop>
     requires ready { P.is_ready pages.old }
     requires page { page < (P.standing pages.old).count }
-    requires pages { expect.now.pages ≡ (P.standing pages.old).count }
-    requires root { is_root_span expect.now.low expect.now.high ≡ true → expect.now.root ≡ true }
     // what the page is
     ensures well { OnOk result (IsWellFormed work.new.page expect.now) }
     ensures size { OnOk result (length work.new.page ≡ 4096) }
     ensures bytes { IsTrue (P.standing pages.old).told → OnOk result (work.new.page ≡ bytes_of (P.standing pages.old).current page) }
     ensures damage { IsTrue (P.standing pages.old).told → IfErr result (ShowsDamage page expect.now (bytes_of (P.standing pages.old).current page)) }
-    ensures cause { HasCause (λ e. IsTrue (P.standing pages.old).told → IsNodeDamage (P.standing pages.old).count (P.standing pages.old).current work.new.page e) (P.standing pages.old) (P.standing pages.new) result }
-    ensures fails { IfErr result (Keeps (FailsNode (P.standing pages.old).count work.new.page)) }
+    ensures shown { HasCause (λ e. IsShownDamage page expect.now work.new.page e × (IsTrue (P.standing pages.old).told → work.new.page ≡ bytes_of (P.standing pages.old).current page)) (P.standing pages.old) (P.standing pages.new) result }
+    ensures cause { FitsEvidence (P.standing pages.old).count expect.now → HasCause (λ e. IsTrue (P.standing pages.old).told → IsNodeDamage (P.standing pages.old).count (P.standing pages.old).current work.new.page e) (P.standing pages.old) (P.standing pages.new) result }
+    ensures fails { FitsEvidence (P.standing pages.old).count expect.now → IfErr result (Keeps (FailsNode (P.standing pages.old).count work.new.page)) }
     ensures unchanged { IfErr result (Unchanged (P.standing pages.old) (P.standing pages.new)) }
     // what stays
     ensures continues { Continues (P.may_leave pages.old) (P.may_leave pages.new) (P.is_steady pages.old) (P.standing pages.old) (P.standing pages.new) }

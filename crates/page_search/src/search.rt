@@ -1,12 +1,12 @@
 //! The search for a key in one page.
-ghost use Rattle.std.specs.Prelude.{false, ◌≡◌, ◌+◌, ◌<◌, ◌≤◌, true, IsTrue, OnOk, IfOk, IfErr};
+ghost use Rattle.std.specs.Prelude.{false, ◌≡◌, ◌+◌, ◌<◌, ◌≤◌, IsTrue, OnOk, IfOk, IfErr};
 ghost use Rattle.line_pages.specs.Bytes.{bytes_of};
 ghost use Rattle.line_pages.specs.Touch.{begins};
 ghost use Rattle.line_pages.specs.Cost.{AddsLines, Costs};
 ghost use Rattle.line_pages.specs.Standing.{Continues, HasCause, ReadsPage};
 ghost use Rattle.slotted_page.specs.Node.{IsWellFormed, page_level};
-ghost use Rattle.slotted_page.specs.Search.{is_root_span, IsSpot, IsSafeSpot, IsNodeDamage, FailsNode, Keeps, Unchanged};
-ghost use Rattle.page_search.specs.Answers.{ShowsDamage};
+ghost use Rattle.slotted_page.specs.Search.{IsSpot, IsSafeSpot, IsNodeDamage, FailsNode, Keeps, Unchanged};
+ghost use Rattle.page_search.specs.Answers.{FitsEvidence, IsShownDamage, ShowsDamage};
 ghost use Rattle.page_search.specs.Cost.{Searches, search_lines};
 ghost use Rattle.slotted_page.specs.Work.{KeepsOthers};
 
@@ -26,8 +26,6 @@ pub fn find<P: Pages>(
 ) -> Result<Spot, Stop>
     requires ready { P.is_ready pages.old }
     requires page { page < (P.standing pages.old).count }
-    requires pages { expect.now.pages ≡ (P.standing pages.old).count }
-    requires root { is_root_span expect.now.low expect.now.high ≡ true → expect.now.root ≡ true }
     requires above { expect.now.low ≤ key }
     requires within { key ≤ expect.now.high }
     // what is found
@@ -35,8 +33,9 @@ pub fn find<P: Pages>(
     ensures level { IsTrue (P.standing pages.old).told → OnOk result (page_level (bytes_of (P.standing pages.old).current page) ≡ expect.now.level) }
     ensures safe { IfOk result (IsSafeSpot expect.now key) }
     ensures damage { IsTrue (P.standing pages.old).told → IfErr result (ShowsDamage page expect.now (bytes_of (P.standing pages.old).current page)) }
-    ensures cause { HasCause (λ e. IsTrue (P.standing pages.old).told → IsNodeDamage (P.standing pages.old).count (P.standing pages.old).current work.new.page e) (P.standing pages.old) (P.standing pages.new) result }
-    ensures fails { IfErr result (Keeps (FailsNode (P.standing pages.old).count work.new.page)) }
+    ensures shown { HasCause (λ e. IsShownDamage page expect.now work.new.page e × (IsTrue (P.standing pages.old).told → work.new.page ≡ bytes_of (P.standing pages.old).current page)) (P.standing pages.old) (P.standing pages.new) result }
+    ensures cause { FitsEvidence (P.standing pages.old).count expect.now → HasCause (λ e. IsTrue (P.standing pages.old).told → IsNodeDamage (P.standing pages.old).count (P.standing pages.old).current work.new.page e) (P.standing pages.old) (P.standing pages.new) result }
+    ensures fails { FitsEvidence (P.standing pages.old).count expect.now → IfErr result (Keeps (FailsNode (P.standing pages.old).count work.new.page)) }
     ensures unchanged { IfErr result (Unchanged (P.standing pages.old) (P.standing pages.new)) }
     // what is read of a page that is well formed
     ensures lines { IsTrue (P.standing pages.old).told → IsWellFormed (bytes_of (P.standing pages.old).current page) expect.now → OnOk result (AddsLines (Searches expect.now.level (bytes_of (P.standing pages.old).current page)) (P.standing pages.old) (P.standing pages.new)) }
@@ -65,16 +64,15 @@ fn find_whole<P: Pages>(
 ) -> Result<Spot, Stop>
     requires ready { P.is_ready pages.old }
     requires page { page < (P.standing pages.old).count }
-    requires pages { expect.now.pages ≡ (P.standing pages.old).count }
-    requires root { is_root_span expect.now.low expect.now.high ≡ true → expect.now.root ≡ true }
     requires above { expect.now.low ≤ key }
     requires within { key ≤ expect.now.high }
     ensures spot { IsTrue (P.standing pages.old).told → IfOk result (IsSpot (bytes_of (P.standing pages.old).current page) expect.now key) }
     ensures level { IsTrue (P.standing pages.old).told → OnOk result (page_level (bytes_of (P.standing pages.old).current page) ≡ expect.now.level) }
     ensures safe { IfOk result (IsSafeSpot expect.now key) }
     ensures damage { IsTrue (P.standing pages.old).told → IfErr result (ShowsDamage page expect.now (bytes_of (P.standing pages.old).current page)) }
-    ensures cause { HasCause (λ e. IsTrue (P.standing pages.old).told → IsNodeDamage (P.standing pages.old).count (P.standing pages.old).current work.new.page e) (P.standing pages.old) (P.standing pages.new) result }
-    ensures fails { IfErr result (Keeps (FailsNode (P.standing pages.old).count work.new.page)) }
+    ensures shown { HasCause (λ e. IsShownDamage page expect.now work.new.page e × (IsTrue (P.standing pages.old).told → work.new.page ≡ bytes_of (P.standing pages.old).current page)) (P.standing pages.old) (P.standing pages.new) result }
+    ensures cause { FitsEvidence (P.standing pages.old).count expect.now → HasCause (λ e. IsTrue (P.standing pages.old).told → IsNodeDamage (P.standing pages.old).count (P.standing pages.old).current work.new.page e) (P.standing pages.old) (P.standing pages.new) result }
+    ensures fails { FitsEvidence (P.standing pages.old).count expect.now → IfErr result (Keeps (FailsNode (P.standing pages.old).count work.new.page)) }
     ensures unchanged { IfErr result (Unchanged (P.standing pages.old) (P.standing pages.new)) }
     ensures continues { Continues (P.may_leave pages.old) (P.may_leave pages.new) (P.is_steady pages.old) (P.standing pages.old) (P.standing pages.new) }
     ensures reads { OnOk result (ReadsPage page (P.standing pages.old) (P.standing pages.new)) }
