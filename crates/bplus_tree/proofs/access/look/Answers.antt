@@ -4,7 +4,7 @@ use Rattle.bplus_tree.proofs.access.look.Goals as goal
 pub returns-clause-cause : goal.returns-clause-cause
 returns-clause-cause g c =
     let old = g.P.Pages.standing c.args.pages.now in
-    node_cause old.count c.find.new.work.page old (g.P.Pages.standing c.find.new.pages) c.find.result c.find.ensures.unchanged c.find.ensures.cause
+    node_cause old.count c.find.new.work.page old (g.P.Pages.standing c.find.new.pages) c.find.result c.find.ensures.unchanged (c.find.ensures.cause (record { pages = c.requires.pages; root = c.requires.root }))
 
 pub returns-clause-fails : goal.returns-clause-fails
-returns-clause-fails g c = node_fails (g.P.Pages.standing c.args.pages.now).count c.find.new.work.page c.find.result c.find.ensures.fails
+returns-clause-fails g c = node_fails (g.P.Pages.standing c.args.pages.now).count c.find.new.work.page c.find.result (c.find.ensures.fails (record { pages = c.requires.pages; root = c.requires.root }))
