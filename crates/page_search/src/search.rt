@@ -2,12 +2,12 @@
 ghost use Rattle.std.specs.Prelude.{false, ◌≡◌, ◌+◌, ◌<◌, ◌≤◌, true, IsTrue, OnOk, IfOk, IfErr};
 ghost use Rattle.line_pages.specs.Bytes.{bytes_of};
 ghost use Rattle.line_pages.specs.Touch.{begins};
-ghost use Rattle.line_pages.specs.Cost.{AddsLines, Costs};
+ghost use Rattle.line_pages.specs.Cost.{lines_from, AddsLines, Costs};
 ghost use Rattle.line_pages.specs.Standing.{Continues, HasCause, ReadsPage};
 ghost use Rattle.slotted_page.specs.Node.{IsWellFormed, page_level};
 ghost use Rattle.slotted_page.specs.Search.{is_root_span, IsSpot, IsSafeSpot, IsNodeDamage, FailsNode, Keeps, Unchanged};
 ghost use Rattle.page_search.specs.Answers.{ShowsDamage};
-ghost use Rattle.page_search.specs.Cost.{Searches, search_lines};
+ghost use Rattle.page_search.specs.Cost.{Searches, search_lines, most_lines};
 ghost use Rattle.slotted_page.specs.Work.{KeepsOthers};
 
 use crate::probe::probe;
@@ -41,6 +41,8 @@ pub fn find<P: Pages>(
     // what is read of a page that is well formed
     ensures lines { IsTrue (P.standing pages.old).told → IsWellFormed (bytes_of (P.standing pages.old).current page) expect.now → OnOk result (AddsLines (Searches expect.now.level (bytes_of (P.standing pages.old).current page)) (P.standing pages.old) (P.standing pages.new)) }
     ensures cost { IsTrue (P.standing pages.old).told → IsWellFormed (bytes_of (P.standing pages.old).current page) expect.now → OnOk result (Costs (search_lines expect.now.level) (P.standing pages.old) (P.standing pages.new)) }
+    // what is read of any page
+    ensures bound { OnOk result (Costs (most_lines expect.now.level + 64) (P.standing pages.old) (P.standing pages.new)) }
     // what stays
     ensures continues { Continues (P.may_leave pages.old) (P.may_leave pages.new) (P.is_steady pages.old) (P.standing pages.old) (P.standing pages.new) }
     ensures reads { OnOk result (ReadsPage page (P.standing pages.old) (P.standing pages.new)) }
@@ -78,6 +80,7 @@ fn find_whole<P: Pages>(
     ensures unchanged { IfErr result (Unchanged (P.standing pages.old) (P.standing pages.new)) }
     ensures continues { Continues (P.may_leave pages.old) (P.may_leave pages.new) (P.is_steady pages.old) (P.standing pages.old) (P.standing pages.new) }
     ensures reads { OnOk result (ReadsPage page (P.standing pages.old) (P.standing pages.new)) }
+    ensures lines { OnOk result (AddsLines (λ lines. lines ≡ lines_from 0 64) (P.standing pages.old) (P.standing pages.new)) }
     ensures again { begins (P.standing pages.old).access page false ≡ false → (P.standing pages.new).visits ≤ (P.standing pages.old).visits }
     ensures others { KeepsOthers work.old work.new }
     ensures ready { OnOk result (P.is_ready pages.new) }
