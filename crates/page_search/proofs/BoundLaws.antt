@@ -1,5 +1,5 @@
 -- The most lines that a search touches, whatever the page holds.
-use Rattle.std.proofs.Common.{◌≡◌, ℕ, zero, suc, ◌+◌, ◌-◌, ◌*◌, ◌/◌, ◌^◌, ◌<◌, ◌≤◌, List, [], ◌∷◌, ◌++◌, length, length-append, Result, OnOk, refl, ap, subst, ◌∙◌, arith, mul-suc}
+use Rattle.std.proofs.Common.{◌≡◌, ℕ, zero, suc, ◌+◌, ◌-◌, ◌*◌, ◌/◌, ◌^◌, ◌<◌, ◌≤◌, List, [], ◌∷◌, ◌++◌, length, length-append, Result, OnOk, refl, ap, subst, arith, mul-suc}
 use Rattle.line_pages.specs.Standing.{Standing}
 use Rattle.line_pages.specs.Cost.{lines_from, lines_of, AddsLines, Costs}
 use Rattle.line_pages.proofs.CostLaws.{AddsLines-trans, AddsLines-weaker, lines_then, length-lines_of, length-lines_from}

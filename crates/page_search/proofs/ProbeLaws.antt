@@ -14,7 +14,7 @@ use Rattle.slotted_page.specs.Rows.{Each}
 use Rattle.slotted_page.specs.Node.{Slot, entry_count, heap_start, slots, bytes_used, is_in_heap, IsWellFormed}
 use Rattle.slotted_page.proofs.PageFacts.{leaf_facts, inner_facts}
 use Rattle.slotted_page.proofs.SlotLemmas.{length-slots, in_heap_one}
-use Rattle.page_search.specs.Cost.{row_probe, child_probe, Probes, ProbesChildren, ProbesPage, Searches, search_lines}
+use Rattle.page_search.specs.Cost.{row_probe, child_probe, Probes, ProbesChildren, Searches, search_lines}
 
 -- a call that goes on with these lines
 pub then_lines : {A T E : Type 0} {First Second : List ℕ → Type 0} (Both : List ℕ → Type 0) (a b c : Standing A) (r : Result T E) → ((x y : List ℕ) → First x → Second y → Both (x ++ y))

@@ -17,6 +17,7 @@ use slotted_page::{Expect, Spot, Work, locate};
 
 /// Looks a key up in a page by line 0 and the slots and keys that a binary search probes, as one access. Where something
 /// that was read is odd, it reads all lines and answers `Damaged` exactly where a check of them fails, else by these lines.
+/// So it touches at most 28 lines of a well-formed leaf and 10 of an inner page, and at most 95 of any page.
 pub fn find<P: Pages>(
     pages: &mut P,
     page: u64,

@@ -1,5 +1,5 @@
 -- What the search for the next row costs.
-use Rattle.std.proofs.Common.{◌≡◌, ◌≢◌, ℕ, zero, suc, ◌+◌, ◌-◌, ◌*◌, ◌<◌, ◌≤◌, false, Option, Some, None, Result, Ok, Err, OnOk, IfOk, refl, sym, ap, subst, ◌∙◌, arith, slice_get, length}
+use Rattle.std.proofs.Common.{◌≡◌, ◌≢◌, ℕ, suc, ◌+◌, ◌-◌, ◌*◌, ◌<◌, ◌≤◌, false, Option, Some, None, Result, Ok, Err, OnOk, IfOk, refl, sym, ap, subst, ◌∙◌, arith, slice_get, length}
 use Rattle.line_pages.specs.Lines.{Lines}
 use Rattle.line_pages.specs.Bytes.{bytes_of}
 use Rattle.line_pages.specs.Standing.{Standing}
@@ -7,7 +7,7 @@ use Rattle.line_pages.specs.Cost.{lines_of, AddsLines, Costs}
 use Rattle.line_pages.proofs.CostLaws.{AddsLines-weaker, Costs-trans, Costs-weaker, length-lines_of}
 use Rattle.slotted_page.specs.declared.root.Expect.{Expect}
 use Rattle.slotted_page.specs.Rows.{Row, row_next}
-use Rattle.slotted_page.specs.Spans.{Span, spans}
+use Rattle.slotted_page.specs.Spans.{spans}
 use Rattle.slotted_page.specs.Node.{children}
 use Rattle.slotted_page.proofs.PageFacts.{inner_facts}
 use Rattle.page_search.specs.Cost.{search_lines}

@@ -137,8 +137,8 @@ fn next_after<P: Pages>(
 }
 
 /// The row with the least key not below a key; `None` exactly where there is none. Where it answers `Ok`, it has read lines
-/// of pages of the tree alone. `Damaged` comes only where a page on the way fails a check of a node, in a tree in order not at
-/// all; its bytes stand in `work`.
+/// of pages of the tree alone, at most 20 for each level and 49. `Damaged` comes only where a page on the way fails a check of
+/// a node, in a tree in order not at all; its bytes stand in `work`.
 pub fn next_from<P: Pages>(
     pages: &mut P,
     root: &Root,

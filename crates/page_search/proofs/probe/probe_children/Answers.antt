@@ -10,7 +10,7 @@ use Rattle.slotted_page.proofs.InnerLemmas.{length_children}
 use Rattle.slotted_page.proofs.ChildLaws.{narrow_whole, narrow_right, narrow_left, bounds_whole, probed_key, probed_page, key_inside, child_below, inside_is, inside_of, span_is}
 use Rattle.page_search.specs.Cost.{child_probe}
 use Rattle.page_search.proofs.ProbeLaws.{Halves, halves_none, child_probed, child_read}
-use Rattle.page_search.proofs.BoundLaws.{Turns, turns_none, child_turn, keys_bound, number_bound}
+use Rattle.page_search.proofs.BoundLaws.{turns_none, child_turn, keys_bound, number_bound}
 use Rattle.page_search.proofs.probe.probe_children.Goals as goal
 
 none : Child

@@ -9,7 +9,7 @@ use Rattle.slotted_page.proofs.SlotLemmas.{length_rows}
 use Rattle.slotted_page.proofs.KeyLaws.{probed, length-keys, place_inside, slice_get-is, below_to, above_to, goes_right, goes_left}
 use Rattle.page_search.specs.Cost.{row_probe}
 use Rattle.page_search.proofs.ProbeLaws.{Halves, halves_none, row_probed, rows_probed}
-use Rattle.page_search.proofs.BoundLaws.{Turns, turns_none, row_turn, slot_turn, rows_bound}
+use Rattle.page_search.proofs.BoundLaws.{turns_none, row_turn, slot_turn, rows_bound}
 use Rattle.page_search.proofs.probe.probe_rows.Goals as goal
 
 pub loop-low-init : goal.loop-low-init

@@ -1,4 +1,4 @@
-use Rattle.std.proofs.Common.{rules, slice_get, ◌≡◌, ◌+◌, ◌-◌, ◌≤◌, ℕ, Option, Some, None, IsTrue, IfOk, OnOk, IfErr, arith, sym, subst, ap, ◌∙◌}
+use Rattle.std.proofs.Common.{rules, slice_get, ◌≡◌, ◌+◌, ◌-◌, ◌≤◌, ℕ, Option, Some, None, IsTrue, IfOk, IfErr, arith, sym, subst, ap, ◌∙◌}
 use Rattle.line_pages.specs.Lines.{Lines}
 use Rattle.line_pages.specs.Bytes.{bytes_of}
 use Rattle.slotted_page.specs.declared.root.Expect.{Expect}

@@ -1,4 +1,4 @@
-use Rattle.std.proofs.Common.{◌≡◌, ℕ, ◌-◌, ◌+◌, ◌*◌, ◌≤◌, true, IfOk, arith, ap, sym, subst}
+use Rattle.std.proofs.Common.{ℕ, ◌-◌, ◌+◌, ◌*◌, ◌≤◌, true, IfOk, arith, sym, subst}
 use Rattle.line_pages.specs.Cost.{Costs}
 use Rattle.slotted_page.specs.Rows.{last_key}
 use Rattle.tree_search.specs.Tree.{IsTree}
