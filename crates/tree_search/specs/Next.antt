@@ -17,7 +17,7 @@ abbrev pub most_visits : ℕ → ℕ
 most_visits zero = 3
 most_visits (suc level) = 2 * most_visits level
 
--- as many lines where there is no row, and as many where there is one
+-- the first number where there is no row, the second where there is one
 abbrev pub lines_for : ℕ → ℕ → Option Row → ℕ
 lines_for none some None = none
 lines_for none some (Some row) = some
@@ -27,6 +27,6 @@ lines_for none some (Some row) = some
 abbrev pub next_lines : ℕ → Option Row → ℕ
 next_lines level row = lines_for (10 * level + 29) (20 * level + 69) row
 
--- From the low bound of the pages on it goes down once, to the first row.
+-- From the page's own low bound on it goes down once, to the first row.
 abbrev pub first_lines : ℕ → ℕ
 first_lines level = 10 * level + 40
