@@ -1,3 +1,4 @@
+pub mod BoundLaws
 pub mod DamageLaws
 pub mod HeaderLaws
 pub mod OpenLaws

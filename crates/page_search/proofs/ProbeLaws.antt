@@ -14,7 +14,7 @@ use Rattle.slotted_page.specs.Rows.{Each}
 use Rattle.slotted_page.specs.Node.{Slot, entry_count, heap_start, slots, bytes_used, is_in_heap, IsWellFormed}
 use Rattle.slotted_page.proofs.PageFacts.{leaf_facts, inner_facts}
 use Rattle.slotted_page.proofs.SlotLemmas.{length-slots, in_heap_one}
-use Rattle.page_search.specs.Cost.{row_probe, child_probe, Probes, ProbesChildren, ProbesPage, Searches, search_lines}
+use Rattle.page_search.specs.Cost.{row_probe, child_probe, Probes, ProbesChildren, Searches, search_lines}
 
 -- a call that goes on with these lines
 pub then_lines : {A T E : Type 0} {First Second : List ℕ → Type 0} (Both : List ℕ → Type 0) (a b c : Standing A) (r : Result T E) → ((x y : List ℕ) → First x → Second y → Both (x ++ y))
@@ -41,7 +41,7 @@ halves_none probe count whole = record {
 }
 
 -- half of a width below a power of two
-halved : (m width next : ℕ) → 1 ≤ width → width < 2 ^ m → next ≤ width / 2 → (1 ≤ m) × (next < 2 ^ (m - 1))
+pub halved : (m width next : ℕ) → 1 ≤ width → width < 2 ^ m → next ≤ width / 2 → (1 ≤ m) × (next < 2 ^ (m - 1))
 halved zero width next some below half = let none : width < 1 = below in absurd (omega (arith, some, none))
 halved (suc m) width next some below half =
     let next_below : next < 2 ^ m = omega (arith, half, below, pow-suc 2 m) in
@@ -73,12 +73,14 @@ pub halves_end : (probe : ℕ → List ℕ) (count whole width : ℕ) (x : List 
 halves_end probe count whole width x before = record { entries = before.entries; inside = before.inside; few = λ n below. (before.few n below).0; lines_are = before.lines_are }
 
 -- the probe of a row touches three lines at most, that of a child one
-row_lines : (bytes : List ℕ) (at : ℕ) → length (row_probe bytes at) ≤ 3
-row_lines bytes at =
-    let place = u16_at bytes (64 + 4 * at) in
+pub three_lines : (at place : ℕ) → length (lines_of (64 + 4 * at) 2 ++ lines_of place 8) ≤ 3
+three_lines at place =
     let slot : length (lines_of (64 + 4 * at) 2) ≤ 1 = omega (arith, length-lines_of (64 + 4 * at) 2) in
     let key : length (lines_of place 8) ≤ 2 = omega (arith, length-lines_of place 8) in
     omega (arith, length-append (lines_of (64 + 4 * at) 2) (lines_of place 8), slot, key)
+
+row_lines : (bytes : List ℕ) (at : ℕ) → length (row_probe bytes at) ≤ 3
+row_lines bytes at = three_lines at (u16_at bytes (64 + 4 * at))
 
 rows_lines : (bytes : List ℕ) (entries : List ℕ) → length (flat_map (row_probe bytes) entries) ≤ 3 * length entries
 rows_lines bytes [] = omega arith

@@ -43,3 +43,9 @@ pub record Searches (level : ℕ) (bytes lines : List ℕ) : Type 0 where
 abbrev pub search_lines : ℕ → ℕ
 search_lines zero = 28
 search_lines (suc level) = 10
+
+-- The most lines that it touches before it reads a whole page, whatever the page holds: ten rows of three lines, since a
+-- leaf has at most 1,008 slots, or eight keys and the number of the child's page.
+abbrev pub most_lines : ℕ → ℕ
+most_lines zero = 31
+most_lines (suc level) = 10

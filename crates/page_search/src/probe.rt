@@ -2,11 +2,11 @@
 ghost use Rattle.std.specs.Prelude.{◌≡◌, ◌+◌, ◌*◌, ◌<◌, ◌≤◌, ◌&&◌, ◌||◌, ◌==◌, ℕ, List, [], ◌∷◌, true, false, Some, nat_lt, nat_le, if◌then◌else◌, IsTrue, OnOk, IfOk};
 ghost use Rattle.line_pages.specs.Bytes.{u16_at, bytes_of};
 ghost use Rattle.line_pages.specs.Touch.{begins};
-ghost use Rattle.line_pages.specs.Cost.{lines_of, AddsLines};
+ghost use Rattle.line_pages.specs.Cost.{lines_of, AddsLines, Costs};
 ghost use Rattle.line_pages.specs.Standing.{Continues, HasCause, Never, ReadsPage};
 ghost use Rattle.slotted_page.specs.Node.{entry_count, IsWellFormed};
 ghost use Rattle.page_search.specs.Answers.{IsHeader, IsRightSpot, IsSafeAnswer, IsOfLevel};
-ghost use Rattle.page_search.specs.Cost.{row_probe, Probes, ProbesChildren, Searches};
+ghost use Rattle.page_search.specs.Cost.{row_probe, Probes, ProbesChildren, Searches, most_lines};
 
 use line_pages::{Pages, Stop, read_half, read_word};
 use slotted_page::{Expect, Spot};
@@ -38,6 +38,7 @@ pub fn probe<P: Pages>(
     ensures continues { Continues (P.may_leave pages.old) (P.may_leave pages.new) (P.is_steady pages.old) (P.standing pages.old) (P.standing pages.new) }
     ensures reads { OnOk result (ReadsPage page (P.standing pages.old) (P.standing pages.new)) }
     ensures lines { IsTrue (P.standing pages.old).told → IsWellFormed (bytes_of (P.standing pages.old).current page) expect.now → OnOk result (AddsLines (Searches expect.now.level (bytes_of (P.standing pages.old).current page)) (P.standing pages.old) (P.standing pages.new)) }
+    ensures bound { OnOk result (Costs (most_lines expect.now.level) (P.standing pages.old) (P.standing pages.new)) }
     ensures few { (P.standing pages.new).visits ≤ (P.standing pages.old).visits + 1 }
     ensures ready { OnOk result (P.is_ready pages.new) }
     ensures steady { P.is_steady pages.old → OnOk result (P.is_steady pages.new) }
@@ -142,6 +143,7 @@ fn probe_rows<P: Pages>(
     ensures continues { Continues (P.may_leave pages.old) (P.may_leave pages.new) (P.is_steady pages.old) (P.standing pages.old) (P.standing pages.new) }
     ensures reads { OnOk result (ReadsPage page (P.standing pages.old) (P.standing pages.new)) }
     ensures lines { IsTrue (P.standing pages.old).told → IsWellFormed (bytes_of (P.standing pages.old).current page) expect.now → OnOk result (AddsLines (Probes (row_probe (bytes_of (P.standing pages.old).current page)) count count) (P.standing pages.old) (P.standing pages.new)) }
+    ensures bound { OnOk result (Costs 30 (P.standing pages.old) (P.standing pages.new)) }
     ensures again { (P.standing pages.new).visits ≤ (P.standing pages.old).visits }
     ensures ready { OnOk result (P.is_ready pages.new) }
     ensures steady { P.is_steady pages.old → OnOk result (P.is_steady pages.new) }
@@ -205,6 +207,7 @@ fn probe_children<P: Pages>(
     ensures continues { Continues (P.may_leave pages.old) (P.may_leave pages.new) (P.is_steady pages.old) (P.standing pages.old) (P.standing pages.new) }
     ensures reads { OnOk result (ReadsPage page (P.standing pages.old) (P.standing pages.new)) }
     ensures lines { IsTrue (P.standing pages.old).told → IsWellFormed (bytes_of (P.standing pages.old).current page) expect.now → OnOk result (AddsLines (ProbesChildren (bytes_of (P.standing pages.old).current page)) (P.standing pages.old) (P.standing pages.new)) }
+    ensures bound { OnOk result (Costs 9 (P.standing pages.old) (P.standing pages.new)) }
     ensures again { (P.standing pages.new).visits ≤ (P.standing pages.old).visits }
     ensures ready { OnOk result (P.is_ready pages.new) }
     ensures steady { P.is_steady pages.old → OnOk result (P.is_steady pages.new) }

@@ -2,6 +2,7 @@
 ghost use Rattle.std.specs.Prelude.{false, ◌≡◌, ◌+◌, ◌<◌, ◌≤◌, length, IsTrue, OnOk, IfErr};
 ghost use Rattle.line_pages.specs.Bytes.{bytes_of};
 ghost use Rattle.line_pages.specs.Touch.{begins};
+ghost use Rattle.line_pages.specs.Cost.{lines_from, AddsLines};
 ghost use Rattle.line_pages.specs.Standing.{Continues, HasCause, ReadsPage};
 ghost use Rattle.slotted_page.specs.Node.{IsWellFormed};
 ghost use Rattle.slotted_page.specs.Search.{IsNodeDamage, FailsNode, Keeps, Unchanged};
@@ -33,6 +34,7 @@ pub fn read_page<P: Pages>(
     // what stays
     ensures continues { Continues (P.may_leave pages.old) (P.may_leave pages.new) (P.is_steady pages.old) (P.standing pages.old) (P.standing pages.new) }
     ensures reads { OnOk result (ReadsPage page (P.standing pages.old) (P.standing pages.new)) }
+    ensures lines { OnOk result (AddsLines (λ lines. lines ≡ lines_from 0 64) (P.standing pages.old) (P.standing pages.new)) }
     ensures again { begins (P.standing pages.old).access page false ≡ false → (P.standing pages.new).visits ≤ (P.standing pages.old).visits }
     ensures few { (P.standing pages.new).visits ≤ (P.standing pages.old).visits + 1 }
     ensures others { KeepsOthers work.old work.new }

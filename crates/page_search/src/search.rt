@@ -2,12 +2,12 @@
 ghost use Rattle.std.specs.Prelude.{false, ◌≡◌, ◌+◌, ◌<◌, ◌≤◌, IsTrue, OnOk, IfOk, IfErr};
 ghost use Rattle.line_pages.specs.Bytes.{bytes_of};
 ghost use Rattle.line_pages.specs.Touch.{begins};
-ghost use Rattle.line_pages.specs.Cost.{AddsLines, Costs};
+ghost use Rattle.line_pages.specs.Cost.{lines_from, AddsLines, Costs};
 ghost use Rattle.line_pages.specs.Standing.{Continues, HasCause, ReadsPage};
 ghost use Rattle.slotted_page.specs.Node.{IsWellFormed, page_level};
 ghost use Rattle.slotted_page.specs.Search.{IsSpot, IsSafeSpot, IsNodeDamage, FailsNode, Keeps, Unchanged};
 ghost use Rattle.page_search.specs.Answers.{FitsEvidence, IsShownDamage, ShowsDamage};
-ghost use Rattle.page_search.specs.Cost.{Searches, search_lines};
+ghost use Rattle.page_search.specs.Cost.{Searches, search_lines, most_lines};
 ghost use Rattle.slotted_page.specs.Work.{KeepsOthers};
 
 use crate::probe::probe;
@@ -17,6 +17,7 @@ use slotted_page::{Expect, Spot, Work, locate};
 
 /// Looks a key up in a page by line 0 and the slots and keys that a binary search probes, as one access. Where something
 /// that was read is odd, it reads all lines and answers `Damaged` exactly where a check of them fails, else by these lines.
+/// So it touches at most 28 lines of a well-formed leaf and 10 of an inner page, and at most 95 of any page.
 pub fn find<P: Pages>(
     pages: &mut P,
     page: u64,
@@ -40,6 +41,8 @@ pub fn find<P: Pages>(
     // what is read of a page that is well formed
     ensures lines { IsTrue (P.standing pages.old).told → IsWellFormed (bytes_of (P.standing pages.old).current page) expect.now → OnOk result (AddsLines (Searches expect.now.level (bytes_of (P.standing pages.old).current page)) (P.standing pages.old) (P.standing pages.new)) }
     ensures cost { IsTrue (P.standing pages.old).told → IsWellFormed (bytes_of (P.standing pages.old).current page) expect.now → OnOk result (Costs (search_lines expect.now.level) (P.standing pages.old) (P.standing pages.new)) }
+    // what is read of any page
+    ensures bound { OnOk result (Costs (most_lines expect.now.level + 64) (P.standing pages.old) (P.standing pages.new)) }
     // what stays
     ensures continues { Continues (P.may_leave pages.old) (P.may_leave pages.new) (P.is_steady pages.old) (P.standing pages.old) (P.standing pages.new) }
     ensures reads { OnOk result (ReadsPage page (P.standing pages.old) (P.standing pages.new)) }
@@ -76,6 +79,7 @@ fn find_whole<P: Pages>(
     ensures unchanged { IfErr result (Unchanged (P.standing pages.old) (P.standing pages.new)) }
     ensures continues { Continues (P.may_leave pages.old) (P.may_leave pages.new) (P.is_steady pages.old) (P.standing pages.old) (P.standing pages.new) }
     ensures reads { OnOk result (ReadsPage page (P.standing pages.old) (P.standing pages.new)) }
+    ensures lines { OnOk result (AddsLines (λ lines. lines ≡ lines_from 0 64) (P.standing pages.old) (P.standing pages.new)) }
     ensures again { begins (P.standing pages.old).access page false ≡ false → (P.standing pages.new).visits ≤ (P.standing pages.old).visits }
     ensures others { KeepsOthers work.old work.new }
     ensures ready { OnOk result (P.is_ready pages.new) }

@@ -7,4 +7,5 @@ pub mod PartLaws
 pub mod RecordLaws
 pub mod NextLaws
 pub mod NextReads
+pub mod NextCost
 pub mod CostLaws

@@ -155,7 +155,7 @@ begins_behind low most high at cs s up r less spot above within =
 pub reaches : (cs : List Child) (most at : ℕ) (s : Span) → slice_get (spans cs most) at ≡ Some s → Reaches cs most s.high
 reaches cs most at s spot = let l = located cs most at s spot in record { xs = l.xs; ys = l.ys; s = (s.low, s.page); is = l.is; up_to = l.reach_is }
 
-pow_some : (n : ℕ) → 1 ≤ 80 ^ n
+pub pow_some : (n : ℕ) → 1 ≤ 80 ^ n
 pow_some zero = omega arith
 pow_some (suc n) = let ih = pow_some n in omega (arith, ih, pow-suc 80 n)
 

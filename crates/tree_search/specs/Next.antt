@@ -1,5 +1,6 @@
 -- What the search for the next row needs.
-use Rattle.std.specs.Prelude.{◌≡◌, ℕ, zero, suc, ◌*◌, List, ◌∷◌, ◌++◌}
+use Rattle.std.specs.Prelude.{◌≡◌, ℕ, zero, suc, ◌+◌, ◌*◌, List, ◌∷◌, ◌++◌, Option, Some, None}
+use Rattle.slotted_page.specs.Rows.{Row}
 use Rattle.slotted_page.specs.Spans.{reach}
 use Rattle.slotted_page.specs.Node.{Child}
 
@@ -15,3 +16,17 @@ pub record Reaches (cs : List Child) (most high : ℕ) : Type 0 where
 abbrev pub most_visits : ℕ → ℕ
 most_visits zero = 3
 most_visits (suc level) = 2 * most_visits level
+
+-- the first number where there is no row, the second where there is one
+abbrev pub lines_for : ℕ → ℕ → Option Row → ℕ
+lines_for none some None = none
+lines_for none some (Some row) = some
+
+-- The most lines that the search for the next row touches under a page of a level. Where there is none, it goes down
+-- once. Where there is one, it may go down a second time behind a child that has none.
+abbrev pub next_lines : ℕ → Option Row → ℕ
+next_lines level row = lines_for (10 * level + 29) (20 * level + 69) row
+
+-- From the page's own low bound on it goes down once, to the first row.
+abbrev pub first_lines : ℕ → ℕ
+first_lines level = 10 * level + 40

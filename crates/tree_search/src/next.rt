@@ -1,6 +1,7 @@
 //! The first row from a key on.
 ghost use Rattle.std.specs.Prelude.{◌≡◌, ◌+◌, ◌-◌, ◌*◌, ◌<◌, ◌≤◌, ℕ, List, length, slice_get, drop, Some, None, Option, true, false, IsTrue, OnOk, IfOk, IfErr};
 ghost use Rattle.line_pages.specs.Bytes.{bytes_of};
+ghost use Rattle.line_pages.specs.Cost.{Costs};
 ghost use Rattle.line_pages.specs.Standing.{Continues, HasCause, ReadsPage, KeepsLines, AddsReads};
 ghost use Rattle.slotted_page.specs.Rows.{Row, row_next, last_key};
 ghost use Rattle.slotted_page.specs.Node.{IsWellFormed, leaf_rows, children as children_of};
@@ -9,7 +10,7 @@ ghost use Rattle.page_search.specs.Answers.{ShowsDamage};
 ghost use Rattle.tree_search.specs.Tree.{IsTree, IsRooted, tree_rows, tree_pages};
 ghost use Rattle.tree_search.specs.Way.{AreReadsIn};
 ghost use Rattle.page_space.specs.Stops.{IsFault};
-ghost use Rattle.tree_search.specs.Next.{Reaches, most_visits};
+ghost use Rattle.tree_search.specs.Next.{Reaches, most_visits, lines_for, next_lines, first_lines};
 
 use crate::root::{Root, child_expect, root_expect};
 use crate::row::row_at;
@@ -38,6 +39,7 @@ fn row_from<P: Pages>(
     ensures unchanged { IfErr result (Unchanged (P.standing pages.old) (P.standing pages.new)) }
     ensures continues { Continues (P.may_leave pages.old) (P.may_leave pages.new) (P.is_steady pages.old) (P.standing pages.old) (P.standing pages.new) }
     ensures reads { OnOk result (ReadsPage page (P.standing pages.old) (P.standing pages.new)) }
+    ensures cost { IsTrue (P.standing pages.old).told → IsWellFormed (bytes_of (P.standing pages.old).current page) expect.now → IfOk result (λ row. Costs (lines_for 1 12 row) (P.standing pages.old) (P.standing pages.new)) }
     ensures again { (P.standing pages.new).visits ≤ (P.standing pages.old).visits }
     ensures ready { OnOk result (P.is_ready pages.new) }
     ensures steady { P.is_steady pages.old → OnOk result (P.is_steady pages.new) }
@@ -68,6 +70,8 @@ fn next_in<P: Pages>(
     ensures row { IsTrue (P.standing pages.old).told → IsTree expect.now.pages (P.standing pages.old).current expect.now.level page expect.now.low expect.now.high expect.now.root → IfOk result (λ row. row ≡ row_next from (tree_rows (P.standing pages.old).current expect.now.level page)) }
     ensures sound { IsTrue (P.standing pages.old).told → IsTree expect.now.pages (P.standing pages.old).current expect.now.level page expect.now.low expect.now.high expect.now.root → IfErr result IsFault }
     ensures touches { IsTrue (P.standing pages.old).told → IsTree expect.now.pages (P.standing pages.old).current expect.now.level page expect.now.low expect.now.high expect.now.root → OnOk result (AddsReads (AreReadsIn (tree_pages (P.standing pages.old).current expect.now.level page)) (P.standing pages.old) (P.standing pages.new)) }
+    ensures cost { IsTrue (P.standing pages.old).told → IsTree expect.now.pages (P.standing pages.old).current expect.now.level page expect.now.low expect.now.high expect.now.root → IfOk result (λ row. Costs (next_lines expect.now.level row) (P.standing pages.old) (P.standing pages.new)) }
+    ensures first { IsTrue (P.standing pages.old).told → IsTree expect.now.pages (P.standing pages.old).current expect.now.level page expect.now.low expect.now.high expect.now.root → from ≡ expect.now.low → OnOk result (Costs (first_lines expect.now.level) (P.standing pages.old) (P.standing pages.new)) }
     ensures cause { HasCause (λ e. IsTrue (P.standing pages.old).told → IsNodeDamage (P.standing pages.old).count (P.standing pages.old).current work.new.page e) (P.standing pages.old) (P.standing pages.new) result }
     ensures fails { IfErr result (Keeps (FailsNode (P.standing pages.old).count work.new.page)) }
     ensures unchanged { IfErr result (Unchanged (P.standing pages.old) (P.standing pages.new)) }
@@ -110,6 +114,7 @@ fn next_after<P: Pages>(
     ensures row { IsTrue (P.standing pages.old).told → IsTree expect.now.pages (P.standing pages.old).current expect.now.level page expect.now.low expect.now.high expect.now.root → Reaches (children_of (bytes_of (P.standing pages.old).current page)) expect.now.high high → IfOk result (λ row. row ≡ row_next (high + 1) (tree_rows (P.standing pages.old).current expect.now.level page)) }
     ensures sound { IsTrue (P.standing pages.old).told → IsTree expect.now.pages (P.standing pages.old).current expect.now.level page expect.now.low expect.now.high expect.now.root → IfErr result IsFault }
     ensures touches { IsTrue (P.standing pages.old).told → IsTree expect.now.pages (P.standing pages.old).current expect.now.level page expect.now.low expect.now.high expect.now.root → OnOk result (AddsReads (AreReadsIn (tree_pages (P.standing pages.old).current expect.now.level page)) (P.standing pages.old) (P.standing pages.new)) }
+    ensures cost { IsTrue (P.standing pages.old).told → IsTree expect.now.pages (P.standing pages.old).current expect.now.level page expect.now.low expect.now.high expect.now.root → Reaches (children_of (bytes_of (P.standing pages.old).current page)) expect.now.high high → IfOk result (λ row. Costs (lines_for 0 (first_lines expect.now.level) row) (P.standing pages.old) (P.standing pages.new)) }
     ensures cause { HasCause (λ e. IsTrue (P.standing pages.old).told → IsNodeDamage (P.standing pages.old).count (P.standing pages.old).current work.new.page e) (P.standing pages.old) (P.standing pages.new) result }
     ensures fails { IfErr result (Keeps (FailsNode (P.standing pages.old).count work.new.page)) }
     ensures unchanged { IfErr result (Unchanged (P.standing pages.old) (P.standing pages.new)) }
@@ -132,8 +137,8 @@ fn next_after<P: Pages>(
 }
 
 /// The row with the least key not below a key; `None` exactly where there is none. Where it answers `Ok`, it has read lines
-/// of pages of the tree alone. `Damaged` comes only where a page on the way fails a check of a node, in a tree in order not at
-/// all; its bytes stand in `work`.
+/// of pages of the tree alone, at most 20 for each level and 49. `Damaged` comes only where a page on the way fails a check of
+/// a node, in a tree in order not at all; its bytes stand in `work`.
 pub fn next_from<P: Pages>(
     pages: &mut P,
     root: &Root,
@@ -149,6 +154,7 @@ pub fn next_from<P: Pages>(
     ensures row { IsTrue (P.standing pages.old).told → (rows : List Row) (used : List ℕ) → IsRooted (P.standing pages.old).count (P.standing pages.old).current root.now rows used → IfOk result (λ row. row ≡ row_next from rows) }
     // what is read
     ensures touches { IsTrue (P.standing pages.old).told → (rows : List Row) (used : List ℕ) → IsRooted (P.standing pages.old).count (P.standing pages.old).current root.now rows used → OnOk result (AddsReads (AreReadsIn used) (P.standing pages.old) (P.standing pages.new)) }
+    ensures cost { IsTrue (P.standing pages.old).told → (rows : List Row) (used : List ℕ) → IsRooted (P.standing pages.old).count (P.standing pages.old).current root.now rows used → OnOk result (Costs (20 * root.now.levels + 49) (P.standing pages.old) (P.standing pages.new)) }
     // why it stops
     ensures sound { IsTrue (P.standing pages.old).told → (rows : List Row) (used : List ℕ) → IsRooted (P.standing pages.old).count (P.standing pages.old).current root.now rows used → IfErr result IsFault }
     ensures cause { HasCause (λ e. IsTrue (P.standing pages.old).told → IsNodeDamage (P.standing pages.old).count (P.standing pages.old).current work.new.page e) (P.standing pages.old) (P.standing pages.new) result }

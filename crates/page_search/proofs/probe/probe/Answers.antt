@@ -1,5 +1,6 @@
-use Rattle.std.proofs.Common.{◌≡◌, ◌-◌, suc, IsTrue, arith, sym, subst}
+use Rattle.std.proofs.Common.{◌≡◌, ◌-◌, ◌≤◌, suc, IsTrue, arith, sym, subst}
 use Rattle.page_search.proofs.ProbeLaws.{leaf_searched, inner_searched}
+use Rattle.page_search.proofs.BoundLaws.{leaf_most, inner_most, header_bound, probes_bound}
 use Rattle.page_search.proofs.OpenLaws.{then_reads}
 use Rattle.page_search.proofs.probe.probe.Goals as goal
 
@@ -25,3 +26,19 @@ returns-clause-lines g c = λ told well.
     inner_searched old mid (g.P.Pages.standing c.probe_children.new.pages) c.probe_children.result old.current mid.current c.args.page (c.args.expect.now.level - 1) c.args.expect.now
     (c.in_ok-header.ensures.reads.current told) level well c.in_ok-header.ensures.lines
     (c.probe_children.ensures.lines (subst IsTrue (sym c.in_ok-header.ensures.continues.told) told))
+
+pub returns-then-not-header_fits-clause-bound : goal.returns-then-not-header_fits-clause-bound
+returns-then-not-header_fits-clause-bound g c = header_bound c.args.expect.now.level c.in_ok-header.ensures.lines
+
+pub returns-then-expect-eq0-clause-bound : goal.returns-then-expect-eq0-clause-bound
+returns-then-expect-eq0-clause-bound g c =
+    let level = c.args.expect.now.level in
+    probes_bound level 30 (g.P.Pages.standing c.args.pages.now) (g.P.Pages.standing c.read_header.new.pages) (g.P.Pages.standing c.probe_rows.new.pages) c.probe_rows.result
+    (omega (arith, leaf_most level c.if-expect-eq0.true)) c.in_ok-header.ensures.lines c.probe_rows.ensures.bound
+
+pub returns-clause-bound : goal.returns-clause-bound
+returns-clause-bound g c =
+    let level = c.args.expect.now.level in
+    let some : 1 ≤ level = omega (arith, c.if-expect-eq0.false) in
+    probes_bound level 9 (g.P.Pages.standing c.args.pages.now) (g.P.Pages.standing c.read_header.new.pages) (g.P.Pages.standing c.probe_children.new.pages) c.probe_children.result
+    (omega (arith, inner_most level some)) c.in_ok-header.ensures.lines c.probe_children.ensures.bound

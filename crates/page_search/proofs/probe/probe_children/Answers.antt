@@ -10,6 +10,7 @@ use Rattle.slotted_page.proofs.InnerLemmas.{length_children}
 use Rattle.slotted_page.proofs.ChildLaws.{narrow_whole, narrow_right, narrow_left, bounds_whole, probed_key, probed_page, key_inside, child_below, inside_is, inside_of, span_is}
 use Rattle.page_search.specs.Cost.{child_probe}
 use Rattle.page_search.proofs.ProbeLaws.{Halves, halves_none, child_probed, child_read}
+use Rattle.page_search.proofs.BoundLaws.{turns_none, child_turn, keys_bound, number_bound}
 use Rattle.page_search.proofs.probe.probe_children.Goals as goal
 
 none : Child
@@ -25,6 +26,7 @@ loop-low-init g c =
       continues = Continues-refl (g.P.Pages.may_leave c.args.pages.now) (g.P.Pages.is_steady c.args.pages.now) old;
       reads = ReadsPage-refl c.args.page old c.requires.open;
       lines = AddsLines-refl old (subst (λ (w : ℕ). Halves child_probe c.args.count (c.args.count - 1) w []) whole (halves_none child_probe c.args.count (c.args.count - 1)));
+      bound = AddsLines-refl old (turns_none 1 8 (c.args.count - 0 - 1) (omega (arith, c.requires.few)));
       again = omega arith;
       nvm_kept = refl;
       ssd_kept = refl;
@@ -65,6 +67,7 @@ loop-low-preserved-then-found-key g c =
       reads = ReadsPage-trans before.reads c.in_ok-found.ensures.reads;
       lines = child_probed c.args.count c.loop-low.low c.loop-low.high (c.loop-low.high - middle - 1) middle c.loop-low-test.true (omega (arith, c.loop-low-test.true)) (omega (arith, before.narrow.within, c.loop-low-test.true))
           before.lines c.in_ok-found.ensures.lines;
+      bound = child_turn c.loop-low.low c.loop-low.high (c.loop-low.high - middle - 1) middle c.loop-low-test.true (omega (arith, c.loop-low-test.true)) before.bound c.in_ok-found.ensures.lines;
       again = omega (arith, before.again, c.in_ok-found.ensures.again (still_open before.reads));
       nvm_kept = c.in_ok-found.ensures.cause.kept.0 ∙ before.nvm_kept;
       ssd_kept = c.in_ok-found.ensures.cause.kept.1 ∙ before.ssd_kept;
@@ -92,6 +95,7 @@ loop-low-preserved g c =
       reads = ReadsPage-trans before.reads c.in_ok-found.ensures.reads;
       lines = child_probed c.args.count c.loop-low.low c.loop-low.high (middle - c.loop-low.low - 1) middle c.loop-low-test.true (omega (arith, c.loop-low-test.true)) (omega (arith, before.narrow.within, c.loop-low-test.true))
           before.lines c.in_ok-found.ensures.lines;
+      bound = child_turn c.loop-low.low c.loop-low.high (middle - c.loop-low.low - 1) middle c.loop-low-test.true (omega (arith, c.loop-low-test.true)) before.bound c.in_ok-found.ensures.lines;
       again = omega (arith, before.again, c.in_ok-found.ensures.again (still_open before.reads));
       nvm_kept = c.in_ok-found.ensures.cause.kept.0 ∙ before.nvm_kept;
       ssd_kept = c.in_ok-found.ensures.cause.kept.1 ∙ before.ssd_kept;
@@ -169,3 +173,28 @@ pub returns-clause-lines : goal.returns-clause-lines
 returns-clause-lines g c = λ told well.
     child_read (bytes_of (g.P.Pages.standing c.args.pages.now).current c.args.page) c.args.count (c.loop-low.high - c.loop-low.low - 1) c.loop-low.low (c.requires.known told)
     (omega (arith, c.loop-low.invariant.narrow.within, c.loop-low.invariant.narrow.ordered)) c.loop-low.invariant.lines c.in_ok-child.ensures.lines
+
+pub returns-then-not-is_inside-clause-bound : goal.returns-then-not-is_inside-clause-bound
+returns-then-not-is_inside-clause-bound g c =
+    keys_bound 0 (child_turn c.loop-low.low c.loop-low.high 0 (c.loop-low.low + (c.loop-low.high - c.loop-low.low) / 2) c.loop-low-test.true (omega arith) c.loop-low.invariant.bound c.in_ok-found.ensures.lines)
+
+pub returns-then-not-is_page-clause-bound : goal.returns-then-not-is_page-clause-bound
+returns-then-not-is_page-clause-bound g c = number_bound (c.loop-low.high - c.loop-low.low - 1) c.loop-low.low c.loop-low.invariant.bound c.in_ok-child.ensures.lines
+
+pub returns-clause-bound : goal.returns-clause-bound
+returns-clause-bound g c = number_bound (c.loop-low.high - c.loop-low.low - 1) c.loop-low.low c.loop-low.invariant.bound c.in_ok-child.ensures.lines
+
+pub returns-in_err-found-clause-continues : goal.returns-in_err-found-clause-continues
+returns-in_err-found-clause-continues g c = Continues-trans {steady_between = g.P.Pages.is_steady c.loop-low.pages} c.loop-low.invariant.continues c.loop-low.invariant.steady c.read_word.ensures.continues
+
+pub returns-then-not-is_inside-clause-continues : goal.returns-then-not-is_inside-clause-continues
+returns-then-not-is_inside-clause-continues g c = Continues-trans {steady_between = g.P.Pages.is_steady c.loop-low.pages} c.loop-low.invariant.continues c.loop-low.invariant.steady c.read_word.ensures.continues
+
+pub returns-in_err-child-clause-continues : goal.returns-in_err-child-clause-continues
+returns-in_err-child-clause-continues g c = Continues-trans {steady_between = g.P.Pages.is_steady c.loop-low.pages} c.loop-low.invariant.continues c.loop-low.invariant.steady c.read_word-2.ensures.continues
+
+pub returns-then-not-is_page-clause-continues : goal.returns-then-not-is_page-clause-continues
+returns-then-not-is_page-clause-continues g c = Continues-trans {steady_between = g.P.Pages.is_steady c.loop-low.pages} c.loop-low.invariant.continues c.loop-low.invariant.steady c.read_word-2.ensures.continues
+
+pub returns-clause-continues : goal.returns-clause-continues
+returns-clause-continues g c = Continues-trans {steady_between = g.P.Pages.is_steady c.loop-low.pages} c.loop-low.invariant.continues c.loop-low.invariant.steady c.read_word-2.ensures.continues

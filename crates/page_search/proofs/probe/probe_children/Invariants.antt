@@ -7,6 +7,7 @@ use Rattle.slotted_page.specs.Node.{IsWellFormed, children}
 use Rattle.slotted_page.proofs.ChildLaws.{Narrow, Bounds}
 use Rattle.page_search.specs.Cost.{child_probe}
 use Rattle.page_search.proofs.ProbeLaws.{Halves}
+use Rattle.page_search.proofs.BoundLaws.{Turns}
 use Rattle.page_search.proofs.probe.probe_children.Given as goal
 
 abbrev pub invariant-loop-low : goal.invariant-loop-low
@@ -16,6 +17,7 @@ invariant-loop-low g l = record {
   continues : Continues (g.P.Pages.may_leave l.fn.pages) (g.P.Pages.may_leave l.pages) (g.P.Pages.is_steady l.fn.pages) (g.P.Pages.standing l.fn.pages) (g.P.Pages.standing l.pages);
   reads : ReadsPage l.page (g.P.Pages.standing l.fn.pages) (g.P.Pages.standing l.pages);
   lines : AddsLines (Halves child_probe l.count (l.count - 1) (l.high - l.low - 1)) (g.P.Pages.standing l.fn.pages) (g.P.Pages.standing l.pages);
+  bound : AddsLines (Turns 1 8 (l.high - l.low - 1)) (g.P.Pages.standing l.fn.pages) (g.P.Pages.standing l.pages);
   again : (g.P.Pages.standing l.pages).visits ≤ (g.P.Pages.standing l.fn.pages).visits;
   nvm_kept : (g.P.Pages.standing l.pages).nvm_faults ≡ (g.P.Pages.standing l.fn.pages).nvm_faults;
   ssd_kept : (g.P.Pages.standing l.pages).ssd_faults ≡ (g.P.Pages.standing l.fn.pages).ssd_faults;

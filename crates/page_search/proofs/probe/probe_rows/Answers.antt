@@ -9,6 +9,7 @@ use Rattle.slotted_page.proofs.SlotLemmas.{length_rows}
 use Rattle.slotted_page.proofs.KeyLaws.{probed, length-keys, place_inside, slice_get-is, below_to, above_to, goes_right, goes_left}
 use Rattle.page_search.specs.Cost.{row_probe}
 use Rattle.page_search.proofs.ProbeLaws.{Halves, halves_none, row_probed, rows_probed}
+use Rattle.page_search.proofs.BoundLaws.{turns_none, row_turn, slot_turn, rows_bound}
 use Rattle.page_search.proofs.probe.probe_rows.Goals as goal
 
 pub loop-low-init : goal.loop-low-init
@@ -23,6 +24,7 @@ loop-low-init g c =
       lines = λ told.
           let probe = row_probe (bytes_of old.current c.args.page) in
           AddsLines-refl old (subst (λ (w : ℕ). Halves probe c.args.count c.args.count w []) whole (halves_none probe c.args.count c.args.count));
+      bound = AddsLines-refl old (turns_none 3 10 (c.args.count - 0) (omega (arith, c.requires.few)));
       again = omega arith;
       nvm_kept = refl;
       ssd_kept = refl;
@@ -75,6 +77,7 @@ loop-low-preserved-then-found-key-2 g c =
           let place : c.in_ok-place.place ≡ u16_at bytes (64 + 4 * middle) = c.in_ok-place.ensures.value told_on ∙ ap (λ all. u16_at (bytes_of all c.args.page) (64 + 4 * middle)) (before.reads.current told) in
           row_probed bytes c.args.count c.loop-low.low c.loop-low.high (c.loop-low.high - (middle + 1)) middle c.in_ok-place.place c.loop-low-test.true (omega (arith, c.loop-low-test.true)) (omega (arith, before.within, c.loop-low-test.true)) place
           (before.lines told) c.in_ok-place.ensures.lines c.in_ok-found.ensures.lines;
+      bound = row_turn c.loop-low.low c.loop-low.high (c.loop-low.high - (middle + 1)) middle c.in_ok-place.place c.loop-low-test.true (omega (arith, c.loop-low-test.true)) before.bound c.in_ok-place.ensures.lines c.in_ok-found.ensures.lines;
       again = omega (arith, before.again, c.in_ok-place.ensures.again (still_open before.reads), c.in_ok-found.ensures.again (still_open c.in_ok-place.ensures.reads));
       nvm_kept = c.in_ok-found.ensures.cause.kept.0 ∙ c.in_ok-place.ensures.cause.kept.0 ∙ before.nvm_kept;
       ssd_kept = c.in_ok-found.ensures.cause.kept.1 ∙ c.in_ok-place.ensures.cause.kept.1 ∙ before.ssd_kept;
@@ -106,6 +109,7 @@ loop-low-preserved g c =
           let place : c.in_ok-place.place ≡ u16_at bytes (64 + 4 * middle) = c.in_ok-place.ensures.value told_on ∙ ap (λ all. u16_at (bytes_of all c.args.page) (64 + 4 * middle)) (before.reads.current told) in
           row_probed bytes c.args.count c.loop-low.low c.loop-low.high (middle - c.loop-low.low) middle c.in_ok-place.place c.loop-low-test.true (omega (arith, c.loop-low-test.true)) (omega (arith, before.within, c.loop-low-test.true)) place
           (before.lines told) c.in_ok-place.ensures.lines c.in_ok-found.ensures.lines;
+      bound = row_turn c.loop-low.low c.loop-low.high (middle - c.loop-low.low) middle c.in_ok-place.place c.loop-low-test.true (omega (arith, c.loop-low-test.true)) before.bound c.in_ok-place.ensures.lines c.in_ok-found.ensures.lines;
       again = omega (arith, before.again, c.in_ok-place.ensures.again (still_open before.reads), c.in_ok-found.ensures.again (still_open c.in_ok-place.ensures.reads));
       nvm_kept = c.in_ok-found.ensures.cause.kept.0 ∙ c.in_ok-place.ensures.cause.kept.0 ∙ before.nvm_kept;
       ssd_kept = c.in_ok-found.ensures.cause.kept.1 ∙ c.in_ok-place.ensures.cause.kept.1 ∙ before.ssd_kept;
@@ -165,3 +169,26 @@ pub returns-then-found-key-clause-continues : goal.returns-then-found-key-clause
 returns-then-found-key-clause-continues g c =
     let before = c.loop-low.invariant in
     Continues-trans {steady_between = g.P.Pages.is_steady c.read_place.new.pages} (Continues-trans before.continues before.steady c.in_ok-place.ensures.continues) (λ s. c.in_ok-place.ensures.steady (before.steady s)) c.in_ok-found.ensures.continues
+
+pub returns-then-place-gt4096-clause-bound : goal.returns-then-place-gt4096-clause-bound
+returns-then-place-gt4096-clause-bound g c =
+    rows_bound 0 (slot_turn c.loop-low.low c.loop-low.high (c.loop-low.low + (c.loop-low.high - c.loop-low.low) / 2) c.loop-low-test.true c.loop-low.invariant.bound c.in_ok-place.ensures.lines)
+
+pub returns-then-found-key-clause-bound : goal.returns-then-found-key-clause-bound
+returns-then-found-key-clause-bound g c =
+    rows_bound 0 (row_turn c.loop-low.low c.loop-low.high 0 (c.loop-low.low + (c.loop-low.high - c.loop-low.low) / 2) c.in_ok-place.place c.loop-low-test.true (omega arith)
+    c.loop-low.invariant.bound c.in_ok-place.ensures.lines c.in_ok-found.ensures.lines)
+
+pub returns-clause-bound : goal.returns-clause-bound
+returns-clause-bound g c = rows_bound (c.loop-low.high - c.loop-low.low) c.loop-low.invariant.bound
+
+pub returns-in_err-place-clause-continues : goal.returns-in_err-place-clause-continues
+returns-in_err-place-clause-continues g c = Continues-trans {steady_between = g.P.Pages.is_steady c.loop-low.pages} c.loop-low.invariant.continues c.loop-low.invariant.steady c.read_place.ensures.continues
+
+pub returns-then-place-gt4096-clause-continues : goal.returns-then-place-gt4096-clause-continues
+returns-then-place-gt4096-clause-continues g c = Continues-trans {steady_between = g.P.Pages.is_steady c.loop-low.pages} c.loop-low.invariant.continues c.loop-low.invariant.steady c.read_place.ensures.continues
+
+pub returns-in_err-found-clause-continues : goal.returns-in_err-found-clause-continues
+returns-in_err-found-clause-continues g c =
+    let before = c.loop-low.invariant in
+    Continues-trans {steady_between = g.P.Pages.is_steady c.read_place.new.pages} (Continues-trans before.continues before.steady c.in_ok-place.ensures.continues) (λ s. c.in_ok-place.ensures.steady (before.steady s)) c.read_word.ensures.continues

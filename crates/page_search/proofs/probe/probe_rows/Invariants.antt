@@ -7,6 +7,7 @@ use Rattle.slotted_page.specs.Node.{IsWellFormed}
 use Rattle.slotted_page.proofs.KeyLaws.{Between}
 use Rattle.page_search.specs.Cost.{row_probe}
 use Rattle.page_search.proofs.ProbeLaws.{Halves}
+use Rattle.page_search.proofs.BoundLaws.{Turns}
 use Rattle.page_search.proofs.probe.probe_rows.Given as goal
 
 abbrev pub invariant-loop-low : goal.invariant-loop-low
@@ -17,6 +18,7 @@ invariant-loop-low g l = record {
   reads : ReadsPage l.page (g.P.Pages.standing l.fn.pages) (g.P.Pages.standing l.pages);
   lines : IsTrue (g.P.Pages.standing l.fn.pages).told
       → AddsLines (Halves (row_probe (bytes_of (g.P.Pages.standing l.fn.pages).current l.page)) l.count l.count (l.high - l.low)) (g.P.Pages.standing l.fn.pages) (g.P.Pages.standing l.pages);
+  bound : AddsLines (Turns 3 10 (l.high - l.low)) (g.P.Pages.standing l.fn.pages) (g.P.Pages.standing l.pages);
   again : (g.P.Pages.standing l.pages).visits ≤ (g.P.Pages.standing l.fn.pages).visits;
   nvm_kept : (g.P.Pages.standing l.pages).nvm_faults ≡ (g.P.Pages.standing l.fn.pages).nvm_faults;
   ssd_kept : (g.P.Pages.standing l.pages).ssd_faults ≡ (g.P.Pages.standing l.fn.pages).ssd_faults;

@@ -6,6 +6,7 @@ use Rattle.slotted_page.specs.Node.{IsWellFormed, leaf_rows}
 use Rattle.tree_search.proofs.SearchLaws.{well_formed_top, row_of_spot, found_row, found_gap, found_child, sound_child, way_on, way_end, way_row}
 use Rattle.line_pages.specs.Cost.{Costs}
 use Rattle.line_pages.proofs.CostLaws.{Costs-weaker}
+use Rattle.line_pages.proofs.StandingLaws.{Continues-trans}
 use Rattle.page_search.specs.Cost.{search_lines}
 use Rattle.tree_search.proofs.CostLaws.{costs_then, leaf_lines, cost_child}
 use Rattle.tree_search.proofs.lookup.+get_in.Goals as goal
@@ -100,3 +101,9 @@ returns-in-Child-clause-cost g t c = λ told tree.
     cost_child e c.args.page c.args.key c.in-Child.field-0 c.in-Child.child c.in-Child.low c.in-Child.high old mid (g.P.Pages.standing c.get_in.new.pages) c.get_in.result
     (c.in_ok-at.ensures.reads.current told) tree c.requires.above c.requires.within (rw c.in-Child.is at c.in_ok-at.ensures.safe) spot (c.in_ok-at.ensures.cost told well)
     (rw c.child_expect-lower.ensures at (c.get_in.ensures.cost (subst IsTrue (sym c.in_ok-at.ensures.continues.told) told)))
+
+pub returns-in-Row-clause-continues : goal.returns-in-Row-clause-continues
+returns-in-Row-clause-continues g t c = Continues-trans {steady_between = g.P.Pages.is_steady c.find.new.pages} c.in_ok-at.ensures.continues c.in_ok-at.ensures.steady c.value_at.ensures.continues
+
+pub returns-in-Child-clause-continues : goal.returns-in-Child-clause-continues
+returns-in-Child-clause-continues g t c = Continues-trans {steady_between = g.P.Pages.is_steady c.find.new.pages} c.in_ok-at.ensures.continues c.in_ok-at.ensures.steady c.get_in.ensures.continues

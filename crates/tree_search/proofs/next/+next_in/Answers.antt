@@ -3,16 +3,19 @@ use Rattle.line_pages.specs.Lines.{Lines}
 use Rattle.line_pages.specs.Bytes.{bytes_of}
 use Rattle.slotted_page.specs.declared.root.Expect.{Expect}
 use Rattle.slotted_page.specs.Rows.{Row, row_next}
-use Rattle.slotted_page.specs.Node.{leaf_rows, IsWellFormed}
+use Rattle.slotted_page.specs.Node.{leaf_rows, children, IsWellFormed}
 use Rattle.slotted_page.proofs.PageFacts.{leaf_facts}
 use Rattle.tree_search.specs.Tree.{IsTree, tree_rows}
 use Rattle.page_space.specs.Stops.{IsFault}
-use Rattle.tree_search.specs.Next.{most_visits}
+use Rattle.line_pages.specs.Cost.{Costs}
+use Rattle.line_pages.proofs.StandingLaws.{Continues-trans}
+use Rattle.tree_search.specs.Next.{Reaches, most_visits, lines_for, next_lines, first_lines}
 use Rattle.tree_search.proofs.SearchLaws.{well_formed_top, sound_child}
-use Rattle.tree_search.proofs.NextLaws.{most_some, most_twice, next_past, next_gap, next_row, after_child, child_answer, some_in_child, none_in_child}
+use Rattle.tree_search.proofs.NextLaws.{reaches, most_some, most_twice, next_past, next_gap, next_row, after_child, child_answer, some_in_child, none_in_child}
 use Rattle.tree_search.proofs.OrderLaws.{tree_rows-ascend}
 use Rattle.page_search.proofs.OpenLaws.{then_reads}
 use Rattle.tree_search.proofs.NextReads.{child_tree, reads_under, reads_child, reads_on, reads_top}
+use Rattle.tree_search.proofs.NextCost.{next_leaf, first_leaf, next_some, first_some, next_none, first_row, after_costs}
 use Rattle.tree_search.proofs.next.+next_in.Goals as goal
 
 pub next_after-returns-then-high-expect-clause-few : goal.next_after-returns-then-high-expect-clause-few
@@ -202,3 +205,151 @@ next_in-returns-in-None-clause-touches g t c = λ told tree.
     (rw c.child_expect-lower.ensures at (c.in_ok-row-in-Child.ensures.touches told_on) below) in
     reads_on c.args.page e.level old mid new c.next_after.result same_mid lower
     (c.next_after.ensures.touches told_mid (subst (λ (lines : Lines). IsTree e.pages lines e.level c.args.page e.low e.high e.root) (sym same_mid) tree))
+
+pub next_after-returns-in-Child-clause-cost : goal.next_after-returns-in-Child-clause-cost
+next_after-returns-in-Child-clause-cost g t c = λ told tree reached.
+    let e = c.args.expect.now in
+    let old = g.P.Pages.standing c.args.pages.now in
+    let first = g.P.Pages.standing c.find.new.pages in
+    let well = well_formed_top e.pages old.current e.level c.args.page e.low e.high e.root tree in
+    let safe = rw c.in-Child.is at c.in_ok-child.ensures.safe in
+    let spot = rw c.in-Child.is at (c.in_ok-child.ensures.spot told well) in
+    let told_on = subst IsTrue (sym c.in_ok-child.ensures.continues.told) told in
+    after_costs e c.args.page c.in-Child.field-0 c.in-Child.child c.in-Child.low c.in-Child.top c.args.high old first (g.P.Pages.standing c.next_in.new.pages) c.next_in.result
+    (c.in_ok-child.ensures.reads.current told) c.requires.level tree reached (omega (arith, c.if-high-expect.false)) spot safe.4 safe.5 (c.in_ok-child.ensures.cost told well)
+    (rw c.child_expect-lower.ensures at (c.next_in.ensures.row told_on)) (rw c.child_expect-lower.ensures at (c.next_in.ensures.first told_on))
+
+pub next_in-returns-in-Row-clause-cost : goal.next_in-returns-in-Row-clause-cost
+next_in-returns-in-Row-clause-cost g t c = λ told tree.
+    let e = c.args.expect.now in
+    let old = g.P.Pages.standing c.args.pages.now in
+    let first = g.P.Pages.standing c.find.new.pages in
+    let new = g.P.Pages.standing c.row_from.new.pages in
+    let well = well_formed_top e.pages old.current e.level c.args.page e.low e.high e.root tree in
+    let told_on = subst IsTrue (sym c.in_ok-at.ensures.continues.told) told in
+    let spot = rw c.in-Row.is at (c.in_ok-at.ensures.spot told well) in
+    let row = subst (λ (lines : Lines). IsWellFormed (bytes_of lines c.args.page) e → IfOk c.row_from.result (λ row. Costs (lines_for 1 12 row) first new)) (c.in_ok-at.ensures.reads.current told) (c.row_from.ensures.cost told_on) well in
+    next_leaf e.level old first new c.row_from.result spot.0 (c.in_ok-at.ensures.cost told well) row
+
+pub next_in-returns-in-Row-clause-first : goal.next_in-returns-in-Row-clause-first
+next_in-returns-in-Row-clause-first g t c = λ told tree low.
+    let e = c.args.expect.now in
+    let old = g.P.Pages.standing c.args.pages.now in
+    let first = g.P.Pages.standing c.find.new.pages in
+    let new = g.P.Pages.standing c.row_from.new.pages in
+    let well = well_formed_top e.pages old.current e.level c.args.page e.low e.high e.root tree in
+    let told_on = subst IsTrue (sym c.in_ok-at.ensures.continues.told) told in
+    let spot = rw c.in-Row.is at (c.in_ok-at.ensures.spot told well) in
+    let row = subst (λ (lines : Lines). IsWellFormed (bytes_of lines c.args.page) e → IfOk c.row_from.result (λ row. Costs (lines_for 1 12 row) first new)) (c.in_ok-at.ensures.reads.current told) (c.row_from.ensures.cost told_on) well in
+    first_leaf e.level old first new c.row_from.result spot.0 (c.in_ok-at.ensures.cost told well) row
+
+pub next_in-returns-in-Gap-clause-cost : goal.next_in-returns-in-Gap-clause-cost
+next_in-returns-in-Gap-clause-cost g t c = λ told tree.
+    let e = c.args.expect.now in
+    let old = g.P.Pages.standing c.args.pages.now in
+    let first = g.P.Pages.standing c.find.new.pages in
+    let new = g.P.Pages.standing c.row_from-in-Gap.new.pages in
+    let well = well_formed_top e.pages old.current e.level c.args.page e.low e.high e.root tree in
+    let told_on = subst IsTrue (sym c.in_ok-at.ensures.continues.told) told in
+    let spot = rw c.in-Gap.is at (c.in_ok-at.ensures.spot told well) in
+    let row = subst (λ (lines : Lines). IsWellFormed (bytes_of lines c.args.page) e → IfOk c.row_from-in-Gap.result (λ row. Costs (lines_for 1 12 row) first new)) (c.in_ok-at.ensures.reads.current told) (c.row_from-in-Gap.ensures.cost told_on) well in
+    next_leaf e.level old first new c.row_from-in-Gap.result spot.0 (c.in_ok-at.ensures.cost told well) row
+
+pub next_in-returns-in-Gap-clause-first : goal.next_in-returns-in-Gap-clause-first
+next_in-returns-in-Gap-clause-first g t c = λ told tree low.
+    let e = c.args.expect.now in
+    let old = g.P.Pages.standing c.args.pages.now in
+    let first = g.P.Pages.standing c.find.new.pages in
+    let new = g.P.Pages.standing c.row_from-in-Gap.new.pages in
+    let well = well_formed_top e.pages old.current e.level c.args.page e.low e.high e.root tree in
+    let told_on = subst IsTrue (sym c.in_ok-at.ensures.continues.told) told in
+    let spot = rw c.in-Gap.is at (c.in_ok-at.ensures.spot told well) in
+    let row = subst (λ (lines : Lines). IsWellFormed (bytes_of lines c.args.page) e → IfOk c.row_from-in-Gap.result (λ row. Costs (lines_for 1 12 row) first new)) (c.in_ok-at.ensures.reads.current told) (c.row_from-in-Gap.ensures.cost told_on) well in
+    first_leaf e.level old first new c.row_from-in-Gap.result spot.0 (c.in_ok-at.ensures.cost told well) row
+
+pub next_in-returns-in-Some-clause-cost : goal.next_in-returns-in-Some-clause-cost
+next_in-returns-in-Some-clause-cost g t c = λ told tree.
+    let e = c.args.expect.now in
+    let old = g.P.Pages.standing c.args.pages.now in
+    let first = g.P.Pages.standing c.find.new.pages in
+    let new = g.P.Pages.standing c.next_in.new.pages in
+    let well = well_formed_top e.pages old.current e.level c.args.page e.low e.high e.root tree in
+    let safe = rw c.in-Child.is at c.in_ok-at.ensures.safe in
+    let spot = rw c.in-Child.is at (c.in_ok-at.ensures.spot told well) in
+    let told_on = subst IsTrue (sym c.in_ok-at.ensures.continues.told) told in
+    let below = child_tree e old.current first.current c.args.page c.in-Child.field-0 c.in-Child.child c.in-Child.low c.in-Child.high (c.in_ok-at.ensures.reads.current told) safe.0 tree spot in
+    let lower = subst (λ (x : Expect). IsTree x.pages first.current x.level c.in-Child.child x.low x.high x.root → Costs (next_lines x.level (Some c.in-Some.row)) first new) c.child_expect-lower.ensures
+    (rw c.in-Some.is at (c.in_ok-row-in-Child.ensures.cost told_on)) below in
+    next_some e.level c.in-Some.row old first new safe.0 (c.in_ok-at.ensures.cost told well) lower
+
+pub next_in-returns-in-Some-clause-first : goal.next_in-returns-in-Some-clause-first
+next_in-returns-in-Some-clause-first g t c = λ told tree low.
+    let e = c.args.expect.now in
+    let old = g.P.Pages.standing c.args.pages.now in
+    let first = g.P.Pages.standing c.find.new.pages in
+    let new = g.P.Pages.standing c.next_in.new.pages in
+    let well = well_formed_top e.pages old.current e.level c.args.page e.low e.high e.root tree in
+    let safe = rw c.in-Child.is at c.in_ok-at.ensures.safe in
+    let spot = rw c.in-Child.is at (c.in_ok-at.ensures.spot told well) in
+    let told_on = subst IsTrue (sym c.in_ok-at.ensures.continues.told) told in
+    let below = child_tree e old.current first.current c.args.page c.in-Child.field-0 c.in-Child.child c.in-Child.low c.in-Child.high (c.in_ok-at.ensures.reads.current told) safe.0 tree spot in
+    let lower = subst (λ (x : Expect). IsTree x.pages first.current x.level c.in-Child.child x.low x.high x.root → c.args.from ≡ x.low → Costs (first_lines x.level) first new) c.child_expect-lower.ensures
+    (c.in_ok-row-in-Child.ensures.first told_on) below (omega (arith, low, safe.3, safe.4)) in
+    first_some e.level old first new safe.0 (c.in_ok-at.ensures.cost told well) lower
+
+pub next_in-returns-in-None-clause-cost : goal.next_in-returns-in-None-clause-cost
+next_in-returns-in-None-clause-cost g t c = λ told tree.
+    let e = c.args.expect.now in
+    let old = g.P.Pages.standing c.args.pages.now in
+    let first = g.P.Pages.standing c.find.new.pages in
+    let new = g.P.Pages.standing c.next_in.new.pages in
+    let well = well_formed_top e.pages old.current e.level c.args.page e.low e.high e.root tree in
+    let safe = rw c.in-Child.is at c.in_ok-at.ensures.safe in
+    let spot = rw c.in-Child.is at (c.in_ok-at.ensures.spot told well) in
+    let told_on = subst IsTrue (sym c.in_ok-at.ensures.continues.told) told in
+    let below = child_tree e old.current first.current c.args.page c.in-Child.field-0 c.in-Child.child c.in-Child.low c.in-Child.high (c.in_ok-at.ensures.reads.current told) safe.0 tree spot in
+    let same = c.in_ok-at.ensures.reads.current told in
+    let told_mid = subst IsTrue (sym c.in_ok-row-in-Child.ensures.continues.told) told_on in
+    let same_mid = c.in_ok-row-in-Child.ensures.keeps.current told_on ∙ same in
+    let lower = subst (λ (x : Expect). IsTree x.pages first.current x.level c.in-Child.child x.low x.high x.root → Costs (next_lines x.level None) first new) c.child_expect-lower.ensures
+    (rw c.in-None.is at (c.in_ok-row-in-Child.ensures.cost told_on)) below in
+    let last = g.P.Pages.standing c.next_after.new.pages in
+    let rest = subst (λ (lines : Lines). IsTree e.pages lines e.level c.args.page e.low e.high e.root → Reaches (children (bytes_of lines c.args.page)) e.high c.in-Child.high → IfOk c.next_after.result (λ row. Costs (lines_for 0 (first_lines e.level) row) new last))
+    same_mid (c.next_after.ensures.cost told_mid) tree (reaches (children (bytes_of old.current c.args.page)) e.high c.in-Child.field-0 (record { page = c.in-Child.child; low = c.in-Child.low; high = c.in-Child.high }) spot) in
+    next_none e.level old first new last c.next_after.result safe.0 (c.in_ok-at.ensures.cost told well) lower rest
+
+pub next_in-returns-in-None-clause-first : goal.next_in-returns-in-None-clause-first
+next_in-returns-in-None-clause-first g t c = λ told tree low.
+    let e = c.args.expect.now in
+    let old = g.P.Pages.standing c.args.pages.now in
+    let first = g.P.Pages.standing c.find.new.pages in
+    let new = g.P.Pages.standing c.next_in.new.pages in
+    let well = well_formed_top e.pages old.current e.level c.args.page e.low e.high e.root tree in
+    let safe = rw c.in-Child.is at c.in_ok-at.ensures.safe in
+    let spot = rw c.in-Child.is at (c.in_ok-at.ensures.spot told well) in
+    let told_on = subst IsTrue (sym c.in_ok-at.ensures.continues.told) told in
+    let below = child_tree e old.current first.current c.args.page c.in-Child.field-0 c.in-Child.child c.in-Child.low c.in-Child.high (c.in_ok-at.ensures.reads.current told) safe.0 tree spot in
+    let none = subst (λ (x : Expect). IsTree x.pages first.current x.level c.in-Child.child x.low x.high x.root → None ≡ row_next c.args.from (tree_rows first.current x.level c.in-Child.child)) c.child_expect-lower.ensures
+    (rw c.in-None.is at (c.in_ok-row-in-Child.ensures.row told_on)) below in
+    absurd (first_row e.pages first.current (e.level - 1) c.in-Child.child c.in-Child.low c.in-Child.high c.args.from below (omega (arith, low, safe.3)) (sym none))
+
+pub next_after-returns-in-Child-clause-continues : goal.next_after-returns-in-Child-clause-continues
+next_after-returns-in-Child-clause-continues g t c = Continues-trans {steady_between = g.P.Pages.is_steady c.find.new.pages} c.in_ok-child.ensures.continues c.in_ok-child.ensures.steady c.next_in.ensures.continues
+
+pub next_in-returns-in_err-row-in-Child-clause-continues : goal.next_in-returns-in_err-row-in-Child-clause-continues
+next_in-returns-in_err-row-in-Child-clause-continues g t c = Continues-trans {steady_between = g.P.Pages.is_steady c.find.new.pages} c.in_ok-at.ensures.continues c.in_ok-at.ensures.steady c.next_in.ensures.continues
+
+pub next_in-returns-in-Row-clause-continues : goal.next_in-returns-in-Row-clause-continues
+next_in-returns-in-Row-clause-continues g t c = Continues-trans {steady_between = g.P.Pages.is_steady c.find.new.pages} c.in_ok-at.ensures.continues c.in_ok-at.ensures.steady c.row_from.ensures.continues
+
+pub next_in-returns-in-Gap-clause-continues : goal.next_in-returns-in-Gap-clause-continues
+next_in-returns-in-Gap-clause-continues g t c = Continues-trans {steady_between = g.P.Pages.is_steady c.find.new.pages} c.in_ok-at.ensures.continues c.in_ok-at.ensures.steady c.row_from-in-Gap.ensures.continues
+
+pub next_in-returns-in-Some-clause-continues : goal.next_in-returns-in-Some-clause-continues
+next_in-returns-in-Some-clause-continues g t c = Continues-trans {steady_between = g.P.Pages.is_steady c.find.new.pages} c.in_ok-at.ensures.continues c.in_ok-at.ensures.steady c.next_in.ensures.continues
+
+pub next_in-returns-in-None-clause-continues : goal.next_in-returns-in-None-clause-continues
+next_in-returns-in-None-clause-continues g t c =
+    Continues-trans {steady_between = g.P.Pages.is_steady c.next_in.new.pages}
+    (Continues-trans {steady_between = g.P.Pages.is_steady c.find.new.pages} c.in_ok-at.ensures.continues c.in_ok-at.ensures.steady c.next_in.ensures.continues)
+    (λ s. c.in_ok-row-in-Child.ensures.steady (c.in_ok-at.ensures.steady s)) c.next_after.ensures.continues
