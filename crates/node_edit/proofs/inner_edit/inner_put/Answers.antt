@@ -1,14 +1,14 @@
 use Rattle.std.proofs.Common.{◌≡◌, ℕ, List, sym, ap, subst, ◌∙◌, true, false}
 use Rattle.std.specs.List.{insert, remove}
 use Rattle.slotted_page.specs.Node.{Child, children}
-use Rattle.node_edit.specs.Edit.{Fits, child_put, child_place, has_child}
+use Rattle.node_edit.specs.Edit.{Fits, child_put, place_of, has_key}
 use Rattle.node_edit.proofs.ChildEdits.{child_new, child_again, put_children}
 use Rattle.node_edit.proofs.inner_edit.inner_put.Goals as goal
 
-new_child : (key page : ℕ) (cs : List Child) (at : ℕ) → has_child key cs ≡ false → at ≡ child_place key cs → child_put key page cs ≡ insert cs at (key, page)
+new_child : (key page : ℕ) (cs : List Child) (at : ℕ) → has_key key cs ≡ false → at ≡ place_of key cs → child_put key page cs ≡ insert cs at (key, page)
 new_child key page cs at none is = child_new key page cs none ∙ ap (λ (i : ℕ). insert cs i (key, page)) (sym is)
 
-other_child : (key page : ℕ) (cs mid : List Child) (at : ℕ) → has_child key cs ≡ true → at ≡ child_place key cs → mid ≡ remove cs at → child_put key page cs ≡ insert mid at (key, page)
+other_child : (key page : ℕ) (cs mid : List Child) (at : ℕ) → has_key key cs ≡ true → at ≡ place_of key cs → mid ≡ remove cs at → child_put key page cs ≡ insert mid at (key, page)
 other_child key page cs mid at there is e = child_again key page cs there ∙ ap (λ (i : ℕ). insert (remove cs i) i (key, page)) (sym is) ∙ ap (λ (all : List Child). insert all at (key, page)) (sym e)
 
 pub insert_child-requires-clause-are : goal.insert_child-requires-clause-are

@@ -3,7 +3,7 @@ use Rattle.std.specs.List.{insert, remove}
 use Rattle.slotted_page.specs.Rows.{Row, row_put}
 use Rattle.slotted_page.specs.Node.{leaf_rows}
 use Rattle.slotted_page.specs.Sound.{row_bytes}
-use Rattle.node_edit.specs.Edit.{Fits, has_row, place_of}
+use Rattle.node_edit.specs.Edit.{Fits, has_key, place_of}
 use Rattle.node_edit.specs.Record.{FitsLeaf}
 use Rattle.node_edit.proofs.KeyPlaceLaws.{put_new, put_again, put_same}
 use Rattle.node_edit.proofs.LeafLaws.{put_order, leaf_within, set_bytes}
@@ -14,10 +14,10 @@ none : Row
 none = (0, [])
 
 -- a new row, and a row in place of another
-new_row : (key : ℕ) (value : List ℕ) (rows : List Row) (at : ℕ) → has_row key rows ≡ false → at ≡ place_of key rows → row_put key value rows ≡ insert rows at (key, value)
+new_row : (key : ℕ) (value : List ℕ) (rows : List Row) (at : ℕ) → has_key key rows ≡ false → at ≡ place_of key rows → row_put key value rows ≡ insert rows at (key, value)
 new_row key value rows at none is = put_new key value rows none ∙ ap (λ (i : ℕ). insert rows i (key, value)) (sym is)
 
-other_row : (key : ℕ) (value : List ℕ) (rows mid : List Row) (at : ℕ) → has_row key rows ≡ true → at ≡ place_of key rows → mid ≡ remove rows at → row_put key value rows ≡ insert mid at (key, value)
+other_row : (key : ℕ) (value : List ℕ) (rows mid : List Row) (at : ℕ) → has_key key rows ≡ true → at ≡ place_of key rows → mid ≡ remove rows at → row_put key value rows ≡ insert mid at (key, value)
 other_row key value rows mid at there is e = put_again key value rows there ∙ ap (λ (i : ℕ). insert (remove rows i) i (key, value)) (sym is) ∙ ap (λ (all : List Row). insert all at (key, value)) (sym e)
 
 pub insert_row-requires-clause-order : goal.insert_row-requires-clause-order
