@@ -1,5 +1,5 @@
 -- Children by the place of a key, and inner pages within bounds.
-use Rattle.std.proofs.Common.{◌≡◌, ℕ, zero, suc, Some, ◌+◌, ◌-◌, ◌<◌, ◌≤◌, inl, inr, Bool, true, false, List, [], ◌∷◌, ◌++◌, length, take, drop, get_or, refl, sym, ap, subst, ◌∙◌, arith, nat_lt, nat_le, nat_eq, take-append-drop, append_assoc, ◌||◌, length-append, length-drop}
+use Rattle.std.proofs.Common.{◌≡◌, ℕ, zero, suc, Some, ◌+◌, ◌-◌, ◌<◌, ◌≤◌, inl, inr, Bool, true, false, List, [], ◌∷◌, ◌++◌, length, take, drop, get_or, refl, sym, ap, subst, ◌∙◌, arith, nat_lt, nat_le, take-append-drop, append_assoc, ◌||◌, length-append, length-drop}
 use Rattle.std.specs.List.{insert, remove, list_all}
 use Rattle.std.proofs.lemmas.List.{length-take-le}
 use Rattle.std.proofs.lemmas.Bool.{lt-ltb, le-ltb, le-leb, ltb-true, eqb-true, eq-eqb, ne_eqb, cases_lt, cases_eq, and_parts, and_from, leb-true}
@@ -13,6 +13,7 @@ use Rattle.slotted_page.proofs.BranchLemmas.{branch_to}
 use Rattle.slotted_page.proofs.InnerLemmas.{length_children}
 use Rattle.node_edit.specs.Edit.{part, Divides, child_put, place_of, has_key, AreChildren, both, joined, IsCutIn, Holds}
 use Rattle.node_edit.specs.declared.pair.Pair.{Pair}
+use Rattle.node_edit.proofs.KeyPlaceLaws.{child_puts, put_new}
 use Rattle.slotted_page.specs.Spans.{reach}
 use Rattle.page_space.specs.Moves.{below}
 
@@ -33,24 +34,6 @@ later low high s (x ∷ xs) ys up = let ih = later (x.0 + 1) high s xs ys up.2 i
 pub keys_below : (low high key : ℕ) (s : Child) (xs ys : List Child) → Ascends low high (first_keys (xs ++ (s ∷ ys))) → s.0 ≤ key → Each (λ (c : Child). c.0 < key) xs
 keys_below low high key s [] ys up above = tt
 keys_below low high key s (x ∷ xs) ys up above = let next = later (x.0 + 1) high s xs ys up.2 in (omega (arith, next, above), keys_below (x.0 + 1) high key s xs ys up.2 above)
-
--- a new key
-pub child_new : (key : ℕ) (page : ℕ) (rows : List Child) → has_key key rows ≡ false → child_put key page rows ≡ insert rows (place_of key rows) (key, page)
-child_new key page [] none = refl
-child_new key page (row ∷ rows) none =
-    elim (cases_lt row.0 key) [
-      | inl lt ↦ let rest : has_key key rows ≡ false = rw (lt-ltb row.0 key lt) at none in rw (lt-ltb row.0 key lt) (ap (λ r. row ∷ r) (child_new key page rows rest))
-      | inr ge ↦ let other : nat_eq row.0 key ≡ false = rw (le-ltb row.0 key ge) at none in rw (le-ltb row.0 key ge, other) refl
-    ]
-
--- a key that is there
-pub child_again : (key : ℕ) (page : ℕ) (rows : List Child) → has_key key rows ≡ true → child_put key page rows ≡ insert (remove rows (place_of key rows)) (place_of key rows) (key, page)
-child_again key page [] there = absurd (cc)
-child_again key page (row ∷ rows) there =
-    elim (cases_lt row.0 key) [
-      | inl lt ↦ let rest : has_key key rows ≡ true = rw (lt-ltb row.0 key lt) at there in rw (lt-ltb row.0 key lt) (ap (λ r. row ∷ r) (child_again key page rows rest))
-      | inr ge ↦ let same : nat_eq row.0 key ≡ true = rw (le-ltb row.0 key ge) at there in rw (le-ltb row.0 key ge, same) refl
-    ]
 
 pub child_order : (low high key page : ℕ) (cs : List Child) → low ≤ key → key ≤ high → Ascends low high (first_keys cs) → Ascends low high (first_keys (child_put key page cs))
 child_order low high key page [] from to up = (from, to, tt)
@@ -331,7 +314,7 @@ mended_divided e old new mid key at place pair cut are at_is mid_is place_is non
     let p = put_back e key (children old) pair xs ys t cut reach_is in
     let rest : children mid ≡ xs ++ ((pair.low, pair.left) ∷ ys) = mid_is ∙ ap (remove (children old)) (at_is ∙ t.place) ∙ t.out in
     let kids : children new ≡ xs ++ (joined pair (Some key) ++ ys) =
-    new_is ∙ ap (λ (i : ℕ). insert (children mid) i (key, pair.right)) place_is ∙ sym (child_new key pair.right (children mid) none) ∙ ap (child_put key pair.right) rest ∙ p.is in
+    new_is ∙ sym (put_new (child_puts key pair.right) (children mid) place none place_is) ∙ ap (child_put key pair.right) rest ∙ p.is in
     record {
       well = inner_within new e (xs ++ (joined pair (Some key) ++ ys)) (sym level) branch kids (omega (arith, are.some, t.size, p.size)) p.begins p.order p.below (full_more e.root (length (children old)) (length (xs ++ (joined pair (Some key) ++ ys))) (omega (arith, t.size, p.size)) are.full);
       are = kids;

@@ -1,11 +1,11 @@
 -- Rows and children by the place of a key.
-use Rattle.std.proofs.Common.{◌≡◌, ℕ, zero, suc, ◌+◌, ◌*◌, ◌<◌, ◌≤◌, inl, inr, true, false, List, [], ◌∷◌, length, get_or, refl, sym, ap, arith, nat_eq, slice_set}
+use Rattle.std.proofs.Common.{◌≡◌, ℕ, zero, suc, ◌+◌, ◌*◌, ◌<◌, ◌≤◌, inl, inr, true, false, if◌then◌else◌, List, [], ◌∷◌, length, get_or, refl, sym, ap, arith, nat_lt, nat_eq, slice_set}
 use Rattle.std.specs.List.{insert, remove}
 use Rattle.std.proofs.lemmas.Bool.{lt-ltb, le-ltb, eqb-true, eq-eqb, ne_eqb, cases_lt, cases_eq}
 use Rattle.slotted_page.specs.Rows.{Row, keys, row_put, row_delete, Ascends}
 use Rattle.slotted_page.specs.Sound.{row_bytes}
 use Rattle.slotted_page.proofs.RowLemmas.{row_bytes-cons}
-use Rattle.node_edit.specs.Edit.{place_of, has_key}
+use Rattle.node_edit.specs.Edit.{place_of, has_key, child_put}
 
 pub place_within : {X : Type 0} (key : ℕ) (entries : List (ℕ × X)) → place_of key entries ≤ length entries
 place_within key [] = omega arith
@@ -61,23 +61,38 @@ has_key-none key (entry ∷ rest) all =
       | inr ge ↦ let none : suc (length rest) ≤ 0 = rw (le-ltb entry.0 key ge) at all in absurd (omega (arith, none))
     ]
 
+-- a way to put an entry at its key, in place of one that has the key
+pub record Puts {X : Type 0} (key : ℕ) (x : X) (put : List (ℕ × X) → List (ℕ × X)) : Type 0 where
+  pub none : put [] ≡ (key, x) ∷ []
+  pub some : (entry : ℕ × X) (rest : List (ℕ × X)) → put (entry ∷ rest) ≡ (if nat_lt entry.0 key then entry ∷ put rest else if nat_eq entry.0 key then (key, x) ∷ rest else (key, x) ∷ entry ∷ rest)
+
+pub row_puts : (key : ℕ) (value : List ℕ) → Puts key value (row_put key value)
+row_puts key value = record { none = refl; some = λ entry rest. refl }
+
+pub child_puts : (key page : ℕ) → Puts key page (child_put key page)
+child_puts key page = record { none = refl; some = λ entry rest. refl }
+
 -- a new key
-pub put_new : (key : ℕ) (value : List ℕ) (rows : List Row) → has_key key rows ≡ false → row_put key value rows ≡ insert rows (place_of key rows) (key, value)
-put_new key value [] none = refl
-put_new key value (row ∷ rows) none =
-    elim (cases_lt row.0 key) [
-      | inl lt ↦ let rest : has_key key rows ≡ false = rw (lt-ltb row.0 key lt) at none in rw (lt-ltb row.0 key lt) (ap (λ r. row ∷ r) (put_new key value rows rest))
-      | inr ge ↦ let other : nat_eq row.0 key ≡ false = rw (le-ltb row.0 key ge) at none in rw (le-ltb row.0 key ge, other) refl
-    ]
+pub put_new : {X : Type 0} {key : ℕ} {x : X} {put : List (ℕ × X) → List (ℕ × X)} → Puts key x put → (entries : List (ℕ × X)) (at : ℕ) → has_key key entries ≡ false → at ≡ place_of key entries → put entries ≡ insert entries at (key, x)
+put_new puts [] at none is = rw is puts.none
+put_new {X} {key} puts (entry ∷ rest) at none is =
+    rw (is, puts.some entry rest) (elim (cases_lt entry.0 key) [
+      | inl lt ↦
+          let left : has_key key rest ≡ false = rw (lt-ltb entry.0 key lt) at none in
+          rw (lt-ltb entry.0 key lt) (ap (λ r. entry ∷ r) (put_new puts rest (place_of key rest) left refl))
+      | inr ge ↦ let other : nat_eq entry.0 key ≡ false = rw (le-ltb entry.0 key ge) at none in rw (le-ltb entry.0 key ge, other) refl
+    ])
 
 -- a key that is there
-pub put_again : (key : ℕ) (value : List ℕ) (rows : List Row) → has_key key rows ≡ true → row_put key value rows ≡ insert (remove rows (place_of key rows)) (place_of key rows) (key, value)
-put_again key value [] there = absurd (cc)
-put_again key value (row ∷ rows) there =
-    elim (cases_lt row.0 key) [
-      | inl lt ↦ let rest : has_key key rows ≡ true = rw (lt-ltb row.0 key lt) at there in rw (lt-ltb row.0 key lt) (ap (λ r. row ∷ r) (put_again key value rows rest))
-      | inr ge ↦ let same : nat_eq row.0 key ≡ true = rw (le-ltb row.0 key ge) at there in rw (le-ltb row.0 key ge, same) refl
-    ]
+pub put_again : {X : Type 0} {key : ℕ} {x : X} {put : List (ℕ × X) → List (ℕ × X)} → Puts key x put → (entries mid : List (ℕ × X)) (at : ℕ) → has_key key entries ≡ true → at ≡ place_of key entries → mid ≡ remove entries at → put entries ≡ insert mid at (key, x)
+put_again puts [] mid at there is cut = absurd (cc)
+put_again {X} {key} puts (entry ∷ rest) mid at there is cut =
+    rw (cut, is, puts.some entry rest) (elim (cases_lt entry.0 key) [
+      | inl lt ↦
+          let left : has_key key rest ≡ true = rw (lt-ltb entry.0 key lt) at there in
+          rw (lt-ltb entry.0 key lt) (ap (λ r. entry ∷ r) (put_again puts rest (remove rest (place_of key rest)) (place_of key rest) left refl refl))
+      | inr ge ↦ let same : nat_eq entry.0 key ≡ true = rw (le-ltb entry.0 key ge) at there in rw (le-ltb entry.0 key ge, same) refl
+    ])
 
 pub put_same : (key : ℕ) (value : List ℕ) (rows : List Row) (d : Row) → has_key key rows ≡ true → row_put key value rows ≡ slice_set rows (place_of key rows) ((get_or rows (place_of key rows) d).0, value)
 put_same key value [] d there = absurd (cc)
