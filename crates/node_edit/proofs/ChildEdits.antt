@@ -1,5 +1,5 @@
 -- Children by the place of a key, and inner pages within bounds.
-use Rattle.std.proofs.Common.{◌≡◌, ℕ, zero, suc, Some, ◌+◌, ◌-◌, ◌<◌, ◌≤◌, inl, inr, Bool, true, false, List, [], ◌∷◌, ◌++◌, length, take, drop, get_or, refl, sym, ap, subst, ◌∙◌, arith, nat_lt, nat_le, nat_eq, take-append-drop, append_assoc, ◌||◌, length-append, length-drop}
+use Rattle.std.proofs.Common.{◌≡◌, ℕ, zero, suc, Some, ◌+◌, ◌-◌, ◌<◌, ◌≤◌, inl, inr, Bool, true, false, List, [], ◌∷◌, ◌++◌, length, take, drop, get_or, refl, sym, ap, subst, ◌∙◌, arith, nat_lt, nat_le, take-append-drop, append_assoc, ◌||◌, length-append, length-drop}
 use Rattle.std.specs.List.{insert, remove, list_all}
 use Rattle.std.proofs.lemmas.List.{length-take-le}
 use Rattle.std.proofs.lemmas.Bool.{lt-ltb, le-ltb, le-leb, ltb-true, eqb-true, eq-eqb, ne_eqb, cases_lt, cases_eq, and_parts, and_from, leb-true}
@@ -11,8 +11,9 @@ use Rattle.slotted_page.specs.Inner.{IsBranch}
 use Rattle.slotted_page.proofs.PageFacts.{inner_facts}
 use Rattle.slotted_page.proofs.BranchLemmas.{branch_to}
 use Rattle.slotted_page.proofs.InnerLemmas.{length_children}
-use Rattle.node_edit.specs.Edit.{part, Divides, child_put, child_place, has_child, AreChildren, both, joined, IsCutIn, Holds}
+use Rattle.node_edit.specs.Edit.{part, Divides, child_put, place_of, has_key, AreChildren, both, joined, IsCutIn, Holds}
 use Rattle.node_edit.specs.declared.pair.Pair.{Pair}
+use Rattle.node_edit.proofs.KeyPlaceLaws.{child_puts, put_new}
 use Rattle.slotted_page.specs.Spans.{reach}
 use Rattle.page_space.specs.Moves.{below}
 
@@ -33,78 +34,6 @@ later low high s (x ∷ xs) ys up = let ih = later (x.0 + 1) high s xs ys up.2 i
 pub keys_below : (low high key : ℕ) (s : Child) (xs ys : List Child) → Ascends low high (first_keys (xs ++ (s ∷ ys))) → s.0 ≤ key → Each (λ (c : Child). c.0 < key) xs
 keys_below low high key s [] ys up above = tt
 keys_below low high key s (x ∷ xs) ys up above = let next = later (x.0 + 1) high s xs ys up.2 in (omega (arith, next, above), keys_below (x.0 + 1) high key s xs ys up.2 above)
-
-pub within_place : (key : ℕ) (rows : List Child) → child_place key rows ≤ length rows
-within_place key [] = omega arith
-within_place key (row ∷ rows) =
-    let ih = within_place key rows in
-    elim (cases_lt row.0 key) [
-      | inl lt ↦ rw (lt-ltb row.0 key lt) (omega (arith, ih))
-      | inr ge ↦ rw (le-ltb row.0 key ge) (omega arith)
-    ]
-
--- so many rows are below the key, and then comes one that is not
-pub next_place : (key i : ℕ) (rows : List Child) (d : Child) → i < length rows → i ≤ child_place key rows → (get_or rows i d).0 < key → i + 1 ≤ child_place key rows
-next_place key i [] d within at below = absurd (omega (arith, within))
-next_place key zero (row ∷ rows) d within at below = rw (lt-ltb row.0 key below) (omega arith)
-next_place key (suc i) (row ∷ rows) d within at below =
-    elim (cases_lt row.0 key) [
-      | inl lt ↦
-          let least : suc i ≤ suc (child_place key rows) = rw (lt-ltb row.0 key lt) at at in
-          let ih = next_place key i rows d (omega (arith, within)) (omega (arith, least)) below in
-          rw (lt-ltb row.0 key lt) (omega (arith, ih))
-      | inr ge ↦ let none : suc i ≤ 0 = rw (le-ltb row.0 key ge) at at in absurd (omega (arith, none))
-    ]
-
-pub here_place : (key i : ℕ) (rows : List Child) (d : Child) → i < length rows → i ≤ child_place key rows → key ≤ (get_or rows i d).0 → i ≡ child_place key rows
-here_place key i [] d within at above = absurd (omega (arith, within))
-here_place key zero (row ∷ rows) d within at above = rw (le-ltb row.0 key above) refl
-here_place key (suc i) (row ∷ rows) d within at above =
-    elim (cases_lt row.0 key) [
-      | inl lt ↦
-          let least : suc i ≤ suc (child_place key rows) = rw (lt-ltb row.0 key lt) at at in
-          let ih = here_place key i rows d (omega (arith, within)) (omega (arith, least)) above in
-          rw (lt-ltb row.0 key lt) (ap suc ih)
-      | inr ge ↦ let none : suc i ≤ 0 = rw (le-ltb row.0 key ge) at at in absurd (omega (arith, none))
-    ]
-
-pub has_child-is : (key : ℕ) (rows : List Child) (d : Child) → child_place key rows < length rows → has_child key rows ≡ nat_eq (get_or rows (child_place key rows) d).0 key
-has_child-is key [] d within = absurd (omega (arith, within))
-has_child-is key (row ∷ rows) d within =
-    elim (cases_lt row.0 key) [
-      | inl lt ↦
-          let less : suc (child_place key rows) < suc (length rows) = rw (lt-ltb row.0 key lt) at within in
-          rw (lt-ltb row.0 key lt) (has_child-is key rows d (omega (arith, less)))
-      | inr ge ↦ rw (le-ltb row.0 key ge) refl
-    ]
-
-pub has_child-none : (key : ℕ) (rows : List Child) → length rows ≤ child_place key rows → has_child key rows ≡ false
-has_child-none key [] all = refl
-has_child-none key (row ∷ rows) all =
-    elim (cases_lt row.0 key) [
-      | inl lt ↦
-          let more : suc (length rows) ≤ suc (child_place key rows) = rw (lt-ltb row.0 key lt) at all in
-          rw (lt-ltb row.0 key lt) (has_child-none key rows (omega (arith, more)))
-      | inr ge ↦ let none : suc (length rows) ≤ 0 = rw (le-ltb row.0 key ge) at all in absurd (omega (arith, none))
-    ]
-
--- a new key
-pub child_new : (key : ℕ) (page : ℕ) (rows : List Child) → has_child key rows ≡ false → child_put key page rows ≡ insert rows (child_place key rows) (key, page)
-child_new key page [] none = refl
-child_new key page (row ∷ rows) none =
-    elim (cases_lt row.0 key) [
-      | inl lt ↦ let rest : has_child key rows ≡ false = rw (lt-ltb row.0 key lt) at none in rw (lt-ltb row.0 key lt) (ap (λ r. row ∷ r) (child_new key page rows rest))
-      | inr ge ↦ let other : nat_eq row.0 key ≡ false = rw (le-ltb row.0 key ge) at none in rw (le-ltb row.0 key ge, other) refl
-    ]
-
--- a key that is there
-pub child_again : (key : ℕ) (page : ℕ) (rows : List Child) → has_child key rows ≡ true → child_put key page rows ≡ insert (remove rows (child_place key rows)) (child_place key rows) (key, page)
-child_again key page [] there = absurd (cc)
-child_again key page (row ∷ rows) there =
-    elim (cases_lt row.0 key) [
-      | inl lt ↦ let rest : has_child key rows ≡ true = rw (lt-ltb row.0 key lt) at there in rw (lt-ltb row.0 key lt) (ap (λ r. row ∷ r) (child_again key page rows rest))
-      | inr ge ↦ let same : nat_eq row.0 key ≡ true = rw (le-ltb row.0 key ge) at there in rw (le-ltb row.0 key ge, same) refl
-    ]
 
 pub child_order : (low high key page : ℕ) (cs : List Child) → low ≤ key → key ≤ high → Ascends low high (first_keys cs) → Ascends low high (first_keys (child_put key page cs))
 child_order low high key page [] from to up = (from, to, tt)
@@ -260,8 +189,8 @@ half_of_full n e = omega (arith, e)
 
 -- where a key stands in children that ascend
 pub record StandsAt (key : ℕ) (cs xs ys : List Child) : Type 0 where
-  pub place : child_place key cs ≡ length xs
-  pub there : has_child key cs ≡ true
+  pub place : place_of key cs ≡ length xs
+  pub there : has_key key cs ≡ true
   pub out : remove cs (length xs) ≡ xs ++ ys
 
 pub later_child : (low high : ℕ) (s : Child) (xs ys : List Child) → Ascends low high (first_keys (xs ++ (s ∷ ys))) → low ≤ s.0
@@ -303,8 +232,8 @@ out_begins low (x ∷ xs) ys a s begins = begins
 
 -- two neighbours, the second of them taken out
 pub record TakenOut (e : Expect) (cs : List Child) (pair : Pair) (xs ys : List Child) : Type 0 where
-  pub place : child_place pair.middle cs ≡ suc (length xs)
-  pub there : has_child pair.middle cs ≡ true
+  pub place : place_of pair.middle cs ≡ suc (length xs)
+  pub there : has_key pair.middle cs ≡ true
   pub out : remove cs (suc (length xs)) ≡ xs ++ ((pair.low, pair.left) ∷ ys)
   pub begins : begins_at e.low (xs ++ ((pair.low, pair.left) ∷ ys)) ≡ true
   pub order : Ascends e.low e.high (first_keys (xs ++ ((pair.low, pair.left) ∷ ys)))
@@ -324,8 +253,8 @@ taken_out e cs pair xs ys are is =
     let now : front ++ ys ≡ xs ++ (a ∷ ys) = append_assoc xs (a ∷ []) ys in
     let below = subst (λ (all : List Child). list_all (is_page_below e.pages) all ≡ true) whole are.below in
     record {
-      place = ap (child_place pair.middle) whole ∙ st.place ∙ size;
-      there = ap (has_child pair.middle) whole ∙ st.there;
+      place = ap (place_of pair.middle) whole ∙ st.place ∙ size;
+      there = ap (has_key pair.middle) whole ∙ st.there;
       out = ap (λ (all : List Child). remove all (suc (length xs))) whole ∙ ap (remove (front ++ (s ∷ ys))) (sym size) ∙ st.out ∙ now;
       begins = out_begins e.low xs ys a s (subst (λ (all : List Child). begins_at e.low all ≡ true) is are.begins);
       order = subst (λ (all : List Child). Ascends e.low e.high (first_keys all)) now (out_order e.low e.high front ys s up);
@@ -342,7 +271,7 @@ behind : (low high : ℕ) (xs ys : List Child) (s : Child) → Ascends low high 
 behind low high [] ys s up = up.2
 behind low high (x ∷ xs) ys s up = behind (x.0 + 1) high xs ys s up.2
 
-pub no_child : (key high : ℕ) (xs ys : List Child) (s : Child) → Each (λ (c : Child). c.0 < key) xs → s.0 < key → key ≤ reach ys high → has_child key (xs ++ (s ∷ ys)) ≡ false
+pub no_child : (key high : ℕ) (xs ys : List Child) (s : Child) → Each (λ (c : Child). c.0 < key) xs → s.0 < key → key ≤ reach ys high → has_key key (xs ++ (s ∷ ys)) ≡ false
 no_child key high [] [] s low lt within = rw (lt-ltb s.0 key lt) refl
 no_child key high [] (y ∷ ys) s low lt within = rw (lt-ltb s.0 key lt, le-ltb y.0 key (omega (arith, within))) (ne_eqb y.0 key (λ e. omega (arith, within, lt, e)))
 no_child key high (x ∷ xs) ys s low lt within = rw (lt-ltb x.0 key low.0) (no_child key high xs ys s low.1 lt within)
@@ -350,7 +279,7 @@ no_child key high (x ∷ xs) ys s low lt within = rw (lt-ltb x.0 key low.0) (no_
 -- the second of two neighbours put back at another key
 pub record PutBack (e : Expect) (key : ℕ) (pair : Pair) (xs ys : List Child) : Type 0 where
   pub is : child_put key pair.right (xs ++ ((pair.low, pair.left) ∷ ys)) ≡ xs ++ (joined pair (Some key) ++ ys)
-  pub none : has_child key (xs ++ ((pair.low, pair.left) ∷ ys)) ≡ false
+  pub none : has_key key (xs ++ ((pair.low, pair.left) ∷ ys)) ≡ false
   pub begins : begins_at e.low (xs ++ (joined pair (Some key) ++ ys)) ≡ true
   pub order : Ascends e.low e.high (first_keys (xs ++ (joined pair (Some key) ++ ys)))
   pub below : list_all (is_page_below e.pages) (xs ++ (joined pair (Some key) ++ ys)) ≡ true
@@ -377,15 +306,15 @@ put_back e key cs pair xs ys t cut reach_is =
       size = one_more_child xs ys a (key, pair.right);
     }
 
-pub mended_divided : (e : Expect) (old new mid : List ℕ) (key at place : ℕ) (pair : Pair) → IsCutIn pair (Some key) → AreChildren e (children old) → at ≡ child_place pair.middle (children old) → children mid ≡ remove (children old) at
-    → place ≡ child_place key (children mid) → has_child key (children mid) ≡ false → children new ≡ insert (children mid) place (key, pair.right) → page_level new ≡ e.level → IsBranch new
+pub mended_divided : (e : Expect) (old new mid : List ℕ) (key at place : ℕ) (pair : Pair) → IsCutIn pair (Some key) → AreChildren e (children old) → at ≡ place_of pair.middle (children old) → children mid ≡ remove (children old) at
+    → place ≡ place_of key (children mid) → has_key key (children mid) ≡ false → children new ≡ insert (children mid) place (key, pair.right) → page_level new ≡ e.level → IsBranch new
     → (xs ys : List Child) → children old ≡ xs ++ (both pair ++ ys) → reach ys e.high ≡ pair.high → Holds children e new (xs ++ (joined pair (Some key) ++ ys))
 mended_divided e old new mid key at place pair cut are at_is mid_is place_is none new_is level branch xs ys was reach_is =
     let t = taken_out e (children old) pair xs ys are was in
     let p = put_back e key (children old) pair xs ys t cut reach_is in
     let rest : children mid ≡ xs ++ ((pair.low, pair.left) ∷ ys) = mid_is ∙ ap (remove (children old)) (at_is ∙ t.place) ∙ t.out in
     let kids : children new ≡ xs ++ (joined pair (Some key) ++ ys) =
-    new_is ∙ ap (λ (i : ℕ). insert (children mid) i (key, pair.right)) place_is ∙ sym (child_new key pair.right (children mid) none) ∙ ap (child_put key pair.right) rest ∙ p.is in
+    new_is ∙ sym (put_new (child_puts key pair.right) (children mid) place none place_is) ∙ ap (child_put key pair.right) rest ∙ p.is in
     record {
       well = inner_within new e (xs ++ (joined pair (Some key) ++ ys)) (sym level) branch kids (omega (arith, are.some, t.size, p.size)) p.begins p.order p.below (full_more e.root (length (children old)) (length (xs ++ (joined pair (Some key) ++ ys))) (omega (arith, t.size, p.size)) are.full);
       are = kids;

@@ -12,7 +12,7 @@ use Rattle.line_pages.specs.Bytes.{u64_at}
 use Rattle.slotted_page.proofs.KeyLaws.{Ascends-at, Ascends-last}
 use Rattle.slotted_page.proofs.ChildLaws.{first_key_at}
 use Rattle.node_edit.specs.declared.pair.Pair.{Pair}
-use Rattle.node_edit.specs.Edit.{AreChildren, IsPair, PairsUp, child_place, IsNewRoot}
+use Rattle.node_edit.specs.Edit.{AreChildren, IsPair, PairsUp, place_of, IsNewRoot}
 use Rattle.node_edit.proofs.ChildEdits.{stands_at, inner_within}
 
 all_get : (p : Child → Bool) (cs : List Child) (i : ℕ) (d : Child) → list_all p cs ≡ true → i < length cs → p (get_or cs i d) ≡ true
@@ -107,26 +107,26 @@ ended x [] = record { front = []; last = x; is = refl }
 ended x (y ∷ ys) = let r = ended y ys in record { front = x ∷ r.front; last = r.last; is = ap (λ l. x ∷ l) r.is }
 
 pub record Placed (cs : List Child) (key at : ℕ) : Type 0 where
-  pub place : at ≡ child_place key cs
+  pub place : at ≡ place_of key cs
 
 -- a key with a right sibling
-pub pairs_right : (e : Expect) (cs : List Child) (key at : ℕ) (pair : Pair) → AreChildren e cs → at ≡ child_place key cs → at + 1 < length cs
+pub pairs_right : (e : Expect) (cs : List Child) (key at : ℕ) (pair : Pair) → AreChildren e cs → at ≡ place_of key cs → at + 1 < length cs
     → ((xs ys : List Child) (a b : Child) → cs ≡ xs ++ (a ∷ b ∷ ys) → length xs ≡ at → pair ≡ record { left = a.1; low = a.0; middle = b.0; right = b.1; high = reach ys e.high }) → PairsUp cs e.high key pair
 pairs_right e cs key at pair are place within is xs [] s at_key was =
     let st = stands_at e.low e.high xs [] s (subst (λ (l : List Child). Ascends e.low e.high (first_keys l)) was are.order) in
-    let here : child_place key cs ≡ length xs = ap (λ (k : ℕ). child_place k cs) (sym at_key) ∙ ap (child_place s.0) was ∙ st.place in
+    let here : place_of key cs ≡ length xs = ap (λ (k : ℕ). place_of k cs) (sym at_key) ∙ ap (place_of s.0) was ∙ st.place in
     absurd (omega (arith, within, place, here, ap length was, length-append xs (s ∷ [])))
 pairs_right e cs key at pair are place within is xs (y ∷ ys) s at_key was =
     let st = stands_at e.low e.high xs (y ∷ ys) s (subst (λ (l : List Child). Ascends e.low e.high (first_keys l)) was are.order) in
-    let here : child_place key cs ≡ length xs = ap (λ (k : ℕ). child_place k cs) (sym at_key) ∙ ap (child_place s.0) was ∙ st.place in
+    let here : place_of key cs ≡ length xs = ap (λ (k : ℕ). place_of k cs) (sym at_key) ∙ ap (place_of s.0) was ∙ st.place in
     is xs ys s y was (sym here ∙ sym place)
 
 -- the last key
-pub pairs_left : (e : Expect) (cs : List Child) (key at count : ℕ) (pair : Pair) → AreChildren e cs → at ≡ child_place key cs → count ≡ length cs → count ≤ at + 1
+pub pairs_left : (e : Expect) (cs : List Child) (key at count : ℕ) (pair : Pair) → AreChildren e cs → at ≡ place_of key cs → count ≡ length cs → count ≤ at + 1
     → ((xs ys : List Child) (a b : Child) → cs ≡ xs ++ (a ∷ b ∷ ys) → length xs ≡ count - 2 → pair ≡ record { left = a.1; low = a.0; middle = b.0; right = b.1; high = reach ys e.high }) → PairsUp cs e.high key pair
 pairs_left e cs key at count pair are place all end is xs (y ∷ ys) s at_key was =
     let st = stands_at e.low e.high xs (y ∷ ys) s (subst (λ (l : List Child). Ascends e.low e.high (first_keys l)) was are.order) in
-    let here : child_place key cs ≡ length xs = ap (λ (k : ℕ). child_place k cs) (sym at_key) ∙ ap (child_place s.0) was ∙ st.place in
+    let here : place_of key cs ≡ length xs = ap (λ (k : ℕ). place_of k cs) (sym at_key) ∙ ap (place_of s.0) was ∙ st.place in
     absurd (omega (arith, end, all, place, here, ap length was, length-append xs (s ∷ y ∷ ys)))
 pairs_left e cs key at count pair are place all end is [] [] s at_key was = absurd (omega (arith, are.some, ap length was))
 pairs_left e cs key at count pair are place all end is (x ∷ xs) [] s at_key was =

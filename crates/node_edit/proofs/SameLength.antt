@@ -8,13 +8,13 @@ use Rattle.line_pages.proofs.NumberLaws.{range-same}
 use Rattle.slotted_page.specs.Rows.{Row, keys, row_get, Ascends}
 use Rattle.slotted_page.specs.Node.{Slot, leaf_rows}
 use Rattle.slotted_page.specs.Sound.{slot_of}
-use Rattle.node_edit.specs.Edit.{place_of, has_row}
+use Rattle.node_edit.specs.Edit.{place_of, has_key}
 use Rattle.node_edit.specs.Record.{record_at}
 use Rattle.page_space.specs.Written.{Differs, Meets, line_part}
 use Rattle.node_edit.proofs.RowLaws.{above_bound, row_get-none_above}
 
 -- a key that has a value stands at its place
-pub held_place : (low high key : ℕ) (held : List ℕ) (rows : List Row) → Ascends low high (keys rows) → row_get key rows ≡ Some held → (has_row key rows ≡ true) × ((d : Row) → (get_or rows (place_of key rows) d).1 ≡ held)
+pub held_place : (low high key : ℕ) (held : List ℕ) (rows : List Row) → Ascends low high (keys rows) → row_get key rows ≡ Some held → (has_key key rows ≡ true) × ((d : Row) → (get_or rows (place_of key rows) d).1 ≡ held)
 held_place low high key held [] up got = absurd (cc)
 held_place low high key held (row ∷ rows) up got =
     elim (cases_eq row.0 key) [

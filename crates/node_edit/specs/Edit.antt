@@ -2,7 +2,7 @@
 use Rattle.std.specs.Prelude.{◌≡◌, ℕ, suc, ◌-◌, ◌<◌, ◌≤◌, Bool, true, false, List, [], ◌∷◌, ◌++◌, Option, Some, None, drop, nat_lt, ◌==◌, if◌then◌else◌, length, nat_le, ◌||◌}
 use Rattle.std.specs.List.{list_all}
 use Rattle.slotted_page.specs.declared.root.Expect.{Expect}
-use Rattle.slotted_page.specs.Rows.{Row, Ascends, last_key}
+use Rattle.slotted_page.specs.Rows.{Ascends, last_key}
 use Rattle.slotted_page.specs.Spans.{reach}
 use Rattle.slotted_page.specs.Sound.{row_bytes}
 use Rattle.slotted_page.specs.Node.{Child, children, begins_at, first_keys, is_page_below, leaf_rows, IsWellFormed}
@@ -82,31 +82,19 @@ Mended expect old new pair cut fit =
 abbrev pub IsNewRoot : List ℕ → ℕ → ℕ → ℕ → ℕ → ℕ → Type 0
 IsNewRoot bytes level first key second count = Holds children (record { level = level; low = 0; high = last_key; root = true; pages = count }) bytes ((0, first) ∷ (key, second) ∷ [])
 
--- the first of the rows whose key is not below the key
-abbrev pub place_of : ℕ → List Row → ℕ
+-- the place of a key in rows or children: the first of them whose key is not below it
+abbrev pub place_of : {X : Type 0} → ℕ → List (ℕ × X) → ℕ
 place_of key [] = 0
-place_of key (row ∷ rows) = if nat_lt row.0 key then suc (place_of key rows) else 0
+place_of key (entry ∷ rest) = if nat_lt entry.0 key then suc (place_of key rest) else 0
 
--- whether the rows begin with one of the key
-abbrev pub is_first : ℕ → List Row → Bool
+-- whether they begin with one of the key
+abbrev pub is_first : {X : Type 0} → ℕ → List (ℕ × X) → Bool
 is_first key [] = false
-is_first key (row ∷ rows) = row.0 == key
+is_first key (entry ∷ rest) = entry.0 == key
 
--- whether the row at that place has the key
-abbrev pub has_row : ℕ → List Row → Bool
-has_row key rows = is_first key (drop (place_of key rows) rows)
-
--- the same of children
-abbrev pub child_place : ℕ → List Child → ℕ
-child_place key [] = 0
-child_place key (child ∷ rest) = if nat_lt child.0 key then suc (child_place key rest) else 0
-
-abbrev pub is_child_first : ℕ → List Child → Bool
-is_child_first key [] = false
-is_child_first key (child ∷ rest) = child.0 == key
-
-abbrev pub has_child : ℕ → List Child → Bool
-has_child key cs = is_child_first key (drop (child_place key cs) cs)
+-- whether the one at that place has the key
+abbrev pub has_key : {X : Type 0} → ℕ → List (ℕ × X) → Bool
+has_key key all = is_first key (drop (place_of key all) all)
 
 -- what the children of a page of a tree are
 pub record AreChildren (expect : Expect) (cs : List Child) : Type 0 where

@@ -8,7 +8,7 @@ ghost use Rattle.slotted_page.specs.Rows.{Ascends, last_key};
 ghost use Rattle.slotted_page.specs.Node.{Child, IsWellFormed, entry_count, page_level, first_keys, begins_at, is_page_below, children as children_of};
 ghost use Rattle.slotted_page.specs.Inner.{IsInner, IsBranch};
 ghost use Rattle.node_edit.specs.declared.fit.Fit.TheVariants as fits;
-ghost use Rattle.node_edit.specs.Edit.{Fits, child_put, child_place, has_child, AreChildren, both, joined, IsCutIn, IsPair, PairsUp, Mended};
+ghost use Rattle.node_edit.specs.Edit.{Fits, child_put, place_of, has_key, AreChildren, both, joined, IsCutIn, IsPair, PairsUp, Mended};
 
 use crate::fit::Fit;
 use crate::leaf_edit::top_of;
@@ -37,7 +37,7 @@ pub fn enter(page: &PageBuf, expect: &Expect) -> usize
 /// The first child whose key is not below a key, or the number of children.
 pub fn child_at(page: &PageBuf, key: u64) -> usize
     requires { IsBranch page.now }
-    ensures place { result ≡ child_place key (children_of page.now) }
+    ensures place { result ≡ place_of key (children_of page.now) }
     ensures within { result ≤ length (children_of page.now) }
 {
     let count = children(page);
@@ -52,8 +52,8 @@ pub fn child_at(page: &PageBuf, key: u64) -> usize
 /// Whether the child at the place of a key begins with it.
 fn is_there(page: &PageBuf, at: usize, key: u64) -> bool
     requires branch { IsBranch page.now }
-    requires at { at ≡ child_place key (children_of page.now) }
-    ensures there { result ≡ has_child key (children_of page.now) }
+    requires at { at ≡ place_of key (children_of page.now) }
+    ensures there { result ≡ has_key key (children_of page.now) }
     ensures within { result ≡ true → at < length (children_of page.now) }
 {
     at < children(page) && child_key(page, at) == key

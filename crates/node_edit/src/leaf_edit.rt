@@ -8,7 +8,7 @@ ghost use Rattle.slotted_page.specs.Room.{leaf_room};
 ghost use Rattle.slotted_page.specs.Sound.{IsSound, IsRows, row_bytes};
 ghost use Rattle.page_edit.specs.Packed.{IsPacked, AddsBelow};
 ghost use Rattle.node_edit.specs.declared.fit.Fit.TheVariants as fits;
-ghost use Rattle.node_edit.specs.Edit.{Fits, place_of, has_row};
+ghost use Rattle.node_edit.specs.Edit.{Fits, place_of, has_key};
 ghost use Rattle.page_space.specs.Written.{Differs, Meets, lines_changed};
 ghost use Rattle.node_edit.specs.Record.{record_at, FitsLeaf, HoldsLength};
 
@@ -70,7 +70,7 @@ fn leaf_place(page: &PageBuf, key: u64) -> usize
 fn is_there(page: &PageBuf, at: usize, key: u64) -> bool
     requires leaf { IsLeaf page.now }
     requires at { at ≡ place_of key (rows_of page.now) }
-    ensures there { result ≡ has_row key (rows_of page.now) }
+    ensures there { result ≡ has_key key (rows_of page.now) }
     ensures within { result ≡ true → at < length (rows_of page.now) }
 {
     at < open_leaf(page) && leaf_key(page, at) == key

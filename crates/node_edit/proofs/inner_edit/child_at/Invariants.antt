@@ -1,7 +1,7 @@
 use Rattle.std.proofs.Common.{◌≤◌}
 use Rattle.slotted_page.specs.Node.{children}
-use Rattle.node_edit.specs.Edit.{child_place}
+use Rattle.node_edit.specs.Edit.{place_of}
 use Rattle.node_edit.proofs.inner_edit.child_at.Given as goal
 
 abbrev pub invariant-loop-i : goal.invariant-loop-i
-invariant-loop-i l = l.i ≤ child_place l.key (children l.page)
+invariant-loop-i l = l.i ≤ place_of l.key (children l.page)

@@ -1,13 +1,14 @@
 use Rattle.std.proofs.Common.{◌≡◌, ◌++◌, ◌∷◌, ℕ, List, arith, sym, ap, subst, ◌∙◌}
-use Rattle.std.specs.List.{remove, insert}
+use Rattle.std.specs.List.{remove}
 use Rattle.ssd_model.specs.Page.{Same}
 use Rattle.slotted_page.specs.Rows.{Ascends, last_key}
 use Rattle.slotted_page.specs.Node.{Child, children, first_keys}
 use Rattle.slotted_page.proofs.PageFacts.{clash}
 use Rattle.page_space.proofs.WrittenLaws.{changed_first}
 use Rattle.node_edit.proofs.LeafLaws.{none_changed}
-use Rattle.node_edit.specs.Edit.{has_child}
-use Rattle.node_edit.proofs.ChildEdits.{taken_out, put_back, mended_divided, child_new, child_order}
+use Rattle.node_edit.specs.Edit.{has_key}
+use Rattle.node_edit.proofs.ChildEdits.{taken_out, put_back, mended_divided, child_order}
+use Rattle.node_edit.proofs.KeyPlaceLaws.{child_puts, put_new}
 use Rattle.node_edit.proofs.inner_edit.mend_divided.Goals as goal
 
 pub returns-then-not-is_there-clause-mended : goal.returns-then-not-is_there-clause-mended
@@ -25,7 +26,7 @@ returns-then-is_there-clause-mended c = λ xs ys was reach_is.
     let t = taken_out e (children c.args.page.now) pair xs ys c.enter.ensures.are was in
     let p = put_back e c.args.key (children c.args.page.now) pair xs ys t c.requires.cut reach_is in
     let rest : children c.inner_remove.new.page ≡ xs ++ ((pair.low, pair.left) ∷ ys) = c.inner_remove.ensures.children ∙ ap (remove (children c.args.page.now)) (c.child_at-at.ensures.place ∙ t.place) ∙ t.out in
-    absurd (clash (sym c.is_there-2.ensures.there ∙ c.if-is_there.true) (ap (has_child c.args.key) rest ∙ p.none))
+    absurd (clash (sym c.is_there-2.ensures.there ∙ c.if-is_there.true) (ap (has_key c.args.key) rest ∙ p.none))
 
 pub returns-then-is_there-clause-few : goal.returns-then-is_there-clause-few
 returns-then-is_there-clause-few c = changed_first c.args.page.now c.inner_remove.new.page 61 c.enter.ensures.size c.byte.ensures.size (omega arith) c.inner_remove.ensures.rest
@@ -33,7 +34,7 @@ returns-then-is_there-clause-few c = changed_first c.args.page.now c.inner_remov
 pub inner_insert-requires-clause-order : goal.inner_insert-requires-clause-order
 inner_insert-requires-clause-order c =
     let mid = children c.inner_remove.new.page in
-    subst (λ (all : List Child). Ascends 0 last_key (first_keys all)) (child_new c.args.key c.args.pair.now.right mid (sym c.is_there-2.ensures.there ∙ c.if-is_there.false) ∙ ap (λ (i : ℕ). insert mid i (c.args.key, c.args.pair.now.right)) (sym c.child_at-place.ensures.place))
+    subst (λ (all : List Child). Ascends 0 last_key (first_keys all)) (put_new (child_puts c.args.key c.args.pair.now.right) mid c.child_at-place.result (sym c.is_there-2.ensures.there ∙ c.if-is_there.false) c.child_at-place.ensures.place)
     (child_order 0 last_key c.args.key c.args.pair.now.right mid (omega arith) (omega arith) c.inner_remove.ensures.branch.order)
 
 pub returns-clause-mended : goal.returns-clause-mended

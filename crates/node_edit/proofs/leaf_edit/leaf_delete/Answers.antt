@@ -1,7 +1,7 @@
 use Rattle.std.proofs.Common.{◌≡◌, ℕ, List, arith, subst, ap, sym, ◌∙◌, true}
 use Rattle.slotted_page.specs.Rows.{Row, keys, row_delete, Ascends}
 use Rattle.slotted_page.specs.Node.{leaf_rows}
-use Rattle.node_edit.specs.Edit.{Fits, has_row, place_of}
+use Rattle.node_edit.specs.Edit.{Fits, has_key, place_of}
 use Rattle.std.specs.List.{remove}
 use Rattle.node_edit.proofs.RowLaws.{Ascends-delete}
 use Rattle.node_edit.proofs.KeyPlaceLaws.{delete_there, delete_none, rows_few}
@@ -16,7 +16,7 @@ returns-then-not-is_there-clause-fits c = λ right.
 pub returns-then-not-is_there-clause-few : goal.returns-then-not-is_there-clause-few
 returns-then-not-is_there-clause-few c = none_changed c.args.page.now c.enter.ensures.size
 
-removed : (key low high : ℕ) (rows now : List Row) (at : ℕ) → Ascends low high (keys rows) → has_row key rows ≡ true → at ≡ place_of key rows → now ≡ remove rows at → now ≡ row_delete key rows
+removed : (key low high : ℕ) (rows now : List Row) (at : ℕ) → Ascends low high (keys rows) → has_key key rows ≡ true → at ≡ place_of key rows → now ≡ remove rows at → now ≡ row_delete key rows
 removed key low high rows now at up there is e = e ∙ ap (remove rows) is ∙ sym (delete_there key low high rows up there)
 
 pub leaf_fit-requires-clause-order : goal.leaf_fit-requires-clause-order

@@ -1,11 +1,11 @@
 use Rattle.std.proofs.Common.{◌≡◌, ◌||◌, refl, ℕ, List, [], arith, subst, ap, sym, ◌∙◌, true, false, length, nat_le, slice_set, get_or}
-use Rattle.std.specs.List.{insert, remove}
+use Rattle.std.specs.List.{insert}
 use Rattle.slotted_page.specs.Rows.{Row, row_put}
 use Rattle.slotted_page.specs.Node.{leaf_rows}
 use Rattle.slotted_page.specs.Sound.{row_bytes}
-use Rattle.node_edit.specs.Edit.{Fits, has_row, place_of}
+use Rattle.node_edit.specs.Edit.{Fits}
 use Rattle.node_edit.specs.Record.{FitsLeaf}
-use Rattle.node_edit.proofs.KeyPlaceLaws.{put_new, put_again, put_same}
+use Rattle.node_edit.proofs.KeyPlaceLaws.{row_puts, put_new, put_again, put_same}
 use Rattle.node_edit.proofs.LeafLaws.{put_order, leaf_within, set_bytes}
 use Rattle.node_edit.proofs.SameLength.{held_place, set_record}
 use Rattle.node_edit.proofs.leaf_edit.leaf_put.Goals as goal
@@ -13,38 +13,31 @@ use Rattle.node_edit.proofs.leaf_edit.leaf_put.Goals as goal
 none : Row
 none = (0, [])
 
--- a new row, and a row in place of another
-new_row : (key : ℕ) (value : List ℕ) (rows : List Row) (at : ℕ) → has_row key rows ≡ false → at ≡ place_of key rows → row_put key value rows ≡ insert rows at (key, value)
-new_row key value rows at none is = put_new key value rows none ∙ ap (λ (i : ℕ). insert rows i (key, value)) (sym is)
-
-other_row : (key : ℕ) (value : List ℕ) (rows mid : List Row) (at : ℕ) → has_row key rows ≡ true → at ≡ place_of key rows → mid ≡ remove rows at → row_put key value rows ≡ insert mid at (key, value)
-other_row key value rows mid at there is e = put_again key value rows there ∙ ap (λ (i : ℕ). insert (remove rows i) i (key, value)) (sym is) ∙ ap (λ (all : List Row). insert all at (key, value)) (sym e)
-
 pub insert_row-requires-clause-order : goal.insert_row-requires-clause-order
 insert_row-requires-clause-order c =
     let e = c.args.expect.now in
     let rows = leaf_rows c.args.left.now in
     put_order e.low e.high c.args.key c.args.value.now rows (insert rows c.leaf_place-at.result (c.args.key, c.args.value.now)) c.requires.above c.requires.within c.enter.ensures.order
-    (new_row c.args.key c.args.value.now rows c.leaf_place-at.result (sym c.is_there.ensures.there ∙ c.if-not-is_there.true) c.leaf_place-at.ensures.place)
+    (put_new (row_puts c.args.key c.args.value.now) rows c.leaf_place-at.result (sym c.is_there.ensures.there ∙ c.if-not-is_there.true) c.leaf_place-at.ensures.place)
 
 pub returns-then-not-is_there-clause-fits : goal.returns-then-not-is_there-clause-fits
 returns-then-not-is_there-clause-fits c =
     let rows = leaf_rows c.args.left.now in
     subst (λ (all : List Row). Fits leaf_rows c.args.expect.now c.insert_row.new.left c.insert_row.new.right all c.insert_row.result)
-    (sym (new_row c.args.key c.args.value.now rows c.leaf_place-at.result (sym c.is_there.ensures.there ∙ c.if-not-is_there.true) c.leaf_place-at.ensures.place)) c.insert_row.ensures.fits
+    (sym (put_new (row_puts c.args.key c.args.value.now) rows c.leaf_place-at.result (sym c.is_there.ensures.there ∙ c.if-not-is_there.true) c.leaf_place-at.ensures.place)) c.insert_row.ensures.fits
 
 pub insert_row-requires-2-clause-order : goal.insert_row-requires-2-clause-order
 insert_row-requires-2-clause-order c =
     let e = c.args.expect.now in
     let rows = leaf_rows c.args.left.now in
     put_order e.low e.high c.args.key c.args.value.now rows (insert (leaf_rows c.leaf_remove.new.page) c.leaf_place-at.result (c.args.key, c.args.value.now)) c.requires.above c.requires.within c.enter.ensures.order
-    (other_row c.args.key c.args.value.now rows (leaf_rows c.leaf_remove.new.page) c.leaf_place-at.result (sym c.is_there.ensures.there ∙ c.if-not-is_there.false) c.leaf_place-at.ensures.place c.leaf_remove.ensures.rows)
+    (put_again (row_puts c.args.key c.args.value.now) rows (leaf_rows c.leaf_remove.new.page) c.leaf_place-at.result (sym c.is_there.ensures.there ∙ c.if-not-is_there.false) c.leaf_place-at.ensures.place c.leaf_remove.ensures.rows)
 
 pub returns-clause-fits : goal.returns-clause-fits
 returns-clause-fits c =
     let rows = leaf_rows c.args.left.now in
     subst (λ (all : List Row). Fits leaf_rows c.args.expect.now c.insert_row-2.new.left c.insert_row-2.new.right all c.insert_row-2.result)
-    (sym (other_row c.args.key c.args.value.now rows (leaf_rows c.leaf_remove.new.page) c.leaf_place-at.result (sym c.is_there.ensures.there ∙ c.if-not-is_there.false) c.leaf_place-at.ensures.place c.leaf_remove.ensures.rows))
+    (sym (put_again (row_puts c.args.key c.args.value.now) rows (leaf_rows c.leaf_remove.new.page) c.leaf_place-at.result (sym c.is_there.ensures.there ∙ c.if-not-is_there.false) c.leaf_place-at.ensures.place c.leaf_remove.ensures.rows))
     c.insert_row-2.ensures.fits
 
 pub returns-then-leaf_value-value-clause-fits : goal.returns-then-leaf_value-value-clause-fits
@@ -89,10 +82,10 @@ pub returns-then-not-is_there-clause-whole : goal.returns-then-not-is_there-clau
 returns-then-not-is_there-clause-whole c = λ fits.
     let rows = leaf_rows c.args.left.now in
     c.insert_row.ensures.whole (subst (λ (all : List Row). FitsLeaf (c.args.expect.now.root ≡ true) all)
-    (new_row c.args.key c.args.value.now rows c.leaf_place-at.result (sym c.is_there.ensures.there ∙ c.if-not-is_there.true) c.leaf_place-at.ensures.place) fits)
+    (put_new (row_puts c.args.key c.args.value.now) rows c.leaf_place-at.result (sym c.is_there.ensures.there ∙ c.if-not-is_there.true) c.leaf_place-at.ensures.place) fits)
 
 pub returns-clause-whole : goal.returns-clause-whole
 returns-clause-whole c = λ fits.
     let rows = leaf_rows c.args.left.now in
     c.insert_row-2.ensures.whole (subst (λ (all : List Row). FitsLeaf (c.args.expect.now.root ≡ true) all)
-    (other_row c.args.key c.args.value.now rows (leaf_rows c.leaf_remove.new.page) c.leaf_place-at.result (sym c.is_there.ensures.there ∙ c.if-not-is_there.false) c.leaf_place-at.ensures.place c.leaf_remove.ensures.rows) fits)
+    (put_again (row_puts c.args.key c.args.value.now) rows (leaf_rows c.leaf_remove.new.page) c.leaf_place-at.result (sym c.is_there.ensures.there ∙ c.if-not-is_there.false) c.leaf_place-at.ensures.place c.leaf_remove.ensures.rows) fits)
