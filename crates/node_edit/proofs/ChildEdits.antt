@@ -27,13 +27,13 @@ child_put-next key page high s [] lt within = rw (lt-ltb s.0 key lt) refl
 child_put-next key page high s (y ∷ ys) lt within =
     rw (lt-ltb s.0 key lt, le-ltb y.0 key (omega (arith, within)), ne_eqb y.0 key (λ e. omega (arith, within, lt, e))) refl
 
-later : (low high : ℕ) (s : Child) (xs ys : List Child) → Ascends low high (first_keys (xs ++ (s ∷ ys))) → low ≤ s.0
-later low high s [] ys up = up.0
-later low high s (x ∷ xs) ys up = let ih = later (x.0 + 1) high s xs ys up.2 in omega (arith, ih, up.0)
+pub later_child : (low high : ℕ) (s : Child) (xs ys : List Child) → Ascends low high (first_keys (xs ++ (s ∷ ys))) → low ≤ s.0
+later_child low high s [] ys up = up.0
+later_child low high s (x ∷ xs) ys up = let ih = later_child (x.0 + 1) high s xs ys up.2 in omega (arith, ih, up.0)
 
 pub keys_below : (low high key : ℕ) (s : Child) (xs ys : List Child) → Ascends low high (first_keys (xs ++ (s ∷ ys))) → s.0 ≤ key → Each (λ (c : Child). c.0 < key) xs
 keys_below low high key s [] ys up above = tt
-keys_below low high key s (x ∷ xs) ys up above = let next = later (x.0 + 1) high s xs ys up.2 in (omega (arith, next, above), keys_below (x.0 + 1) high key s xs ys up.2 above)
+keys_below low high key s (x ∷ xs) ys up above = let next = later_child (x.0 + 1) high s xs ys up.2 in (omega (arith, next, above), keys_below (x.0 + 1) high key s xs ys up.2 above)
 
 pub child_order : (low high key page : ℕ) (cs : List Child) → low ≤ key → key ≤ high → Ascends low high (first_keys cs) → Ascends low high (first_keys (child_put key page cs))
 child_order low high key page [] from to up = (from, to, tt)
@@ -192,10 +192,6 @@ pub record StandsAt (key : ℕ) (cs xs ys : List Child) : Type 0 where
   pub place : place_of key cs ≡ length xs
   pub there : has_key key cs ≡ true
   pub out : remove cs (length xs) ≡ xs ++ ys
-
-pub later_child : (low high : ℕ) (s : Child) (xs ys : List Child) → Ascends low high (first_keys (xs ++ (s ∷ ys))) → low ≤ s.0
-later_child low high s [] ys up = up.0
-later_child low high s (x ∷ xs) ys up = let ih = later_child (x.0 + 1) high s xs ys up.2 in omega (arith, ih, up.0)
 
 pub stands_at : (low high : ℕ) (xs ys : List Child) (s : Child) → Ascends low high (first_keys (xs ++ (s ∷ ys))) → StandsAt s.0 (xs ++ (s ∷ ys)) xs ys
 stands_at low high [] ys s up = record {

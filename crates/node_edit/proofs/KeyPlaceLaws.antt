@@ -51,16 +51,6 @@ has_key-is key (entry ∷ rest) d within =
       | inr ge ↦ rw (le-ltb entry.0 key ge) refl
     ]
 
-pub has_key-none : {X : Type 0} (key : ℕ) (entries : List (ℕ × X)) → length entries ≤ place_of key entries → has_key key entries ≡ false
-has_key-none key [] all = refl
-has_key-none key (entry ∷ rest) all =
-    elim (cases_lt entry.0 key) [
-      | inl lt ↦
-          let more : suc (length rest) ≤ suc (place_of key rest) = rw (lt-ltb entry.0 key lt) at all in
-          rw (lt-ltb entry.0 key lt) (has_key-none key rest (omega (arith, more)))
-      | inr ge ↦ let none : suc (length rest) ≤ 0 = rw (le-ltb entry.0 key ge) at all in absurd (omega (arith, none))
-    ]
-
 -- a way to put an entry at its key, in place of one that has the key
 pub record Puts {X : Type 0} (key : ℕ) (x : X) (put : List (ℕ × X) → List (ℕ × X)) : Type 0 where
   pub none : put [] ≡ (key, x) ∷ []
