@@ -17,7 +17,7 @@ use Rattle.store_meaning.proofs.EndsLaws.{commit_ends}
 use Rattle.store_laws.specs.OpenFacts.{OpenFacts, keeping}
 use Rattle.store_laws.specs.ShownPages.{pages_in, words_in}
 use Rattle.store_laws.specs.Steps.{HoldsFacts, IsStoreOf}
-use Rattle.store_laws.proofs.OpenLaws.{same_store}
+use Rattle.store_laws.proofs.OpenLaws.{same_store, open_undoing}
 use Rattle.store_laws.proofs.BehindLaws.{PutsEntry, one_line, can_put, amid_put, held_behind, open_behind, lines_behind, committed_behind, log_behind}
 
 module _ (g : Sizes) (start tail : ℕ) (s : State) (it : OpenFacts g start tail s) (room : tail + 1 ≤ start + ring_lines g) where
@@ -31,12 +31,7 @@ module _ (g : Sizes) (start tail : ℕ) (s : State) (it : OpenFacts g start tail
   sup = super_of (current s)
 
   puts : PutsEntry g start tail it.words it.kept s xs commit
-  puts = record {
-    it = record { super_words = it.super_words; facts = it.facts; newest = it.newest; flushed = it.flushed };
-    are_lines = one_line _ refl;
-    entry = refl;
-    room = room;
-  }
+  puts = record { it = open_undoing it; are_lines = one_line _ refl; entry = refl; room = room }
 
   abbrev after_commit : ℕ → Words
   after_commit = committed_from (sup.tail + 1) it.words (λ n. it.kept)
