@@ -1,32 +1,24 @@
 -- The end of a commit keeps the facts of an open store, and makes the current words the committed ones.
-use Rattle.std.proofs.Common.{◌≡◌, ◌⊎◌, ℕ, zero, suc, ◌+◌, ◌<◌, ◌≤◌, List, [], ◌∷◌, ◌++◌, refl, sym, ap, ◌∙◌, subst, inl, inr, arith, get_or, eqb}
+use Rattle.std.proofs.Common.{◌≡◌, ◌⊎◌, ℕ, ◌+◌, ◌≤◌, List, ◌++◌, refl, sym, ap, ◌∙◌, inl, inr, arith, eqb}
 use Rattle.std.proofs.lemmas.Bool.{cases_eq, eq-eqb, ne_eqb, cond-true, cond-false}
 use Rattle.nvm_model.specs.declared.line.Line.{Line}
-use Rattle.nvm_model.specs.Word.{Word}
-use Rattle.devices.specs.State.{State, Image, Call, Amid, Leaves, current, after_all}
-use Rattle.store_meaning.specs.Layout.{Sizes, pages, frame_line, ring_start, ring_lines}
-use Rattle.store_meaning.specs.Log.{Words, Log, Entry, extended, grouped, no_log}
+use Rattle.devices.specs.State.{State, Image, Amid, Leaves, current, after_all}
+use Rattle.store_meaning.specs.Layout.{Sizes, pages, ring_lines}
+use Rattle.store_meaning.specs.Log.{Words}
 use Rattle.store_meaning.specs.Log.Entry.{commit}
-use Rattle.store_meaning.specs.Format.{entries, zero_line}
 use Rattle.store_meaning.specs.Format.Format.{whole_lines}
 use Rattle.store_meaning.specs.Recovered.{Super, super_of, log_lines, log_of, recovered, recovered_pages, lines_of}
-use Rattle.store_meaning.specs.View.{Extends}
-use Rattle.store_meaning.specs.Put.{append_calls, IsLine, IsFree, CanPut}
+use Rattle.store_meaning.specs.Put.{append_calls}
 use Rattle.store_meaning.specs.Append.{commit_lines}
 use Rattle.store_meaning.specs.StoreFacts.{Bookkeeping, StoreFacts, moving, committed_from}
-use Rattle.store_meaning.specs.AtEnd.{LogEnds}
-use Rattle.devices.proofs.GrowthLaws.{Amid_end}
-use Rattle.store_meaning.proofs.LogLaws.{grouped-append}
-use Rattle.store_meaning.proofs.PutLaws.{put_done, put_gate, put_newest, put_word, durable_super, free_high}
-use Rattle.store_meaning.proofs.CheckLaws.{store_whole}
-use Rattle.store_meaning.proofs.FactsLaws.{commit_facts, facts_done, facts_can_put, facts_recover, current_leaves}
-use Rattle.store_meaning.proofs.AtEndLaws.{facts_committed, log_durable}
-use Rattle.store_meaning.proofs.RecoveredLaws.{lines_of-same, entries-append}
+use Rattle.store_meaning.proofs.FactsLaws.{commit_facts, facts_recover}
+use Rattle.store_meaning.proofs.RecoveredLaws.{lines_of-same}
 use Rattle.store_meaning.proofs.EndsLaws.{commit_ends}
-use Rattle.store_laws.specs.OpenFacts.{OpenFacts, keeping, super_with}
+use Rattle.store_laws.specs.OpenFacts.{OpenFacts, keeping}
 use Rattle.store_laws.specs.ShownPages.{pages_in, words_in}
 use Rattle.store_laws.specs.Steps.{HoldsFacts, IsStoreOf}
-use Rattle.store_laws.proofs.OpenLaws.{pages_by, same_store}
+use Rattle.store_laws.proofs.OpenLaws.{same_store, open_undoing}
+use Rattle.store_laws.proofs.BehindLaws.{PutsEntry, one_line, can_put, amid_put, held_behind, open_behind, lines_behind, committed_behind, log_behind}
 
 module _ (g : Sizes) (start tail : ℕ) (s : State) (it : OpenFacts g start tail s) (room : tail + 1 ≤ start + ring_lines g) where
   abbrev xs : List Line
@@ -38,24 +30,18 @@ module _ (g : Sizes) (start tail : ℕ) (s : State) (it : OpenFacts g start tail
   abbrev sup : Super
   sup = super_of (current s)
 
-  sup_is : sup ≡ super_with g start tail
-  sup_is = it.super_words
-
-  can : CanPut s 1
-  can = facts_can_put b s 1 it.facts refl (subst (λ (x : Super). x.tail + 1 ≤ x.start + ring_lines g) (sym sup_is) room)
-
-  are_lines : (k : ℕ) → k < 1 → IsLine (get_or xs k zero_line)
-  are_lines zero h = refl
-  are_lines (suc k) h = absurd (omega arith)
-
-  calls_are : append_calls sup.sizes sup.tail xs ≡ append_calls g tail xs
-  calls_are = ap (λ (x : Super). append_calls x.sizes x.tail xs) sup_is
+  puts : PutsEntry g start tail it.words it.kept s xs commit
+  puts = record { it = open_undoing it; are_lines = one_line _ refl; entry = refl; room = room }
 
   abbrev after_commit : ℕ → Words
   after_commit = committed_from (sup.tail + 1) it.words (λ n. it.kept)
 
   commit_moment : (mid : State) → Amid s (append_calls sup.sizes sup.tail xs) mid → StoreFacts (moving b sup.tail (sup.tail + 1) after_commit) mid
-  commit_moment mid amid = commit_facts b s it.facts xs can (omega arith) are_lines (λ at. refl) refl refl it.ends mid amid
+  commit_moment mid amid = commit_facts b s it.facts xs (can_put puts) (omega arith) puts.are_lines (λ at. refl) refl refl it.ends mid amid
+
+  -- with the new tail the current words are the committed ones
+  now_committed : (p l w : ℕ) → after_commit (sup.tail + 1) p l w ≡ it.words p l w
+  now_committed p l w = ap (λ (x : Words). x p l w) (cond-true (eqb (sup.tail + 1) (sup.tail + 1)) it.words it.kept (eq-eqb (sup.tail + 1) (sup.tail + 1) refl))
 
   -- the lines of the current words
   lines_now : lines_of (pages g) it.words ≡ pages_in g s
@@ -65,7 +51,7 @@ module _ (g : Sizes) (start tail : ℕ) (s : State) (it : OpenFacts g start tail
   pub commit_chooses : (mid : State) → Amid s (append_calls g tail xs) mid → (i : Image) → Leaves mid i
       → IsStoreOf g (lines_of (pages g) it.kept) i ⊎ IsStoreOf g (pages_in g s) i
   commit_chooses mid amid i left =
-      let facts : StoreFacts (moving b sup.tail (sup.tail + 1) after_commit) mid = commit_moment mid (subst (λ (cs : List Call). Amid s cs mid) (sym calls_are) amid) in
+      let facts : StoreFacts (moving b sup.tail (sup.tail + 1) after_commit) mid = commit_moment mid (amid_put puts mid amid) in
       let by : (words : Words) → ((p l w : ℕ) → after_commit (super_of i).tail p l w ≡ words p l w) → IsStoreOf g (lines_of (pages g) words) i =
       (λ words same. record {
         is_sized = record { store = facts.stores i left; sizes = facts.sizes i left };
@@ -74,85 +60,24 @@ module _ (g : Sizes) (start tail : ℕ) (s : State) (it : OpenFacts g start tail
             (λ p l w hp hl hw. facts_recover (moving b sup.tail (sup.tail + 1) after_commit) mid facts i left p l w (record { page = hp; line = hl; word = hw }) ∙ same p l w);
       }) in
       elim (cases_eq (super_of i).tail (sup.tail + 1)) [
-        | inl new ↦ inr (same_store g (lines_of (pages g) it.words) (pages_in g s) i (by it.words (λ p l w. ap (λ (x : Words). x p l w) (cond-true (eqb (super_of i).tail (sup.tail + 1)) it.words it.kept (eq-eqb (super_of i).tail (sup.tail + 1) new)))) lines_now)
+        | inl new ↦ inr (same_store g (lines_of (pages g) it.words) (pages_in g s) i (by it.words (λ p l w. ap (λ n. after_commit n p l w) new ∙ now_committed p l w)) lines_now)
         | inr old ↦ inl (by it.kept (λ p l w. ap (λ (x : Words). x p l w) (cond-false (eqb (super_of i).tail (sup.tail + 1)) it.words it.kept (ne_eqb (super_of i).tail (sup.tail + 1) old))))
       ]
 
   -- At each moment the facts of a store hold.
   pub commit_held : (mid : State) → Amid s (append_calls g tail xs) mid → HoldsFacts g mid
-  commit_held mid amid = record {
-    keeps = moving b sup.tail (sup.tail + 1) after_commit;
-    format = refl;
-    sizes = refl;
-    facts = commit_moment mid (subst (λ (cs : List Call). Amid s cs mid) (sym calls_are) amid);
-  }
-
-  abbrev s₁ : State
-  s₁ = after_all (append_calls sup.sizes sup.tail xs) s
-
-  -- What holds of an image when the end stands.
-  record Behind (i : Image) : Type 0 where
-    j : Image
-    left : Leaves s j
-    super_words : super_of i ≡ record sup { tail = sup.tail + 1 }
-    lines : log_lines i ≡ log_lines j ++ xs
-
-  behind : (i : Image) → Leaves s₁ i → Behind i
-  behind i left =
-      let found : (j : Image) × Leaves s j × Extends i j xs = put_done s xs can are_lines i left in
-      let e_j : super_of found.0 ≡ sup = durable_super s 1 can found.0 found.1 in
-      record {
-        j = found.0;
-        left = found.1;
-        super_words = (found.2).super_words ∙ ap (λ (x : Super). record x { tail = x.tail + 1 }) e_j;
-        lines = (found.2).log;
-      }
-
-  log_behind : (i : Image) (x : Behind i) → log_of whole_lines i ≡ extended (log_of whole_lines x.j) commit
-  log_behind i x =
-      ap (λ (lines : List Line). grouped no_log (entries whole_lines 0 lines)) x.lines
-      ∙ ap (λ (es : List Entry). grouped no_log es) (entries-append whole_lines 0 (log_lines x.j) xs (store_whole whole_lines x.j ((it.facts).stores x.j x.left)))
-      ∙ grouped-append no_log (entries whole_lines 0 (log_lines x.j)) (commit ∷ [])
-
-  facts₁ : StoreFacts (keeping g it.words it.words) s₁
-  facts₁ =
-      facts_committed b after_commit (λ n. it.words) s₁
-      (facts_done b sup.tail (sup.tail + 1) after_commit s₁ (commit_moment s₁ (Amid_end (append_calls sup.sizes sup.tail xs) s)) (ap (λ (x : Word). x.older) (put_gate s xs can)))
-      (λ i left p l w. ap (λ (x : Words). x p l w) (cond-true (eqb (super_of i).tail (sup.tail + 1)) it.words it.kept
-      (eq-eqb (super_of i).tail (sup.tail + 1) (ap (λ (x : Super). x.tail) (behind i left).super_words))))
-
-  not_free : (p l : ℕ) → IsFree sup.sizes sup.tail 1 (frame_line g p l) → ⊥
-  not_free p l free =
-      let low : frame_line g p l < ring_start g + ring_lines g = subst (λ (x : Super). frame_line g p l < ring_start x.sizes + ring_lines x.sizes) sup_is (free_high s xs can (frame_line g p l) free).1 in omega arith
-
-  done : OpenFacts g start (tail + 1) s₁
-  done = record {
-    words = it.words;
-    kept = it.words;
-    super_words = (behind (current s₁) (current_leaves s₁)).super_words ∙ ap (λ (x : Super). record x { tail = x.tail + 1 }) sup_is;
-    facts = facts₁;
-    newest = λ p l w word. put_newest s xs can (frame_line g p l) w (λ e. omega arith) (not_free p l) ∙ it.newest p l w word;
-    flushed = λ p l w word. ap (λ (x : Word). x.kept) (put_word s xs can (frame_line g p l) w (λ e. omega arith) (not_free p l)) ∙ it.flushed p l w word;
-    ends = λ i left. subst (λ (log : Log). LogEnds g log it.words) (sym (log_behind i (behind i left)))
-        (commit_ends g (log_of whole_lines (behind i left).j) it.words (it.ends (behind i left).j (behind i left).left));
-  }
+  commit_held mid amid = held_behind puts after_commit commit_moment mid amid
 
   -- When the commit is done the facts hold, and each image recovers to the current pages.
   pub commit_open : OpenFacts g start (tail + 1) (after_all (append_calls g tail xs) s)
-  commit_open = subst (λ (cs : List Call). OpenFacts g start (tail + 1) (after_all cs s)) calls_are done
+  commit_open = open_behind puts after_commit commit_moment it.words now_committed (λ j left. commit_ends g (log_of whole_lines j) it.words (it.ends j left))
 
   pub commit_newest : pages_in g (after_all (append_calls g tail xs) s) ≡ pages_in g s
-  commit_newest =
-      ap (λ (cs : List Call). pages_in g (after_all cs s)) (sym calls_are)
-      ∙ lines_of-same (pages g) (words_in g s₁) (words_in g s) (λ p l w hp hl hw. put_newest s xs can (frame_line g p l) w (λ e. omega arith) (not_free p l))
+  commit_newest = lines_behind puts ∙ lines_now
 
   pub commit_committed : recovered_pages whole_lines (current (after_all (append_calls g tail xs) s)) ≡ pages_in g s
-  commit_committed =
-      ap (λ (cs : List Call). recovered_pages whole_lines (current (after_all cs s))) (sym calls_are)
-      ∙ pages_by (keeping g it.words it.words) s₁ facts₁ it.words (λ n p l w. refl) (current s₁) (current_leaves s₁) ∙ lines_now
+  commit_committed = committed_behind puts after_commit commit_moment it.words now_committed ∙ lines_now
 
   -- the log has the end last
   pub commit_log : log_lines (current (after_all (append_calls g tail xs) s)) ≡ log_lines (current s) ++ xs
-  commit_log =
-      let x : Behind (current s₁) = behind (current s₁) (current_leaves s₁) in
-      ap (λ (cs : List Call). log_lines (current (after_all cs s))) (sym calls_are) ∙ x.lines ∙ ap (λ (lines : List Line). lines ++ xs) (log_durable s 1 can x.j x.left)
+  commit_log = log_behind puts

@@ -1,6 +1,7 @@
 pub mod OpenLaws
 pub mod AsReadLaws
 pub mod WriteLaws
+pub mod BehindLaws
 pub mod EndLaws
 pub mod EmptyLaws
 pub mod AbortLaws

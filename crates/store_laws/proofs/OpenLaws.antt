@@ -16,6 +16,7 @@ use Rattle.store_meaning.proofs.FactsLaws.{facts_recover, facts_can_put, current
 use Rattle.store_meaning.proofs.RecoveredLaws.{lines_of-same}
 use Rattle.store_laws.specs.OpenFacts.{OpenFacts, keeping, super_with}
 use Rattle.store_laws.specs.Steps.{IsStoreOf}
+use Rattle.store_laws.specs.Undoing.{Undoing}
 use Rattle.store_meaning.proofs.EndsLaws.{commit_untouched, commit_logged}
 
 -- where the committed words are the same for each tail, every image recovers to their lines
@@ -55,6 +56,10 @@ facts_range g start tail words kept s facts is =
     let passes : SuperPasses (super_with g start tail) = subst (λ (x : Super). SuperPasses x) is (store_passes whole_lines (current s) (facts.stores (current s) (current_leaves s))) in
     let started : start ≤ tail = passes.started in
     let short : tail - start ≤ ring_lines g = passes.in_ring in (started, omega arith)
+
+-- what holds between two calls holds while lines are taken back
+pub open_undoing : {g : Sizes} {start tail : ℕ} {s : State} (it : OpenFacts g start tail s) → Undoing g start tail it.words it.kept s
+open_undoing it = record { super_words = it.super_words; facts = it.facts; newest = it.newest; flushed = it.flushed }
 
 module _ (g : Sizes) (start tail : ℕ) (s : State) (it : OpenFacts g start tail s) where
   -- a word that the open group doesn't name is the committed one

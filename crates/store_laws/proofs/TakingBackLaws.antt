@@ -19,7 +19,7 @@ use Rattle.store_laws.specs.Steps.{HoldsFacts, IsStoreOf}
 use Rattle.store_laws.specs.OpenGroup.{OpenGroup, IsOfStore, AreOfStore}
 use Rattle.store_laws.specs.ShownPages.{pages_in, committed_in}
 use Rattle.store_laws.specs.Undoing.{Undoing, TakingBack}
-use Rattle.store_laws.proofs.OpenLaws.{pages_by, facts_can_store, same_store}
+use Rattle.store_laws.proofs.OpenLaws.{pages_by, facts_can_store, same_store, open_undoing}
 use Rattle.store_laws.proofs.WriteLaws.{record_at, names_here}
 use Rattle.store_laws.proofs.GroupLaws.{group_changes}
 use Rattle.store_laws.proofs.AbortLaws.{or_right, abort_words, undo_done, undo_moment, undo_pages, undo_lines}
@@ -62,8 +62,7 @@ back_begins g start tail first s it group = record {
   words = it.words;
   kept = it.kept;
   group = group;
-  undoing = subst (λ (cs : List Change). Undoing g start tail (undone cs it.words) it.kept s) (sym (drop_all group.group))
-      (record { super_words = it.super_words; facts = it.facts; newest = it.newest; flushed = it.flushed });
+  undoing = subst (λ (cs : List Change). Undoing g start tail (undone cs it.words) it.kept s) (sym (drop_all group.group)) (open_undoing it);
   back = λ p l w word. ap (λ (cs : List Change). undone cs it.words p l w) (sym (group_changes g start first (current s) group))
       ∙ abort_words g start tail s it (current s) (current_leaves s) p l w word;
 }

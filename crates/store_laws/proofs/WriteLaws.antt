@@ -1,5 +1,5 @@
 -- A write in place keeps the facts of an open store at each moment, and changes one line.
-use Rattle.std.proofs.Common.{◌≡◌, ◌≢◌, ◌⊎◌, ℕ, zero, suc, ◌+◌, ◌<◌, ◌≤◌, Bool, true, false, ◌||◌, ◌&&◌, List, [], ◌∷◌, ◌++◌, refl, sym, ap, ◌∙◌, subst, inl, inr, arith, slice_index, get_or, eqb, ltb, leb, cond, Some, None}
+use Rattle.std.proofs.Common.{◌≡◌, ◌≢◌, ◌⊎◌, ℕ, zero, suc, ◌+◌, ◌<◌, ◌≤◌, Bool, true, false, ◌||◌, ◌&&◌, List, ◌++◌, refl, sym, ap, ◌∙◌, subst, inl, inr, arith, slice_index, get_or, eqb, ltb, leb, cond, Some, None}
 use Rattle.std.proofs.lemmas.Bool.{cases_Bool, cases_eq, eqb-true, eq-eqb, and_parts, or_parts, cond-true, cond-false, ltb-true, lt-ltb, lt-leb}
 use mathlib.Core.Path.{fun_ext}
 use Rattle.std.specs.Int.{bit_at}
@@ -8,15 +8,14 @@ use Rattle.nvm_model.specs.Word.{Word}
 use Rattle.nvm_model.specs.Memory.{line_of}
 use Rattle.devices.specs.State.{State, Image, Call, Amid, Leaves, current, line_at, after_all, line_stored}
 use Rattle.devices.specs.Growth.{Grows, no_write}
-use Rattle.store_meaning.specs.Layout.{Sizes, pages, frame_line, ring_start, ring_lines}
-use Rattle.store_meaning.specs.Log.{Words, Change, Log, Entry, names, named_in, changes, is_logged, extended, written, grouped, no_log}
+use Rattle.store_meaning.specs.Layout.{Sizes, pages, frame_line, ring_lines}
+use Rattle.store_meaning.specs.Log.{Words, Change, Log, names, named_in, changes, is_logged, written, grouped, no_log}
 use Rattle.store_meaning.specs.Log.Item.{write}
 use Rattle.store_meaning.specs.Log.Entry.{item}
 use Rattle.store_meaning.specs.Format.{entries, zero_line, word_in, head_check, entry_check, log_check}
 use Rattle.store_meaning.specs.Format.Format.{whole_lines}
 use Rattle.store_meaning.specs.Recovered.{Super, super_of, log_lines, log_of, lines_of}
-use Rattle.store_meaning.specs.View.{Extends}
-use Rattle.store_meaning.specs.Put.{append_calls, IsLine, IsFree, CanPut}
+use Rattle.store_meaning.specs.Put.{append_calls, IsLine, CanPut}
 use Rattle.store_meaning.specs.Append.{head_line, record_of}
 use Rattle.store_meaning.specs.InPlace.{store_calls, CanStore}
 use Rattle.store_meaning.specs.StoreFacts.{Bookkeeping, IsWord, is_written, StoreFacts, moving}
@@ -24,21 +23,21 @@ use Rattle.store_meaning.specs.AtEnd.{LogEnds}
 use Rattle.devices.proofs.StateLaws.{line_stored_same, line_stored_other, flushed_other, flushed_same}
 use Rattle.devices.proofs.GrowthLaws.{Amid_append, Amid_end, after_all_append, Amid-grows, Grows-leaves}
 use Rattle.devices.proofs.DurableLaws.{line_stores}
-use Rattle.store_meaning.proofs.LogLaws.{grouped-append, written_named, written_other}
+use Rattle.store_meaning.proofs.LogLaws.{written_named, written_other}
 use Rattle.store_meaning.proofs.LayoutLaws.{frame_apart}
-use Rattle.store_meaning.proofs.PutLaws.{put_done, put_gate, put_newest, put_word, durable_super, free_high}
 use Rattle.store_meaning.proofs.AtEndLaws.{log_durable}
-use Rattle.store_meaning.proofs.CheckLaws.{entry_from, fault_from, store_whole}
-use Rattle.store_meaning.proofs.FactsLaws.{record_facts, facts_done, facts_can_put, current_leaves}
+use Rattle.store_meaning.proofs.CheckLaws.{entry_from, fault_from}
+use Rattle.store_meaning.proofs.FactsLaws.{record_facts, facts_can_put, current_leaves}
 use Rattle.store_meaning.proofs.StoreLaws.{Stored, store_same, store_facts}
-use Rattle.store_meaning.proofs.RecoveredLaws.{line_of-same, entries-append}
+use Rattle.store_meaning.proofs.RecoveredLaws.{line_of-same}
 use Rattle.store_meaning.proofs.EndsLaws.{record_logged, record_ends}
 use Rattle.store_laws.specs.OpenFacts.{OpenFacts, keeping, super_with}
 use Rattle.store_laws.specs.Steps.{HoldsFacts, IsStoreOf}
 use Rattle.store_laws.specs.Calls.{write_calls}
 use Rattle.store_laws.specs.ShownPages.{pages_in, words_in, committed_in}
 use Rattle.line_pages.specs.Lines.{with_line}
-use Rattle.store_laws.proofs.OpenLaws.{same_words, open_pages, store_by, same_store}
+use Rattle.store_laws.proofs.OpenLaws.{same_words, open_pages, store_by, same_store, open_undoing}
+use Rattle.store_laws.proofs.BehindLaws.{PutsEntry, Behind, can_put, calls_are, amid_put, behind, super_behind, newest_behind, kept_behind, facts_behind}
 
 -- word w of the line of eight words
 word_of : (f : ℕ → ℕ) (w : ℕ) → w < 8 → slice_index (line_of f).words w ≡ f w
@@ -104,23 +103,22 @@ module _ (g : Sizes) (start tail : ℕ) (s : State) (it : OpenFacts g start tail
   abbrev sup : Super
   sup = super_of (current s)
 
-  sup_is : sup ≡ super_with g start tail
-  sup_is = it.super_words
-
-  can : CanPut s 3
-  can = facts_can_put b s 3 it.facts refl (subst (λ (x : Super). x.tail + 3 ≤ x.start + ring_lines g) (sym sup_is) room)
-
-  are_lines : (k : ℕ) → k < 3 → IsLine (get_or xs k zero_line)
-  are_lines zero h = refl
-  are_lines (suc zero) h = refl
-  are_lines (suc (suc zero)) h = is_line
-  are_lines (suc (suc (suc k))) h = absurd (omega arith)
+  puts : PutsEntry g start tail it.words it.kept s xs (item (write r))
+  puts = record {
+    it = open_undoing it;
+    are_lines = are_lines;
+    entry = refl;
+    room = room;
+  }
+    where
+      are_lines : (k : ℕ) → k < 3 → IsLine (get_or xs k zero_line)
+      are_lines zero h = refl
+      are_lines (suc zero) h = refl
+      are_lines (suc (suc zero)) h = is_line
+      are_lines (suc (suc (suc k))) h = absurd (omega arith)
 
   passes : (at : ℕ) → log_check whole_lines g at 0 xs ≡ None
   passes = record_passes g page line before value hp hl
-
-  calls_are : append_calls sup.sizes sup.tail xs ≡ append_calls g tail xs
-  calls_are = ap (λ (x : Super). append_calls x.sizes x.tail xs) sup_is
 
   before_is : (j : Image) → Leaves s j → (p l w : ℕ) → IsWord g p l w → names r p l w ≡ true → named_in (changes (log_of whole_lines j).open_items) p l w ≡ false
       → it.kept p l w ≡ slice_index before.words w
@@ -132,55 +130,30 @@ module _ (g : Sizes) (start tail : ℕ) (s : State) (it : OpenFacts g start tail
       ∙ sym (word_of (λ w. (s.nvm (frame_line g page line) w).newest) w word.word)
 
   -- while the record is put
+  put_moment : (mid : State) → Amid s (append_calls sup.sizes sup.tail xs) mid → StoreFacts (moving b sup.tail (sup.tail + 3) (λ n. it.kept)) mid
+  put_moment mid amid = record_facts b s it.facts xs (can_put puts) puts.are_lines passes r refl (λ p l w. refl) before_is mid amid
+
   pub record_moment : (mid : State) → Amid s (append_calls g tail xs) mid → StoreFacts (moving b sup.tail (sup.tail + 3) (λ n. it.kept)) mid
-  record_moment mid amid =
-      record_facts b s it.facts xs can are_lines passes r refl (λ p l w. refl) before_is mid
-      (subst (λ (cs : List Call). Amid s cs mid) (sym calls_are) amid)
+  record_moment mid amid = put_moment mid (amid_put puts mid amid)
 
   -- and when it stands
   abbrev s₁ : State
   s₁ = after_all (append_calls sup.sizes sup.tail xs) s
 
   facts₁ : StoreFacts b s₁
-  facts₁ = facts_done b sup.tail (sup.tail + 3) (λ n. it.kept) s₁
-      (record_facts b s it.facts xs can are_lines passes r refl (λ p l w. refl) before_is s₁ (Amid_end (append_calls sup.sizes sup.tail xs) s))
-      (ap (λ (x : Word). x.older) (put_gate s xs can))
+  facts₁ = facts_behind puts (λ n. it.kept) put_moment it.kept (λ p l w. refl)
 
-  -- What holds of an image once the record stands.
-  record Behind (i : Image) : Type 0 where
-    j : Image
-    left : Leaves s j
-    super_words : super_of i ≡ record sup { tail = sup.tail + 3 }
-    lines : log_lines i ≡ log_lines j ++ xs
+  logged_behind : (i : Image) (x : Behind puts i) (p l w : ℕ) → is_logged (log_of whole_lines i) p l w ≡ (is_logged (log_of whole_lines x.j) p l w || names r p l w)
+  logged_behind i x p l w = ap (λ (log : Log). is_logged log p l w) x.log ∙ record_logged (log_of whole_lines x.j) r p l w
 
-  behind₁ : (i : Image) → Leaves s₁ i → Behind i
-  behind₁ i left =
-      let found : (j : Image) × Leaves s j × Extends i j xs = put_done s xs can are_lines i left in
-      let e_j : super_of found.0 ≡ sup = durable_super s 3 can found.0 found.1 in
-      record {
-        j = found.0;
-        left = found.1;
-        super_words = (found.2).super_words ∙ ap (λ (x : Super). record x { tail = x.tail + 3 }) e_j;
-        lines = (found.2).log;
-      }
-
-  log_behind : (i : Image) (x : Behind i) → log_of whole_lines i ≡ extended (log_of whole_lines x.j) (item (write r))
-  log_behind i x =
-      ap (λ (lines : List Line). grouped no_log (entries whole_lines 0 lines)) x.lines
-      ∙ ap (λ (es : List Entry). grouped no_log es) (entries-append whole_lines 0 (log_lines x.j) xs (store_whole whole_lines x.j ((it.facts).stores x.j x.left)))
-      ∙ grouped-append no_log (entries whole_lines 0 (log_lines x.j)) (item (write r) ∷ [])
-
-  logged_behind : (i : Image) (x : Behind i) (p l w : ℕ) → is_logged (log_of whole_lines i) p l w ≡ (is_logged (log_of whole_lines x.j) p l w || names r p l w)
-  logged_behind i x p l w = ap (λ (log : Log). is_logged log p l w) (log_behind i x) ∙ record_logged (log_of whole_lines x.j) r p l w
-
-  logged_here : (i : Image) → Behind i → (p l w : ℕ) → names r p l w ≡ true → is_logged (log_of whole_lines i) p l w ≡ false → ⊥
+  logged_here : (i : Image) → Behind puts i → (p l w : ℕ) → names r p l w ≡ true → is_logged (log_of whole_lines i) p l w ≡ false → ⊥
   logged_here i x p l w named unlogged = clash (names r p l w) named (or_parts (is_logged (log_of whole_lines x.j) p l w) (names r p l w) (sym (logged_behind i x p l w) ∙ unlogged)).1
     where
       clash : (y : Bool) → y ≡ true → y ≡ false → ⊥
       clash y e f = absurd (cc)
 
   sup₁_is : super_of (current s₁) ≡ super_with g start (tail + 3)
-  sup₁_is = (behind₁ (current s₁) (current_leaves s₁)).super_words ∙ ap (λ (x : Super). record x { tail = x.tail + 3 }) sup_is
+  sup₁_is = super_behind puts
 
   can₁ : CanPut s₁ 0
   can₁ = facts_can_put b s₁ 0 facts₁ refl (subst (λ (x : Super). x.tail + 0 ≤ x.start + ring_lines g) (sym sup₁_is) (omega arith))
@@ -189,7 +162,7 @@ module _ (g : Sizes) (start tail : ℕ) (s : State) (it : OpenFacts g start tail
   store = record {
     can = can₁;
     in_page = hl;
-    words = λ i left w hw unlogged. absurd (logged_here i (behind₁ i left) page line w (names_here page line before value w hw) unlogged);
+    words = λ i left w hw unlogged. absurd (logged_here i (behind puts i left) page line w (names_here page line before value w hw) unlogged);
   }
 
   -- the current words with the line
@@ -198,7 +171,7 @@ module _ (g : Sizes) (start tail : ℕ) (s : State) (it : OpenFacts g start tail
 
   same_current : (i : Image) → Leaves s₁ i → (p l w : ℕ) → IsWord g p l w → is_written b i p l w ≡ false → it.words p l w ≡ words₂ p l w
   same_current i left p l w word unwritten = elim (cases_Bool (names r p l w)) [
-    | inl named ↦ absurd (logged_here i (behind₁ i left) p l w named (or_parts (is_logged (log_of whole_lines i) p l w) false unwritten).0)
+    | inl named ↦ absurd (logged_here i (behind puts i left) p l w named (or_parts (is_logged (log_of whole_lines i) p l w) false unwritten).0)
     | inr other ↦ sym (written_other r value it.words p l w other)
   ]
 
@@ -216,18 +189,19 @@ module _ (g : Sizes) (start tail : ℕ) (s : State) (it : OpenFacts g start tail
   amid₂ : Amid s₁ (store_calls (super_of (current s₁)).sizes page line value) s₂
   amid₂ = subst (λ (cs : List Call). Amid s₁ cs s₂) (sym store_calls_are) (Amid_end (store_calls g page line value) s₁)
 
-  behind₂ : (i : Image) → Leaves s₂ i → Behind i
+  behind₂ : (i : Image) → Leaves s₂ i → Behind puts i
   behind₂ i left =
       let stores : ℕ → ℕ → ℕ → Type 0 = line_stores (frame_line (super_of (current s₁)).sizes page line) value in
       let grows : Grows stores no_write s₁ s₂ = Amid-grows stores no_write (store_calls (super_of (current s₁)).sizes page line value) s₁ s₂ ((λ w hw. (refl, hw, refl)), (tt, tt)) amid₂ in
       let found : (j : Image) × Leaves s₁ j × Stored whole_lines s₁ page line value store i j =
       store_same whole_lines s₁ page line value store i (Grows-leaves stores no_write s₁ s₂ i grows left) in
-      let x : Behind found.0 = behind₁ found.0 found.1 in
+      let x : Behind puts found.0 = behind puts found.0 found.1 in
       record {
         j = x.j;
         left = x.left;
         super_words = (found.2).super_words ∙ x.super_words;
         lines = (found.2).lines ∙ x.lines;
+        log = ap (λ (lines : List Line). grouped no_log (entries whole_lines 0 lines)) (found.2).lines ∙ x.log;
       }
 
   place : ℕ
@@ -245,15 +219,11 @@ module _ (g : Sizes) (start tail : ℕ) (s : State) (it : OpenFacts g start tail
     | inr other ↦
         ap (λ (x : Word). x.newest) (flushed_other (frame_line g page line) (line_stored (frame_line g page line) value s₁) (frame_line g p l) w other)
         ∙ ap (λ (x : Word). x.newest) (line_stored_other (frame_line g page line) value s₁ (frame_line g p l) w other)
-        ∙ put_newest s xs can (frame_line g p l) w (λ e. omega arith) (not_free p l)
+        ∙ newest_behind puts p l w
         ∙ it.newest p l w word
         ∙ sym (written_other r value it.words p l w (unnamed p l w other))
   ]
     where
-      not_free : (p l : ℕ) → IsFree sup.sizes sup.tail 3 (frame_line g p l) → ⊥
-      not_free p l free =
-          let low : frame_line g p l < ring_start g + ring_lines g = subst (λ (x : Super). frame_line g p l < ring_start x.sizes + ring_lines x.sizes) sup_is (free_high s xs can (frame_line g p l) free).1 in omega arith
-
       unnamed : (p l w : ℕ) → frame_line g p l ≢ frame_line g page line → names r p l w ≡ false
       unnamed p l w other = elim (cases_Bool (names r p l w)) [
         | inl named ↦
@@ -268,28 +238,24 @@ module _ (g : Sizes) (start tail : ℕ) (s : State) (it : OpenFacts g start tail
     | inr other ↦
         ap (λ (x : Word). x.kept) (flushed_other (frame_line g page line) (line_stored (frame_line g page line) value s₁) (frame_line g p l) w other)
         ∙ ap (λ (x : Word). x.kept) (line_stored_other (frame_line g page line) value s₁ (frame_line g p l) w other)
-        ∙ ap (λ (x : Word). x.kept) (put_word s xs can (frame_line g p l) w (λ e. omega arith) (apart_ring p l)) ∙ it.flushed p l w word
+        ∙ kept_behind puts p l w ∙ it.flushed p l w word
   ]
-    where
-      apart_ring : (p l : ℕ) → IsFree sup.sizes sup.tail 3 (frame_line g p l) → ⊥
-      apart_ring p l free =
-          let low : frame_line g p l < ring_start g + ring_lines g = subst (λ (x : Super). frame_line g p l < ring_start x.sizes + ring_lines x.sizes) sup_is (free_high s xs can (frame_line g p l) free).1 in omega arith
 
   -- When the write is done the facts hold with the record last.
   pub write_done : OpenFacts g start (tail + 3) (after_all (store_calls g page line value) (after_all (append_calls sup.sizes sup.tail xs) s))
   write_done = record {
     words = words₂;
     kept = it.kept;
-    super_words = (behind₂ (current s₂) (current_leaves s₂)).super_words ∙ ap (λ (x : Super). record x { tail = x.tail + 3 }) sup_is;
+    super_words = (behind₂ (current s₂) (current_leaves s₂)).super_words ∙ ap (λ (x : Super). record x { tail = x.tail + 3 }) it.super_words;
     facts = store_moment s₂ (Amid_end (store_calls g page line value) s₁);
     newest = newest₂;
     flushed = flushed₂;
-    ends = λ i left. subst (λ (log : Log). LogEnds g log words₂) (sym (log_behind i (behind₂ i left)))
+    ends = λ i left. subst (λ (log : Log). LogEnds g log words₂) (sym (behind₂ i left).log)
         (record_ends g (log_of whole_lines (behind₂ i left).j) r it.words (it.ends (behind₂ i left).j (behind₂ i left).left));
   }
 
   calls_done : after_all (write_calls g tail page line value s) s ≡ s₂
-  calls_done = after_all_append (append_calls g tail xs) (store_calls g page line value) s ∙ ap (λ (cs : List Call). after_all (store_calls g page line value) (after_all cs s)) (sym calls_are)
+  calls_done = after_all_append (append_calls g tail xs) (store_calls g page line value) s ∙ ap (λ (cs : List Call). after_all (store_calls g page line value) (after_all cs s)) (sym (calls_are puts))
 
   pub write_facts : OpenFacts g start (tail + 3) (after_all (write_calls g tail page line value s) s)
   write_facts = subst (λ (x : State). OpenFacts g start (tail + 3) x) (sym calls_done) write_done
@@ -297,14 +263,14 @@ module _ (g : Sizes) (start tail : ℕ) (s : State) (it : OpenFacts g start tail
   -- the log has the record last
   pub write_log : log_lines (current (after_all (write_calls g tail page line value s) s)) ≡ log_lines (current s) ++ record_of page line (line_at s (frame_line g page line)) value
   write_log =
-      let x : Behind (current s₂) = behind₂ (current s₂) (current_leaves s₂) in
-      ap (λ (t : State). log_lines (current t)) calls_done ∙ x.lines ∙ ap (λ (lines : List Line). lines ++ xs) (log_durable s 3 can x.j x.left)
+      let x : Behind puts (current s₂) = behind₂ (current s₂) (current_leaves s₂) in
+      ap (λ (t : State). log_lines (current t)) calls_done ∙ x.lines ∙ ap (λ (lines : List Line). lines ++ xs) (log_durable s 3 (can_put puts) x.j x.left)
 
   -- At each moment every image is a store that recovers to the committed pages.
   pub write_moment : (mid : State) → Amid s (write_calls g tail page line value s) mid → (i : Image) → Leaves mid i → IsStoreOf g (committed_in s) i
   write_moment mid amid i left = elim (Amid_append (append_calls g tail xs) (store_calls g page line value) s mid amid) [
     | inl first ↦ again (store_by (moving b sup.tail (sup.tail + 3) (λ n. it.kept)) mid (record_moment mid first) refl it.kept (λ n p l w. refl) i left)
-    | inr second ↦ again (store_by (keeping g words₂ it.kept) mid (store_moment mid (subst (λ (cs : List Call). Amid (after_all cs s) (store_calls g page line value) mid) (sym calls_are) second)) refl it.kept (λ n p l w. refl) i left)
+    | inr second ↦ again (store_by (keeping g words₂ it.kept) mid (store_moment mid (subst (λ (cs : List Call). Amid (after_all cs s) (store_calls g page line value) mid) (sym (calls_are puts)) second)) refl it.kept (λ n p l w. refl) i left)
   ]
     where
       again : IsStoreOf g (lines_of (pages g) it.kept) i → IsStoreOf g (committed_in s) i
@@ -318,7 +284,7 @@ module _ (g : Sizes) (start tail : ℕ) (s : State) (it : OpenFacts g start tail
       keeps = keeping g words₂ it.kept;
       format = refl;
       sizes = refl;
-      facts = store_moment mid (subst (λ (cs : List Call). Amid (after_all cs s) (store_calls g page line value) mid) (sym calls_are) second);
+      facts = store_moment mid (subst (λ (cs : List Call). Amid (after_all cs s) (store_calls g page line value) mid) (sym (calls_are puts)) second);
     }
   ]
 

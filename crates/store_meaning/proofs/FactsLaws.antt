@@ -1,6 +1,6 @@
 -- The facts of an open store: what recovery gives by them, and that an entry at the end of the log keeps them.
 use Rattle.std.proofs.Common.{◌≡◌, ◌≢◌, ◌⊎◌, ℕ, zero, suc, ◌+◌, ◌-◌, ◌<◌, ◌≤◌, Bool, true, false, ◌||◌, List, [], ◌∷◌, length, refl, sym, ap, ◌∙◌, subst, inl, inr, arith, slice_index, get_or, Some, None, eqb}
-use Rattle.std.proofs.lemmas.Bool.{cases_Bool, cases_lt, or_parts, cond-true, cond-false, eq-eqb, ne_eqb}
+use Rattle.std.proofs.lemmas.Bool.{cases_Bool, cases_eq, cases_lt, or_parts, cond-true, cond-false, eq-eqb, ne_eqb}
 use Rattle.nvm_model.specs.declared.line.Line.{Line}
 use Rattle.devices.specs.State.{State, Image, Amid, Leaves, current}
 use Rattle.nvm_model.specs.Word.{Word, IsVersion, IsSingle}
@@ -382,14 +382,26 @@ commit_facts b s facts xs can some are_lines passes is none gives =
     at_new : (p l w : ℕ) → committed_from new b.current b.committed new p l w ≡ b.current p l w
     at_new p l w = ap (λ (x : Words). x p l w) (cond-true (eqb new new) b.current (b.committed new) (eq-eqb new new refl))
 
--- When the tail has one version again, no gate is being changed.
-pub facts_done : (b : Bookkeeping) (old new : ℕ) (committed : ℕ → Words) (s : State) → StoreFacts (moving b old new committed) s → IsSingle (s.nvm 3 0)
-    → StoreFacts (record b { changing = None; committed = committed }) s
-facts_done b old new committed s facts one = record {
+-- a gate is word 0 of its line
+gate_first : (gate : Gate) → gate_word gate ≡ 0
+gate_first Gate.magic = refl
+gate_first Gate.start = refl
+gate_first Gate.drained = refl
+gate_first Gate.tail = refl
+
+-- When the word of the gate that is being changed has one version again, no gate is being changed.
+pub gate_done : (b : Bookkeeping) (change : Changing) (s : State) → StoreFacts (record b { changing = Some change }) s
+    → IsSingle (s.nvm (gate_line change.gate) (gate_word change.gate)) → StoreFacts (record b { changing = None }) s
+gate_done b change s facts one = record {
   gates = record {
     sizes = facts.gates.sizes;
-    others = λ gate none. gate_single gate;
-    changing = λ change at v h. absurd (never change at);
+    others = λ gate none. elim (cases_eq (gate_line gate) (gate_line change.gate)) [
+      | inl same ↦
+          subst (λ n. IsSingle (s.nvm n (gate_word gate))) (sym same)
+          (subst (λ n. IsSingle (s.nvm (gate_line change.gate) n)) (gate_first change.gate ∙ sym (gate_first gate)) one)
+      | inr apart ↦ facts.gates.others gate (λ other at e. apart (ap gate_line (e ∙ sym (ap (λ (c : Changing). c.gate) (some_same change other at)))))
+    ];
+    changing = λ other at v h. absurd (never other at);
   };
   sizes = facts.sizes;
   durable = λ i leaves. record { log = (facts.durable i leaves).log; homes = (facts.durable i leaves).homes };
@@ -399,20 +411,13 @@ facts_done b old new committed s facts one = record {
   stores = facts.stores;
 }
   where
-    never : (change : Changing) → None ≡ Some change → ⊥
-    never change at = cc
+    never : (other : Changing) → None ≡ Some other → ⊥
+    never other at = cc
 
-    gate_of : (change : Changing) → Some (record { gate = Gate.tail; old = old; new = new }) ≡ Some change → Gate.tail ≡ change.gate
-    gate_of change at = ap (λ (c : Changing). c.gate) (some_same _ change at)
-
-    other : (gate : Gate) → gate ≢ Gate.tail → (change : Changing) → Some (record { gate = Gate.tail; old = old; new = new }) ≡ Some change → gate ≢ change.gate
-    other gate apart change at e = apart (e ∙ sym (gate_of change at))
-
-    gate_single : (gate : Gate) → IsSingle (s.nvm (gate_line gate) (gate_word gate))
-    gate_single Gate.magic = facts.gates.others Gate.magic (other Gate.magic (λ e. cc))
-    gate_single Gate.start = facts.gates.others Gate.start (other Gate.start (λ e. cc))
-    gate_single Gate.drained = facts.gates.others Gate.drained (other Gate.drained (λ e. cc))
-    gate_single Gate.tail = one
+-- so when the tail was changed, and with it what is committed
+pub facts_done : (b : Bookkeeping) (old new : ℕ) (committed : ℕ → Words) (s : State) → StoreFacts (moving b old new committed) s → IsSingle (s.nvm 3 0)
+    → StoreFacts (record b { changing = None; committed = committed }) s
+facts_done b old new committed s facts one = gate_done (record b { committed = committed }) (record { gate = Gate.tail; old = old; new = new }) s facts one
 
 -- Where no gate is being changed and there is room, lines can be put at the end of the log.
 pub facts_can_put : (b : Bookkeeping) (s : State) (n : ℕ) → StoreFacts b s → b.changing ≡ None

@@ -17,7 +17,7 @@ use Rattle.store_meaning.specs.Put.{CanPut, start_calls}
 use Rattle.store_meaning.specs.StoreFacts.{Gate, gate_line, gate_word, Changing, Bookkeeping, IsWord, is_written, GatesAreOne, NamedIsDurable, HomesAreRight, LogIsRight, CopiesAreRight, StoreFacts}
 use Rattle.store_meaning.proofs.CheckLaws.{checks_from, super_check-none, start_passes, store_passes}
 use Rattle.nvm_model.proofs.WordLaws.{single_version}
-use Rattle.store_meaning.proofs.FactsLaws.{current_leaves, some_same}
+use Rattle.store_meaning.proofs.FactsLaws.{current_leaves, some_same, gate_done}
 use Rattle.std.proofs.lemmas.Bool.{cases_Bool}
 use Rattle.devices.proofs.StateLaws.{flushed_same, word_stored_same}
 use Rattle.devices.proofs.GrowthLaws.{Amid_end, Amid-grows, Grows-leaves, Grows-single, Grows-steady, Grows-settled}
@@ -101,34 +101,7 @@ empty_store format i j at moved is lines store =
 -- When the start has one version again, no gate is being changed.
 pub start_done : (b : Bookkeeping) (old new : ℕ) (s : State) → StoreFacts (record b { changing = Some (record { gate = Gate.start; old = old; new = new }) }) s → IsSingle (s.nvm 1 0)
     → StoreFacts (record b { changing = None }) s
-start_done b old new s facts one = record {
-  gates = record {
-    sizes = facts.gates.sizes;
-    others = λ gate none. gate_single gate;
-    changing = λ change at v h. absurd (never change at);
-  };
-  sizes = facts.sizes;
-  durable = λ i leaves. record { log = (facts.durable i leaves).log; homes = (facts.durable i leaves).homes };
-  homes = λ i leaves. record { current = (facts.homes i leaves).current; committed = (facts.homes i leaves).committed };
-  log = λ i leaves. record { logged = (facts.log i leaves).logged; pending = (facts.log i leaves).pending };
-  copies = facts.copies;
-  stores = facts.stores;
-}
-  where
-    never : (change : Changing) → None ≡ Some change → ⊥
-    never change at = cc
-
-    gate_of : (change : Changing) → Some (record { gate = Gate.start; old = old; new = new }) ≡ Some change → Gate.start ≡ change.gate
-    gate_of change at = ap (λ (c : Changing). c.gate) (some_same _ change at)
-
-    other : (gate : Gate) → gate ≢ Gate.start → (change : Changing) → Some (record { gate = Gate.start; old = old; new = new }) ≡ Some change → gate ≢ change.gate
-    other gate apart change at e = apart (e ∙ sym (gate_of change at))
-
-    gate_single : (gate : Gate) → IsSingle (s.nvm (gate_line gate) (gate_word gate))
-    gate_single Gate.magic = facts.gates.others Gate.magic (other Gate.magic (λ e. cc))
-    gate_single Gate.start = one
-    gate_single Gate.drained = facts.gates.others Gate.drained (other Gate.drained (λ e. cc))
-    gate_single Gate.tail = facts.gates.others Gate.tail (other Gate.tail (λ e. cc))
+start_done b old new s facts one = gate_done b (record { gate = Gate.start; old = old; new = new }) s facts one
 
 -- The facts while the log is emptied. It asks that nothing is pending, that the home of each word that the log names is
 -- durable and its current and its committed word, and that the copies in DRAM are the homes.
