@@ -110,21 +110,21 @@ names_to at to High IsHigh (Err (Damaged (Log offset line tail check))) same hig
 names_to at to High IsHigh (Err (Damaged (Walk page kept found check))) same high names = tt
 
 -- stops that come only where a page has to be cut
-pub fault_needed : {T : Type 0} (MustCut IsFull : Type 0) (result : Result T Stop) → IfErr result IsFault → IfErr result (IsNeeded MustCut IsFull)
-fault_needed MustCut IsFull (Ok value) fault = tt
-fault_needed MustCut IsFull (Err Nvm) fault = tt
-fault_needed MustCut IsFull (Err Ssd) fault = tt
-fault_needed MustCut IsFull (Err (Damaged e)) fault = absurd fault
+pub fault_needed : {T : Type 0} (NoRoom IsFull : Type 0) (result : Result T Stop) → IfErr result IsFault → IfErr result (IsNeeded NoRoom IsFull)
+fault_needed NoRoom IsFull (Ok value) fault = tt
+fault_needed NoRoom IsFull (Err Nvm) fault = tt
+fault_needed NoRoom IsFull (Err Ssd) fault = tt
+fault_needed NoRoom IsFull (Err (Damaged e)) fault = absurd fault
 
-pub cut_needed : {T : Type 0} (MustCut IsFull : Type 0) (result : Result T Stop) → MustCut → IfErr result NotFull → IfErr result (IsNeeded MustCut IsFull)
-cut_needed MustCut IsFull (Ok value) cut other = tt
-cut_needed MustCut IsFull (Err Nvm) cut other = tt
-cut_needed MustCut IsFull (Err Ssd) cut other = tt
-cut_needed MustCut IsFull (Err (Damaged (Page page level low high check))) cut other = (cut, λ e. absurd (other e))
-cut_needed MustCut IsFull (Err (Damaged (Super words check))) cut other = absurd other
-cut_needed MustCut IsFull (Err (Damaged (Frames first second entry check))) cut other = absurd other
-cut_needed MustCut IsFull (Err (Damaged (Log offset line tail check))) cut other = absurd other
-cut_needed MustCut IsFull (Err (Damaged (Walk page kept found check))) cut other = absurd other
+pub cut_needed : {T : Type 0} (NoRoom IsFull : Type 0) (result : Result T Stop) → NoRoom → IfErr result NotFull → IfErr result (IsNeeded NoRoom IsFull)
+cut_needed NoRoom IsFull (Ok value) cut other = tt
+cut_needed NoRoom IsFull (Err Nvm) cut other = tt
+cut_needed NoRoom IsFull (Err Ssd) cut other = tt
+cut_needed NoRoom IsFull (Err (Damaged (Page page level low high check))) cut other = (cut, λ e. absurd (other e))
+cut_needed NoRoom IsFull (Err (Damaged (Super words check))) cut other = absurd other
+cut_needed NoRoom IsFull (Err (Damaged (Frames first second entry check))) cut other = absurd other
+cut_needed NoRoom IsFull (Err (Damaged (Log offset line tail check))) cut other = absurd other
+cut_needed NoRoom IsFull (Err (Damaged (Walk page kept found check))) cut other = absurd other
 
 pub needed_wider : {T : Type 0} (A A' B B' : Type 0) → (A → A') → (A → B → B') → (result : Result T Stop) → IfErr result (IsNeeded A B) → IfErr result (IsNeeded A' B')
 needed_wider A A' B B' cut full (Ok value) needed = tt

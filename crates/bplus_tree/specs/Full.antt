@@ -54,15 +54,15 @@ CutsFor Reason Short = Unit {0}
 CutsFor Reason (Cut key right) = Reason
 CutsFor Reason (Alone child) = Unit {0}
 
--- Damage comes only where a page has to be cut, and by the check of a full root only where the root is full.
+-- Damage comes only where a page has no room, and by the check of a full root only where the root is full.
 abbrev pub IsNeeded : Type 0 → Type 0 → Stop → Type 0
-IsNeeded MustCut IsFull Nvm = Unit {0}
-IsNeeded MustCut IsFull Ssd = Unit {0}
-IsNeeded MustCut IsFull (Damaged (Page page level low high check)) = MustCut × (check ≡ 39 → IsFull)
-IsNeeded MustCut IsFull (Damaged (Super words check)) = ⊥
-IsNeeded MustCut IsFull (Damaged (Frames first second entry check)) = ⊥
-IsNeeded MustCut IsFull (Damaged (Log offset line tail check)) = ⊥
-IsNeeded MustCut IsFull (Damaged (Walk page kept found check)) = ⊥
+IsNeeded NoRoom IsFull Nvm = Unit {0}
+IsNeeded NoRoom IsFull Ssd = Unit {0}
+IsNeeded NoRoom IsFull (Damaged (Page page level low high check)) = NoRoom × (check ≡ 39 → IsFull)
+IsNeeded NoRoom IsFull (Damaged (Super words check)) = ⊥
+IsNeeded NoRoom IsFull (Damaged (Frames first second entry check)) = ⊥
+IsNeeded NoRoom IsFull (Damaged (Log offset line tail check)) = ⊥
+IsNeeded NoRoom IsFull (Damaged (Walk page kept found check)) = ⊥
 
 -- the same of an inner page above a child that became this
 abbrev pub NeededAbove : Lines → Passed → Outcome → Stop → Type 0

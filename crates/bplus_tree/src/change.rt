@@ -58,7 +58,7 @@ pub fn put_leaf<P: Pages>(
     ensures sound { IsTrue (P.standing pages.old).told → (free : List ℕ) → IsWellFormed (bytes_of (P.standing pages.old).current page) expect.now → IsFreeList (P.standing pages.old).current free → ArePart (P.standing pages.old).current (page ∷ free) → FitsHeader (P.standing pages.old).count ((P.standing pages.old).current 0 0) → IfErr result (IsShort (spare_pages (P.standing pages.old).count (P.standing pages.old).current free) 0) }
     ensures cause { HasCause (IsTreeDamage (P.standing pages.old).told (P.standing pages.old).count (P.standing pages.new).current work.new.page) (P.standing pages.old) (P.standing pages.new) result }
     ensures fails { IfErr result (Keeps (FailsTree (P.standing pages.old).count work.new.page)) }
-    ensures other { IfErr result NotFull }
+    ensures not_full { IfErr result NotFull }
     ensures cuts { IsTrue (P.standing pages.old).told → IfOk result (CutsFor (IsOverfull (row_put key value.now (leaf_rows (bytes_of (P.standing pages.old).current page))))) }
     ensures needed { IsTrue (P.standing pages.old).told → IsWellFormed (bytes_of (P.standing pages.old).current page) expect.now → IfErr result (IsNeeded (IsOverfull (row_put key value.now (leaf_rows (bytes_of (P.standing pages.old).current page)))) ⊥) }
     ensures continues { Continues (P.may_leave pages.old) (P.may_leave pages.new) (P.is_steady pages.old) (P.standing pages.old) (P.standing pages.new) }
@@ -94,7 +94,7 @@ pub fn delete_leaf<P: Pages>(
     ensures sound { IsTrue (P.standing pages.old).told → IsWellFormed (bytes_of (P.standing pages.old).current page) expect.now → IfErr result IsFault }
     ensures cause { HasCause (IsTreeDamage (P.standing pages.old).told (P.standing pages.old).count (P.standing pages.new).current work.new.page) (P.standing pages.old) (P.standing pages.new) result }
     ensures fails { IfErr result (Keeps (FailsTree (P.standing pages.old).count work.new.page)) }
-    ensures other { IfErr result NotFull }
+    ensures not_full { IfErr result NotFull }
     ensures continues { Continues (P.may_leave pages.old) (P.may_leave pages.new) (P.is_steady pages.old) (P.standing pages.old) (P.standing pages.new) }
     ensures few { (P.standing pages.new).visits ≤ (P.standing pages.old).visits + 8 }
     ensures ready { OnOk result (P.is_ready pages.new) }
@@ -196,7 +196,7 @@ pub fn mend<P: Pages>(
     ensures sound { IsTrue (P.standing pages.old).told → (level : ℕ) (free : List ℕ) → IsMendable (P.standing pages.old).current page expect.now key level free → FitsHeader (P.standing pages.old).count ((P.standing pages.old).current 0 0) → IfErr result IsFault }
     ensures cause { HasCause (IsTreeDamage (P.standing pages.old).told (P.standing pages.old).count (P.standing pages.new).current work.new.page) (P.standing pages.old) (P.standing pages.new) result }
     ensures fails { IfErr result (Keeps (FailsTree (P.standing pages.old).count work.new.page)) }
-    ensures other { IfErr result NotFull }
+    ensures not_full { IfErr result NotFull }
     ensures continues { Continues (P.may_leave pages.old) (P.may_leave pages.new) (P.is_steady pages.old) (P.standing pages.old) (P.standing pages.new) }
     ensures few { (P.standing pages.new).visits ≤ (P.standing pages.old).visits + 13 }
     ensures ready { OnOk result (P.is_ready pages.new) }
@@ -233,7 +233,7 @@ fn rewrite<P: Pages>(
     ensures sound { IsTrue (P.standing pages.old).told → IsWellFormed (bytes_of (P.standing pages.old).current page) expect.now → FitsHeader (P.standing pages.old).count ((P.standing pages.old).current 0 0) → IfErr result IsFault }
     ensures cause { HasCause (IsTreeDamage (P.standing pages.old).told (P.standing pages.old).count (P.standing pages.new).current work.new.page) (P.standing pages.old) (P.standing pages.new) result }
     ensures fails { IfErr result (Keeps (FailsTree (P.standing pages.old).count work.new.page)) }
-    ensures other { IfErr result NotFull }
+    ensures not_full { IfErr result NotFull }
     ensures continues { Continues (P.may_leave pages.old) (P.may_leave pages.new) (P.is_steady pages.old) (P.standing pages.old) (P.standing pages.new) }
     ensures few { (P.standing pages.new).visits ≤ (P.standing pages.old).visits + 5 }
     ensures ready { OnOk result (P.is_ready pages.new) }
@@ -284,7 +284,7 @@ fn keep<P: Pages>(pages: &mut P, page: u64, fit: Fit, work: &mut Work) -> Result
     ensures sound { IfErr result IsFault }
     ensures cause { HasCause (IsTreeDamage (P.standing pages.old).told (P.standing pages.old).count (P.standing pages.new).current work.new.page) (P.standing pages.old) (P.standing pages.new) result }
     ensures fails { IfErr result (Keeps (FailsTree (P.standing pages.old).count work.new.page)) }
-    ensures other { IfErr result NotFull }
+    ensures not_full { IfErr result NotFull }
     ensures continues { Continues (P.may_leave pages.old) (P.may_leave pages.new) (P.is_steady pages.old) (P.standing pages.old) (P.standing pages.new) }
     ensures few { (P.standing pages.new).visits ≤ (P.standing pages.old).visits + 1 }
     ensures ready { OnOk result (P.is_ready pages.new) }

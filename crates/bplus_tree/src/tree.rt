@@ -25,8 +25,9 @@ use tree_search::{Root, get};
 
 /// Puts a value at a key, whether or not the key is there. Its callers know that already: it is `put` without the look-up.
 /// `Damaged` comes with the first check that a page of the tree fails; where a page is to be taken or given back, with the first
-/// of the checks 31, 33, 34 and 36 that the header or the free list fails, and with 37 where no page is left; and with 39 where
-/// a root at level 3 has 240 children and would have to be cut.
+/// of the checks 31, 33, 34 and 36 that the header or the free list fails, and with 37 where no page is left; and with 39, of the
+/// root, where it is at level 3, has 240 children and would have to be cut. On a tree beside a free list damage comes only where
+/// the leaf of the key has no room for the row, and with 39 only where each page above that leaf has 240 children.
 pub fn put_row<P: Pages>(
     pages: &mut P,
     root: &mut Root,
@@ -114,7 +115,7 @@ pub fn delete_row<P: Pages>(
     ensures sound { IsTrue (P.standing pages.old).told → (rows : List Row) (used free : List ℕ) → StandsIn (P.standing pages.old).count (P.standing pages.old).current root.old rows used free → IfErr result IsFault }
     ensures cause { HasCause (IsTreeDamage (P.standing pages.old).told (P.standing pages.old).count (P.standing pages.new).current work.new.page) (P.standing pages.old) (P.standing pages.new) result }
     ensures fails { IfErr result (Keeps (FailsTree (P.standing pages.old).count work.new.page)) }
-    ensures other { IfErr result NotFull }
+    ensures not_full { IfErr result NotFull }
     // what stays
     ensures continues { Continues (P.may_leave pages.old) (P.may_leave pages.new) (P.is_steady pages.old) (P.standing pages.old) (P.standing pages.new) }
     ensures few { (P.standing pages.new).visits ≤ (P.standing pages.old).visits + 52 }
@@ -146,7 +147,7 @@ fn has_key<P: Pages>(pages: &mut P, root: &Root, key: u64, work: &mut Work) -> R
     ensures nothing { OnOk result (WritesNothing (P.standing pages.old) (P.standing pages.new)) }
     ensures cause { HasCause (IsTreeDamage (P.standing pages.old).told (P.standing pages.old).count (P.standing pages.new).current work.new.page) (P.standing pages.old) (P.standing pages.new) result }
     ensures fails { IfErr result (Keeps (FailsTree (P.standing pages.old).count work.new.page)) }
-    ensures other { IfErr result NotFull }
+    ensures not_full { IfErr result NotFull }
     ensures continues { Continues (P.may_leave pages.old) (P.may_leave pages.new) (P.is_steady pages.old) (P.standing pages.old) (P.standing pages.new) }
     ensures keeps { OnOk result (KeepsLines (P.standing pages.old) (P.standing pages.new)) }
     ensures few { (P.standing pages.new).visits ≤ (P.standing pages.old).visits + 4 }
@@ -176,7 +177,7 @@ fn seek<P: Pages>(
     ensures nothing { OnOk result (WritesNothing (P.standing pages.old) (P.standing pages.new)) }
     ensures cause { HasCause (IsTreeDamage (P.standing pages.old).told (P.standing pages.old).count (P.standing pages.new).current work.new.page) (P.standing pages.old) (P.standing pages.new) result }
     ensures fails { IfErr result (Keeps (FailsTree (P.standing pages.old).count work.new.page)) }
-    ensures other { IfErr result NotFull }
+    ensures not_full { IfErr result NotFull }
     ensures continues { Continues (P.may_leave pages.old) (P.may_leave pages.new) (P.is_steady pages.old) (P.standing pages.old) (P.standing pages.new) }
     ensures keeps { OnOk result (KeepsLines (P.standing pages.old) (P.standing pages.new)) }
     ensures few { (P.standing pages.new).visits ≤ (P.standing pages.old).visits + 4 }
@@ -188,7 +189,8 @@ fn seek<P: Pages>(
 
 /// Puts a value at a key: true where the key is new. On a tree beside a free list the only damage is check 37, where no page
 /// is left and fewer are at hand than a tree of the rows afterwards may have, and check 39, where a root at level 3 has 240
-/// children and would have to be cut, over more than a million rows.
+/// children and would have to be cut, over more than a million rows; and either comes only where the leaf of the key has no room
+/// for the row, 39 only where each page above that leaf has 240 children.
 pub fn put<P: Pages>(
     pages: &mut P,
     root: &mut Root,
@@ -252,7 +254,7 @@ pub fn delete<P: Pages>(
     ensures sound { IsTrue (P.standing pages.old).told → (rows : List Row) (used free : List ℕ) → StandsIn (P.standing pages.old).count (P.standing pages.old).current root.old rows used free → IfErr result IsFault }
     ensures cause { HasCause (IsTreeDamage (P.standing pages.old).told (P.standing pages.old).count (P.standing pages.new).current work.new.page) (P.standing pages.old) (P.standing pages.new) result }
     ensures fails { IfErr result (Keeps (FailsTree (P.standing pages.old).count work.new.page)) }
-    ensures other { IfErr result NotFull }
+    ensures not_full { IfErr result NotFull }
     // the root, and what stays
     ensures some { OnOk result (1 ≤ root.new.page) }
     ensures page { OnOk result (root.new.page < (P.standing pages.old).count) }

@@ -10,5 +10,5 @@ returns-clause-cause g c =
 pub returns-clause-fails : goal.returns-clause-fails
 returns-clause-fails g c = space_fails (g.P.Pages.standing c.args.pages.now).count c.give_page.new.work.page c.give_page.result c.give_page.ensures.fails
 
-pub returns-clause-other : goal.returns-clause-other
-returns-clause-other g c = space_not_full (g.P.Pages.standing c.args.pages.now).count c.give_page.new.work.page c.give_page.result c.give_page.ensures.fails
+pub returns-clause-not_full : goal.returns-clause-not_full
+returns-clause-not_full g c = space_not_full (g.P.Pages.standing c.args.pages.now).count c.give_page.new.work.page c.give_page.result c.give_page.ensures.fails

@@ -10,5 +10,5 @@ returns-clause-cause g c =
 pub returns-clause-fails : goal.returns-clause-fails
 returns-clause-fails g c = node_fails (g.P.Pages.standing c.args.pages.now).count c.find.new.work.page c.find.result c.find.ensures.fails
 
-pub returns-clause-other : goal.returns-clause-other
-returns-clause-other g c = node_not_full (g.P.Pages.standing c.args.pages.now).count c.find.new.work.page c.find.result c.find.ensures.fails
+pub returns-clause-not_full : goal.returns-clause-not_full
+returns-clause-not_full g c = node_not_full (g.P.Pages.standing c.args.pages.now).count c.find.new.work.page c.find.result c.find.ensures.fails

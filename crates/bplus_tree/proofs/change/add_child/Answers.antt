@@ -117,7 +117,7 @@ returns-clause-cuts g c = λ told.
 pub returns-in_err-load-clause-at : goal.returns-in_err-load-clause-at
 returns-in_err-load-clause-at g c =
     let High : Type 0 = c.args.expect.now.level ≡ 3 in
-    let h : IfErr c.load.result (NamesFull c.args.page High) = not_full_names c.args.page High c.load.result c.load.ensures.other in
+    let h : IfErr c.load.result (NamesFull c.args.page High) = not_full_names c.args.page High c.load.result c.load.ensures.not_full in
     let k = subst (λ r. IfErr r (NamesFull c.args.page High)) c.in_err-load.was h in
     search (rules, k)
 
@@ -126,7 +126,7 @@ returns-then-is_full_root-clause-at g c =
     subst (λ (s : Stop). NamesFull c.args.page (c.args.expect.now.level ≡ 3) s) (sym c.full_root.ensures) (λ e. (refl, c.is_full_root.ensures.level c.if-is_full_root.true))
 
 pub returns-clause-at : goal.returns-clause-at
-returns-clause-at g c = not_full_names c.args.page (c.args.expect.now.level ≡ 3) c.store.result c.store.ensures.other
+returns-clause-at g c = not_full_names c.args.page (c.args.expect.now.level ≡ 3) c.store.result c.store.ensures.not_full
 
 pub returns-in_err-load-clause-needed : goal.returns-in_err-load-clause-needed
 returns-in_err-load-clause-needed g c = λ told well.
@@ -150,4 +150,4 @@ returns-clause-needed g c = λ told well.
     let High : Type 0 = c.args.expect.now.level ≡ 3 in
     let many = inner_many c.args.expect.now bytes c.inner_put-fit.result c.requires.level c.in_ok-load.ensures.well c.inner_put-fit.ensures.room in
     subst (λ (b : List ℕ). IfErr c.store.result (IsNeeded (entry_count b ≡ 240) High)) (c.in_ok-load.ensures.bytes told)
-    (needed_of c.inner_put-fit.result (entry_count bytes ≡ 240) High c.store.result many c.store.ensures.plain c.store.ensures.other)
+    (needed_of c.inner_put-fit.result (entry_count bytes ≡ 240) High c.store.result many c.store.ensures.plain c.store.ensures.not_full)

@@ -107,4 +107,4 @@ returns-clause-needed g c = λ told well.
     let rows = row_put c.args.key c.args.value.now (leaf_rows c.load.new.work.page) in
     let over = leaf_overfull c.args.expect.now c.leaf_put-fit.new.left c.leaf_put-fit.new.right rows c.leaf_put-fit.result c.byte.ensures.size c.requires.level c.leaf_put-fit.ensures.fits c.leaf_put-fit.ensures.whole in
     subst (λ (b : List ℕ). IfErr c.store.result (IsNeeded (IsOverfull (row_put c.args.key c.args.value.now (leaf_rows b))) ⊥)) (c.in_ok-load.ensures.bytes told)
-    (needed_of c.leaf_put-fit.result (IsOverfull rows) ⊥ c.store.result over c.store.ensures.plain c.store.ensures.other)
+    (needed_of c.leaf_put-fit.result (IsOverfull rows) ⊥ c.store.result over c.store.ensures.plain c.store.ensures.not_full)

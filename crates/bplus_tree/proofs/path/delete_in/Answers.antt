@@ -120,8 +120,8 @@ returns-in_err-outcome-2-clause-sound g c = λ told free stands fits.
     let k = subst (λ r. IfErr r (IsFault)) c.in_err-outcome-2.was h in
     search (rules, k)
 
-pub returns-in_err-outcome-2-clause-other : goal.returns-in_err-outcome-2-clause-other
-returns-in_err-outcome-2-clause-other g c =
+pub returns-in_err-outcome-2-clause-not_full : goal.returns-in_err-outcome-2-clause-not_full
+returns-in_err-outcome-2-clause-not_full g c =
     let h : IfErr c.settle.result NotFull = uncut_not_full c.in-Some.passed c.loop-passed.outcome c.settle.result c.loop-passed.invariant.uncut c.settle.ensures.at in
     let k = subst (λ r. IfErr r NotFull) c.in_err-outcome-2.was h in
     search (rules, k)

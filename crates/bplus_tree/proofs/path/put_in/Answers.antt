@@ -150,14 +150,14 @@ returns-clause-cuts g c = λ told free stands.
 pub returns-in_err-leaf-clause-at_top : goal.returns-in_err-leaf-clause-at_top
 returns-in_err-leaf-clause-at_top g c =
     let Named = NamesFull c.args.top.page (c.args.top.expect.level ≡ 3) in
-    let h : IfErr c.descend.result Named = not_full_names c.args.top.page (c.args.top.expect.level ≡ 3) c.descend.result c.descend.ensures.other in
+    let h : IfErr c.descend.result Named = not_full_names c.args.top.page (c.args.top.expect.level ≡ 3) c.descend.result c.descend.ensures.not_full in
     let k = subst (λ r. IfErr r Named) c.in_err-leaf.was h in
     search (rules, k)
 
 pub returns-in_err-outcome-clause-at_top : goal.returns-in_err-outcome-clause-at_top
 returns-in_err-outcome-clause-at_top g c =
     let Named = NamesFull c.args.top.page (c.args.top.expect.level ≡ 3) in
-    let h : IfErr c.put_leaf.result Named = not_full_names c.args.top.page (c.args.top.expect.level ≡ 3) c.put_leaf.result c.put_leaf.ensures.other in
+    let h : IfErr c.put_leaf.result Named = not_full_names c.args.top.page (c.args.top.expect.level ≡ 3) c.put_leaf.result c.put_leaf.ensures.not_full in
     let k = subst (λ r. IfErr r Named) c.in_err-outcome.was h in
     search (rules, k)
 

@@ -55,7 +55,7 @@ returns-clause-lines g c = λ told.
 pub returns-in_err-found-clause-at_root : goal.returns-in_err-found-clause-at_root
 returns-in_err-found-clause-at_root g c =
     let root = c.args.root.now in
-    let h : IfErr c.has_key.result (NamesRoot root) = not_full_names root.page (root.levels ≡ 4) c.has_key.result c.has_key.ensures.other in
+    let h : IfErr c.has_key.result (NamesRoot root) = not_full_names root.page (root.levels ≡ 4) c.has_key.result c.has_key.ensures.not_full in
     let k = subst (λ r. IfErr r (NamesRoot root)) c.in_err-found.was h in
     search (rules, k)
 

@@ -174,7 +174,7 @@ returns-in_err-put_in-clause-at_root g c =
 pub returns-in_err-page-in-Cut-clause-at_root : goal.returns-in_err-page-in-Cut-clause-at_root
 returns-in_err-page-in-Cut-clause-at_root g c =
     let root = c.args.root.now in
-    let h : IfErr c.take.result (NamesRoot root) = not_full_names root.page (root.levels ≡ 4) c.take.result c.take.ensures.other in
+    let h : IfErr c.take.result (NamesRoot root) = not_full_names root.page (root.levels ≡ 4) c.take.result c.take.ensures.not_full in
     let k = subst (λ r. IfErr r (NamesRoot root)) c.in_err-page-in-Cut.was h in
     search (rules, k)
 
@@ -202,7 +202,7 @@ returns-in_err-page-in-Cut-clause-needed g c = λ told rows used free stands.
     let at = root_stands old.count _ old.current root c.top_of-top.result rows used free c.page_count-count.ensures.count c.top_of-top.ensures stands in
     let Must = MustCut old.current (root.levels - 1) root.page c.args.key c.args.value.now in
     let h : IfErr c.take.result Must =
-    take_needed _ c.args.key c.args.value.now old.current root c.top_of-top.result c.take.result c.top_of-top.ensures (rw c.in-Cut.is at (c.in_ok-put_in.ensures.cuts told free at)) c.take.ensures.other in
+    take_needed _ c.args.key c.args.value.now old.current root c.top_of-top.result c.take.result c.top_of-top.ensures (rw c.in-Cut.is at (c.in_ok-put_in.ensures.cuts told free at)) c.take.ensures.not_full in
     let k = subst (λ r. IfErr r Must) c.in_err-page-in-Cut.was h in
     search (rules, k)
 
