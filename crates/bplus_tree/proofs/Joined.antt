@@ -81,7 +81,7 @@ divided_written count old new pair key left right free writes is whole within =
       right_is = w.second.bytes_are;
     }
 
-leaf_enough : (bytes : List ℕ) (low high pages : ℕ) → length bytes ≡ 4096 → IsWellFormed bytes (record { level = 0; low = low; high = high; root = false; pages = pages }) → IsEnoughLeaf bytes
+pub leaf_enough : (bytes : List ℕ) (low high pages : ℕ) → length bytes ≡ 4096 → IsWellFormed bytes (record { level = 0; low = low; high = high; root = false; pages = pages }) → IsEnoughLeaf bytes
 leaf_enough bytes low high pages size well =
     let facts = leaf_facts bytes (record { level = 0; low = low; high = high; root = false; pages = pages }) refl well in
     omega (arith, facts.full refl, leaf_used_is bytes (record { size = size; kind = facts.kind; level = facts.level; below_heap = facts.below_heap; heap = facts.heap; in_heap = facts.in_heap; apart = facts.apart }))

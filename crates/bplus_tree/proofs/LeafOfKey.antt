@@ -21,7 +21,7 @@ use Rattle.tree_search.proofs.OrderLaws.{Descends, descends}
 use Rattle.page_space.proofs.TouchedLaws.{only_then, only_nothing}
 
 -- paths that are the same begin at the same page
-same_first : (lines : Lines) (level key x y : ℕ) → path lines level x key ≡ path lines level y key → x ≡ y
+pub same_first : (lines : Lines) (level key x y : ℕ) → path lines level x key ≡ path lines level y key → x ≡ y
 same_first lines zero key x y same = cc
 same_first lines (suc level) key x y same = cc
 

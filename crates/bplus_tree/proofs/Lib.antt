@@ -10,3 +10,5 @@ pub mod PathLaws
 pub mod RootLaws
 pub mod LeafOfKey
 pub mod LineChangeLaws
+pub mod FullLaws
+pub mod FullWayLaws

@@ -6,6 +6,7 @@ ghost use Rattle.slotted_page.specs.Node.{IsWellFormed};
 ghost use Rattle.slotted_page.specs.Search.{is_root_span, IsSpot, IsSafeSpot, Keeps};
 ghost use Rattle.slotted_page.specs.Work.{KeepsOthers};
 ghost use Rattle.bplus_tree.specs.Damage.{IsTreeDamage, FailsTree};
+ghost use Rattle.bplus_tree.specs.Full.{NotFull};
 ghost use Rattle.page_space.specs.Stops.{IsFault, IsShort, spare_pages};
 ghost use Rattle.page_space.specs.Moves.{ArePart, Takes, Gives};
 ghost use Rattle.page_space.specs.Space.{FitsHeader, IsFreeList};
@@ -43,6 +44,7 @@ pub fn look<P: Pages>(
     ensures sound { IsTrue (P.standing pages.old).told → IsWellFormed (bytes_of (P.standing pages.old).current page) expect.now → IfErr result IsFault }
     ensures cause { HasCause (IsTreeDamage (P.standing pages.old).told (P.standing pages.old).count (P.standing pages.new).current work.new.page) (P.standing pages.old) (P.standing pages.new) result }
     ensures fails { IfErr result (Keeps (FailsTree (P.standing pages.old).count work.new.page)) }
+    ensures not_full { IfErr result NotFull }
     ensures continues { Continues (P.may_leave pages.old) (P.may_leave pages.new) (P.is_steady pages.old) (P.standing pages.old) (P.standing pages.new) }
     ensures few { (P.standing pages.new).visits ≤ (P.standing pages.old).visits + 1 }
     ensures ready { OnOk result (P.is_ready pages.new) }
@@ -71,6 +73,7 @@ pub fn load<P: Pages>(
     ensures sound { IsTrue (P.standing pages.old).told → IsWellFormed (bytes_of (P.standing pages.old).current page) expect.now → IfErr result IsFault }
     ensures cause { HasCause (IsTreeDamage (P.standing pages.old).told (P.standing pages.old).count (P.standing pages.new).current work.new.page) (P.standing pages.old) (P.standing pages.new) result }
     ensures fails { IfErr result (Keeps (FailsTree (P.standing pages.old).count work.new.page)) }
+    ensures not_full { IfErr result NotFull }
     ensures continues { Continues (P.may_leave pages.old) (P.may_leave pages.new) (P.is_steady pages.old) (P.standing pages.old) (P.standing pages.new) }
     ensures few { (P.standing pages.new).visits ≤ (P.standing pages.old).visits + 1 }
     ensures ready { OnOk result (P.is_ready pages.new) }
@@ -90,6 +93,7 @@ pub fn take<P: Pages>(pages: &mut P, work: &mut Work) -> Result<u64, Stop>
     ensures sound { IsTrue (P.standing pages.old).told → FitsHeader (P.standing pages.old).count ((P.standing pages.old).current 0 0) → (free : List ℕ) → IsFreeList (P.standing pages.old).current free → IfErr result (IsShort (spare_pages (P.standing pages.old).count (P.standing pages.old).current free) 0) }
     ensures cause { HasCause (IsTreeDamage (P.standing pages.old).told (P.standing pages.old).count (P.standing pages.new).current work.new.page) (P.standing pages.old) (P.standing pages.new) result }
     ensures fails { IfErr result (Keeps (FailsTree (P.standing pages.old).count work.new.page)) }
+    ensures not_full { IfErr result NotFull }
     ensures continues { Continues (P.may_leave pages.old) (P.may_leave pages.new) (P.is_steady pages.old) (P.standing pages.old) (P.standing pages.new) }
     ensures few { (P.standing pages.new).visits ≤ (P.standing pages.old).visits + 4 }
     ensures ready { OnOk result (P.is_ready pages.new) }
@@ -110,6 +114,7 @@ pub fn give<P: Pages>(pages: &mut P, work: &mut Work, page: u64) -> Result<(), S
     ensures sound { IsTrue (P.standing pages.old).told → FitsHeader (P.standing pages.old).count ((P.standing pages.old).current 0 0) → IfErr result IsFault }
     ensures cause { HasCause (IsTreeDamage (P.standing pages.old).told (P.standing pages.old).count (P.standing pages.new).current work.new.page) (P.standing pages.old) (P.standing pages.new) result }
     ensures fails { IfErr result (Keeps (FailsTree (P.standing pages.old).count work.new.page)) }
+    ensures not_full { IfErr result NotFull }
     ensures continues { Continues (P.may_leave pages.old) (P.may_leave pages.new) (P.is_steady pages.old) (P.standing pages.old) (P.standing pages.new) }
     ensures few { (P.standing pages.new).visits ≤ (P.standing pages.old).visits + 4 }
     ensures ready { OnOk result (P.is_ready pages.new) }
@@ -142,7 +147,7 @@ pub fn write_new<P: Pages>(
 }
 
 /// Writes a page that was cut, and takes a further page for its right part.
-#[tactic(auto, using(page_space::proofs::SoundLaws::sound_never))]
+#[tactic(auto, using(page_space::proofs::SoundLaws::sound_never, crate::proofs::FullLaws::never_not_full, crate::proofs::FullLaws::fault_not_full))]
 fn store_cut<P: Pages>(pages: &mut P, page: u64, key: u64, work: &mut Work) -> Result<Outcome, Stop>
     requires ready { P.is_ready pages.old }
     requires page { page < (P.standing pages.old).count }
@@ -153,6 +158,7 @@ fn store_cut<P: Pages>(pages: &mut P, page: u64, key: u64, work: &mut Work) -> R
     ensures sound { IsTrue (P.standing pages.old).told → work.old.spare ≡ bytes_of (P.standing pages.old).current page → (free : List ℕ) → IsFreeList (P.standing pages.old).current free → ArePart (P.standing pages.old).current (page ∷ free) → FitsHeader (P.standing pages.old).count ((P.standing pages.old).current 0 0) → IfErr result (IsShort (spare_pages (P.standing pages.old).count (P.standing pages.old).current free) 0) }
     ensures cause { HasCause (IsTreeDamage (P.standing pages.old).told (P.standing pages.old).count (P.standing pages.new).current work.new.page) (P.standing pages.old) (P.standing pages.new) result }
     ensures fails { IfErr result (Keeps (FailsTree (P.standing pages.old).count work.new.page)) }
+    ensures not_full { IfErr result NotFull }
     ensures continues { Continues (P.may_leave pages.old) (P.may_leave pages.new) (P.is_steady pages.old) (P.standing pages.old) (P.standing pages.new) }
     ensures few { (P.standing pages.new).visits ≤ (P.standing pages.old).visits + 7 }
     ensures ready { OnOk result (P.is_ready pages.new) }
@@ -166,7 +172,7 @@ fn store_cut<P: Pages>(pages: &mut P, page: u64, key: u64, work: &mut Work) -> R
 
 /// Writes a page whose old bytes stand in `spare` and its new ones in `page`, and takes a further page for those in `right`
 /// where it was cut.
-#[tactic(auto, using(page_space::proofs::SoundLaws::sound_never))]
+#[tactic(auto, using(page_space::proofs::SoundLaws::sound_never, crate::proofs::FullLaws::never_not_full))]
 pub fn store<P: Pages>(pages: &mut P, page: u64, fit: Fit, work: &mut Work) -> Result<Outcome, Stop>
     requires ready { P.is_ready pages.old }
     requires page { page < (P.standing pages.old).count }
@@ -180,6 +186,7 @@ pub fn store<P: Pages>(pages: &mut P, page: u64, fit: Fit, work: &mut Work) -> R
     ensures touches { ((key : ℕ) → fit ≢ fits.Cut key) → OnOk result (WritesOnly page (Differs work.old.spare work.old.page) (P.standing pages.old) (P.standing pages.new)) }
     ensures cause { HasCause (IsTreeDamage (P.standing pages.old).told (P.standing pages.old).count (P.standing pages.new).current work.new.page) (P.standing pages.old) (P.standing pages.new) result }
     ensures fails { IfErr result (Keeps (FailsTree (P.standing pages.old).count work.new.page)) }
+    ensures not_full { IfErr result NotFull }
     ensures continues { Continues (P.may_leave pages.old) (P.may_leave pages.new) (P.is_steady pages.old) (P.standing pages.old) (P.standing pages.new) }
     ensures few { (P.standing pages.new).visits ≤ (P.standing pages.old).visits + 7 }
     ensures ready { OnOk result (P.is_ready pages.new) }

@@ -9,6 +9,7 @@ ghost use Rattle.slotted_page.specs.Search.{is_root_span, Keeps};
 ghost use Rattle.page_space.specs.Space.{IsFreeList, FitsHeader};
 ghost use Rattle.page_space.specs.Moves.{ArePart};
 ghost use Rattle.bplus_tree.specs.Damage.{IsTreeDamage, FailsTree, IsFullRoot};
+ghost use Rattle.bplus_tree.specs.Full.{NotFull, NamesFull, CutsFor, IsNeeded, IsOverfull};
 ghost use Rattle.page_space.specs.Stops.{IsFault, IsShort, StopsFor, spare_pages};
 ghost use Rattle.bplus_tree.specs.Edit.{Edits, Mends, IsMendable, AddsChild, IsSafe, IsSpent, StaysBelow, Rewritten, after_fit};
 ghost use Rattle.node_edit.specs.Edit.{IsPair, IsCutIn};
@@ -57,6 +58,9 @@ pub fn put_leaf<P: Pages>(
     ensures sound { IsTrue (P.standing pages.old).told → (free : List ℕ) → IsWellFormed (bytes_of (P.standing pages.old).current page) expect.now → IsFreeList (P.standing pages.old).current free → ArePart (P.standing pages.old).current (page ∷ free) → FitsHeader (P.standing pages.old).count ((P.standing pages.old).current 0 0) → IfErr result (IsShort (spare_pages (P.standing pages.old).count (P.standing pages.old).current free) 0) }
     ensures cause { HasCause (IsTreeDamage (P.standing pages.old).told (P.standing pages.old).count (P.standing pages.new).current work.new.page) (P.standing pages.old) (P.standing pages.new) result }
     ensures fails { IfErr result (Keeps (FailsTree (P.standing pages.old).count work.new.page)) }
+    ensures not_full { IfErr result NotFull }
+    ensures cuts { IsTrue (P.standing pages.old).told → IfOk result (CutsFor (IsOverfull (row_put key value.now (leaf_rows (bytes_of (P.standing pages.old).current page))))) }
+    ensures needed { IsTrue (P.standing pages.old).told → IsWellFormed (bytes_of (P.standing pages.old).current page) expect.now → IfErr result (IsNeeded (IsOverfull (row_put key value.now (leaf_rows (bytes_of (P.standing pages.old).current page)))) ⊥) }
     ensures continues { Continues (P.may_leave pages.old) (P.may_leave pages.new) (P.is_steady pages.old) (P.standing pages.old) (P.standing pages.new) }
     ensures few { (P.standing pages.new).visits ≤ (P.standing pages.old).visits + 8 }
     ensures ready { OnOk result (P.is_ready pages.new) }
@@ -65,6 +69,7 @@ pub fn put_leaf<P: Pages>(
     load(pages, page, expect, work)?;
     work.spare.copy_from(&work.page);
     let fit = leaf_put(&mut work.page, &mut work.right, expect, key, value);
+    work.page.byte(0);
     store(pages, page, fit, work)
 }
 
@@ -89,6 +94,7 @@ pub fn delete_leaf<P: Pages>(
     ensures sound { IsTrue (P.standing pages.old).told → IsWellFormed (bytes_of (P.standing pages.old).current page) expect.now → IfErr result IsFault }
     ensures cause { HasCause (IsTreeDamage (P.standing pages.old).told (P.standing pages.old).count (P.standing pages.new).current work.new.page) (P.standing pages.old) (P.standing pages.new) result }
     ensures fails { IfErr result (Keeps (FailsTree (P.standing pages.old).count work.new.page)) }
+    ensures not_full { IfErr result NotFull }
     ensures continues { Continues (P.may_leave pages.old) (P.may_leave pages.new) (P.is_steady pages.old) (P.standing pages.old) (P.standing pages.new) }
     ensures few { (P.standing pages.new).visits ≤ (P.standing pages.old).visits + 8 }
     ensures ready { OnOk result (P.is_ready pages.new) }
@@ -138,6 +144,9 @@ pub fn add_child<P: Pages>(
     ensures sound { IsTrue (P.standing pages.old).told → (free : List ℕ) → IsWellFormed (bytes_of (P.standing pages.old).current page) expect.now → IsFreeList (P.standing pages.old).current free → ArePart (P.standing pages.old).current (page ∷ free) → FitsHeader (P.standing pages.old).count ((P.standing pages.old).current 0 0) → IfErr result (StopsFor (spare_pages (P.standing pages.old).count (P.standing pages.old).current free ≤ 0) (IsFullAt (P.standing pages.old).current page expect.now)) }
     ensures cause { HasCause (IsTreeDamage (P.standing pages.old).told (P.standing pages.old).count (P.standing pages.new).current work.new.page) (P.standing pages.old) (P.standing pages.new) result }
     ensures fails { IfErr result (Keeps (FailsTree (P.standing pages.old).count work.new.page)) }
+    ensures at { IfErr result (NamesFull page (expect.now.level ≡ 3)) }
+    ensures cuts { IsTrue (P.standing pages.old).told → IfOk result (CutsFor (entry_count (bytes_of (P.standing pages.old).current page) ≡ 240)) }
+    ensures needed { IsTrue (P.standing pages.old).told → IsWellFormed (bytes_of (P.standing pages.old).current page) expect.now → IfErr result (IsNeeded (entry_count (bytes_of (P.standing pages.old).current page) ≡ 240) (expect.now.level ≡ 3)) }
     ensures continues { Continues (P.may_leave pages.old) (P.may_leave pages.new) (P.is_steady pages.old) (P.standing pages.old) (P.standing pages.new) }
     ensures few { (P.standing pages.new).visits ≤ (P.standing pages.old).visits + 8 }
     ensures ready { OnOk result (P.is_ready pages.new) }
@@ -187,6 +196,7 @@ pub fn mend<P: Pages>(
     ensures sound { IsTrue (P.standing pages.old).told → (level : ℕ) (free : List ℕ) → IsMendable (P.standing pages.old).current page expect.now key level free → FitsHeader (P.standing pages.old).count ((P.standing pages.old).current 0 0) → IfErr result IsFault }
     ensures cause { HasCause (IsTreeDamage (P.standing pages.old).told (P.standing pages.old).count (P.standing pages.new).current work.new.page) (P.standing pages.old) (P.standing pages.new) result }
     ensures fails { IfErr result (Keeps (FailsTree (P.standing pages.old).count work.new.page)) }
+    ensures not_full { IfErr result NotFull }
     ensures continues { Continues (P.may_leave pages.old) (P.may_leave pages.new) (P.is_steady pages.old) (P.standing pages.old) (P.standing pages.new) }
     ensures few { (P.standing pages.new).visits ≤ (P.standing pages.old).visits + 13 }
     ensures ready { OnOk result (P.is_ready pages.new) }
@@ -223,6 +233,7 @@ fn rewrite<P: Pages>(
     ensures sound { IsTrue (P.standing pages.old).told → IsWellFormed (bytes_of (P.standing pages.old).current page) expect.now → FitsHeader (P.standing pages.old).count ((P.standing pages.old).current 0 0) → IfErr result IsFault }
     ensures cause { HasCause (IsTreeDamage (P.standing pages.old).told (P.standing pages.old).count (P.standing pages.new).current work.new.page) (P.standing pages.old) (P.standing pages.new) result }
     ensures fails { IfErr result (Keeps (FailsTree (P.standing pages.old).count work.new.page)) }
+    ensures not_full { IfErr result NotFull }
     ensures continues { Continues (P.may_leave pages.old) (P.may_leave pages.new) (P.is_steady pages.old) (P.standing pages.old) (P.standing pages.new) }
     ensures few { (P.standing pages.new).visits ≤ (P.standing pages.old).visits + 5 }
     ensures ready { OnOk result (P.is_ready pages.new) }
@@ -260,7 +271,7 @@ fn outcome_of(fit: Fit) -> Outcome
 }
 
 /// Writes a page that was not cut.
-#[tactic(auto, using(page_space::proofs::SoundLaws::sound_never))]
+#[tactic(auto, using(page_space::proofs::SoundLaws::sound_never, crate::proofs::FullLaws::never_not_full))]
 fn keep<P: Pages>(pages: &mut P, page: u64, fit: Fit, work: &mut Work) -> Result<Outcome, Stop>
     requires ready { P.is_ready pages.old }
     requires page { page < (P.standing pages.old).count }
@@ -273,6 +284,7 @@ fn keep<P: Pages>(pages: &mut P, page: u64, fit: Fit, work: &mut Work) -> Result
     ensures sound { IfErr result IsFault }
     ensures cause { HasCause (IsTreeDamage (P.standing pages.old).told (P.standing pages.old).count (P.standing pages.new).current work.new.page) (P.standing pages.old) (P.standing pages.new) result }
     ensures fails { IfErr result (Keeps (FailsTree (P.standing pages.old).count work.new.page)) }
+    ensures not_full { IfErr result NotFull }
     ensures continues { Continues (P.may_leave pages.old) (P.may_leave pages.new) (P.is_steady pages.old) (P.standing pages.old) (P.standing pages.new) }
     ensures few { (P.standing pages.new).visits ≤ (P.standing pages.old).visits + 1 }
     ensures ready { OnOk result (P.is_ready pages.new) }

@@ -5,6 +5,7 @@ ghost use Rattle.line_pages.specs.Standing.{Continues, HasCause, KeepsLines};
 ghost use Rattle.slotted_page.specs.Node.{IsWellFormed, leaf_rows as rows_of, children as children_of};
 ghost use Rattle.slotted_page.specs.Search.{Keeps};
 ghost use Rattle.bplus_tree.specs.Damage.{IsTreeDamage, FailsTree};
+ghost use Rattle.bplus_tree.specs.Full.{NotFull};
 ghost use Rattle.page_space.specs.Stops.{IsFault};
 ghost use Rattle.page_space.specs.Space.{FitsHeader};
 ghost use Rattle.page_space.specs.Moves.{Gives};
@@ -39,6 +40,7 @@ fn fetch<P: Pages>(
     ensures sound { IsTrue (P.standing pages.old).told → IsWellFormed (bytes_of (P.standing pages.old).current pair.now.left) (left_of count level pair.now) → IsWellFormed (bytes_of (P.standing pages.old).current pair.now.right) (right_of count level pair.now) → IfErr result IsFault }
     ensures cause { HasCause (IsTreeDamage (P.standing pages.old).told (P.standing pages.old).count (P.standing pages.new).current work.new.page) (P.standing pages.old) (P.standing pages.new) result }
     ensures fails { IfErr result (Keeps (FailsTree (P.standing pages.old).count work.new.page)) }
+    ensures not_full { IfErr result NotFull }
     ensures continues { Continues (P.may_leave pages.old) (P.may_leave pages.new) (P.is_steady pages.old) (P.standing pages.old) (P.standing pages.new) }
     ensures few { (P.standing pages.new).visits ≤ (P.standing pages.old).visits + 2 }
     ensures ready { OnOk result (P.is_ready pages.new) }
@@ -72,7 +74,7 @@ fn merge(work: &mut Work, pair: &Pair, level: u8, count: u64) -> Option<u64>
 }
 
 /// Writes the left one, with the entries of both, and gives the right one back.
-#[tactic(auto, using(page_space::proofs::SoundLaws::sound_never))]
+#[tactic(auto, using(page_space::proofs::SoundLaws::sound_never, crate::proofs::FullLaws::never_not_full))]
 fn write_joined<P: Pages>(
     pages: &mut P,
     pair: &Pair,
@@ -88,6 +90,7 @@ fn write_joined<P: Pages>(
     ensures sound { IsTrue (P.standing pages.old).told → work.old.spare ≡ bytes_of (P.standing pages.old).current pair.now.left → FitsHeader count ((P.standing pages.old).current 0 0) → IfErr result IsFault }
     ensures cause { HasCause (IsTreeDamage (P.standing pages.old).told (P.standing pages.old).count (P.standing pages.new).current work.new.page) (P.standing pages.old) (P.standing pages.new) result }
     ensures fails { IfErr result (Keeps (FailsTree (P.standing pages.old).count work.new.page)) }
+    ensures not_full { IfErr result NotFull }
     ensures continues { Continues (P.may_leave pages.old) (P.may_leave pages.new) (P.is_steady pages.old) (P.standing pages.old) (P.standing pages.new) }
     ensures few { (P.standing pages.new).visits ≤ (P.standing pages.old).visits + 5 }
     ensures ready { OnOk result (P.is_ready pages.new) }
@@ -98,7 +101,7 @@ fn write_joined<P: Pages>(
 }
 
 /// Writes both.
-#[tactic(auto, using(page_space::proofs::SoundLaws::sound_never))]
+#[tactic(auto, using(page_space::proofs::SoundLaws::sound_never, crate::proofs::FullLaws::never_not_full))]
 fn write_divided<P: Pages>(
     pages: &mut P,
     pair: &Pair,
@@ -114,6 +117,7 @@ fn write_divided<P: Pages>(
     ensures sound { IfErr result IsFault }
     ensures cause { HasCause (IsTreeDamage (P.standing pages.old).told (P.standing pages.old).count (P.standing pages.new).current work.new.page) (P.standing pages.old) (P.standing pages.new) result }
     ensures fails { IfErr result (Keeps (FailsTree (P.standing pages.old).count work.new.page)) }
+    ensures not_full { IfErr result NotFull }
     ensures continues { Continues (P.may_leave pages.old) (P.may_leave pages.new) (P.is_steady pages.old) (P.standing pages.old) (P.standing pages.new) }
     ensures few { (P.standing pages.new).visits ≤ (P.standing pages.old).visits + 2 }
     ensures ready { OnOk result (P.is_ready pages.new) }
@@ -141,6 +145,7 @@ pub fn join<P: Pages>(
     ensures sound { IsTrue (P.standing pages.old).told → IsWellFormed (bytes_of (P.standing pages.old).current pair.now.left) (left_of count level pair.now) → IsWellFormed (bytes_of (P.standing pages.old).current pair.now.right) (right_of count level pair.now) → FitsHeader count ((P.standing pages.old).current 0 0) → IfErr result IsFault }
     ensures cause { HasCause (IsTreeDamage (P.standing pages.old).told (P.standing pages.old).count (P.standing pages.new).current work.new.page) (P.standing pages.old) (P.standing pages.new) result }
     ensures fails { IfErr result (Keeps (FailsTree (P.standing pages.old).count work.new.page)) }
+    ensures not_full { IfErr result NotFull }
     ensures continues { Continues (P.may_leave pages.old) (P.may_leave pages.new) (P.is_steady pages.old) (P.standing pages.old) (P.standing pages.new) }
     ensures few { (P.standing pages.new).visits ≤ (P.standing pages.old).visits + 7 }
     ensures ready { OnOk result (P.is_ready pages.new) }

@@ -1,13 +1,15 @@
 //! Changes of a tree: down to the leaf of a key, and up again along the path.
 ghost use Rattle.std.specs.Prelude.{◌≡◌, ◌≢◌, ◌+◌, ◌*◌, ◌<◌, ◌≤◌, ℕ, List, [], length, true, IsTrue, OnOk, IfOk, IfErr};
 ghost use Rattle.std.specs.List.{list_all};
+ghost use Rattle.line_pages.specs.Bytes.{bytes_of};
 ghost use Rattle.line_pages.specs.Standing.{Continues, HasCause, KeepsLines};
 ghost use Rattle.slotted_page.specs.Rows.{row_put, row_delete};
-ghost use Rattle.slotted_page.specs.Node.{is_printable};
+ghost use Rattle.slotted_page.specs.Node.{IsWellFormed, entry_count, is_printable};
 ghost use Rattle.slotted_page.specs.Search.{Keeps};
 ghost use Rattle.page_space.specs.Space.{FitsHeader};
 ghost use Rattle.tree_search.specs.Tree.{tree_rows};
 ghost use Rattle.bplus_tree.specs.Damage.{IsTreeDamage, FailsTree};
+ghost use Rattle.bplus_tree.specs.Full.{NotFull, NamesFull, NamesAbove, CutsFor, NeededAbove, IsWayFull, MustCut};
 ghost use Rattle.page_space.specs.Stops.{IsFault, StopsFor, spare_pages};
 ghost use Rattle.bplus_tree.specs.Edit.{Edits, IsSafe, IsSpent, StaysBelow};
 ghost use Rattle.page_space.specs.Written.{WritesNothing};
@@ -95,6 +97,7 @@ fn descend<P: Pages>(
     ensures nothing { OnOk result (WritesNothing (P.standing pages.old) (P.standing pages.new)) }
     ensures cause { HasCause (IsTreeDamage (P.standing pages.old).told (P.standing pages.old).count (P.standing pages.new).current work.new.page) (P.standing pages.old) (P.standing pages.new) result }
     ensures fails { IfErr result (Keeps (FailsTree (P.standing pages.old).count work.new.page)) }
+    ensures not_full { IfErr result NotFull }
     ensures continues { Continues (P.may_leave pages.old) (P.may_leave pages.new) (P.is_steady pages.old) (P.standing pages.old) (P.standing pages.new) }
     ensures few { (P.standing pages.new).visits ≤ (P.standing pages.old).visits + top.expect.level + 1 }
     ensures ready { OnOk result (P.is_ready pages.new) }
@@ -137,6 +140,9 @@ fn settle<P: Pages>(
     ensures sound { IsTrue (P.standing pages.old).told → (free : List ℕ) → StandsAbove (P.standing pages.old).current passed.now child free → FitsHeader (P.standing pages.old).count ((P.standing pages.old).current 0 0) → IfErr result (StopsAbove (P.standing pages.old).count (P.standing pages.old).current passed.now child free) }
     ensures cause { HasCause (IsTreeDamage (P.standing pages.old).told (P.standing pages.old).count (P.standing pages.new).current work.new.page) (P.standing pages.old) (P.standing pages.new) result }
     ensures fails { IfErr result (Keeps (FailsTree (P.standing pages.old).count work.new.page)) }
+    ensures at { IfErr result (NamesAbove passed.now child) }
+    ensures cuts { IsTrue (P.standing pages.old).told → IfOk result (CutsFor (entry_count (bytes_of (P.standing pages.old).current passed.now.place.page) ≡ 240)) }
+    ensures needed { IsTrue (P.standing pages.old).told → IsWellFormed (bytes_of (P.standing pages.old).current passed.now.place.page) passed.now.place.expect → IfErr result (NeededAbove (P.standing pages.old).current passed.now child) }
     ensures continues { Continues (P.may_leave pages.old) (P.may_leave pages.new) (P.is_steady pages.old) (P.standing pages.old) (P.standing pages.new) }
     ensures few { (P.standing pages.new).visits ≤ (P.standing pages.old).visits + 13 }
     ensures ready { OnOk result (P.is_ready pages.new) }
@@ -180,6 +186,9 @@ pub fn put_in<P: Pages>(
     ensures sound { IsTrue (P.standing pages.old).told → (free : List ℕ) → StandsAt (P.standing pages.old).current top.page top.expect free → FitsHeader (P.standing pages.old).count ((P.standing pages.old).current 0 0) → IfErr result (StopsFor (spare_pages (P.standing pages.old).count (P.standing pages.old).current free ≤ top.expect.level) (1000000 < length (tree_rows (P.standing pages.old).current top.expect.level top.page))) }
     ensures cause { HasCause (IsTreeDamage (P.standing pages.old).told (P.standing pages.old).count (P.standing pages.new).current work.new.page) (P.standing pages.old) (P.standing pages.new) result }
     ensures fails { IfErr result (Keeps (FailsTree (P.standing pages.old).count work.new.page)) }
+    ensures at_top { IfErr result (NamesFull top.page (top.expect.level ≡ 3)) }
+    ensures cuts { IsTrue (P.standing pages.old).told → (free : List ℕ) → StandsAt (P.standing pages.old).current top.page top.expect free → IfOk result (CutsFor (IsWayFull (P.standing pages.old).current top.expect.level top.page key value.now)) }
+    ensures needed { IsTrue (P.standing pages.old).told → (free : List ℕ) → StandsAt (P.standing pages.old).current top.page top.expect free → FitsHeader (P.standing pages.old).count ((P.standing pages.old).current 0 0) → IfErr result (MustCut (P.standing pages.old).current top.expect.level top.page key value.now) }
     ensures continues { Continues (P.may_leave pages.old) (P.may_leave pages.new) (P.is_steady pages.old) (P.standing pages.old) (P.standing pages.new) }
     ensures few { (P.standing pages.new).visits ≤ (P.standing pages.old).visits + 14 * top.expect.level + 10 }
     ensures ready { OnOk result (P.is_ready pages.new) }
@@ -214,6 +223,7 @@ pub fn delete_in<P: Pages>(
     ensures sound { IsTrue (P.standing pages.old).told → (free : List ℕ) → StandsAt (P.standing pages.old).current top.page top.expect free → FitsHeader (P.standing pages.old).count ((P.standing pages.old).current 0 0) → IfErr result IsFault }
     ensures cause { HasCause (IsTreeDamage (P.standing pages.old).told (P.standing pages.old).count (P.standing pages.new).current work.new.page) (P.standing pages.old) (P.standing pages.new) result }
     ensures fails { IfErr result (Keeps (FailsTree (P.standing pages.old).count work.new.page)) }
+    ensures not_full { IfErr result NotFull }
     ensures continues { Continues (P.may_leave pages.old) (P.may_leave pages.new) (P.is_steady pages.old) (P.standing pages.old) (P.standing pages.new) }
     ensures few { (P.standing pages.new).visits ≤ (P.standing pages.old).visits + 14 * top.expect.level + 10 }
     ensures ready { OnOk result (P.is_ready pages.new) }

@@ -8,6 +8,7 @@ ghost use Rattle.slotted_page.specs.Rows.{Row, row_get, row_put, row_delete};
 ghost use Rattle.tree_search.specs.Tree.{IsRooted};
 ghost use Rattle.bplus_tree.specs.Changes.{ChangesRows};
 ghost use Rattle.bplus_tree.specs.Damage.{IsTreeDamage, FailsTree, IsLack, StandsIn};
+ghost use Rattle.bplus_tree.specs.Full.{NotFull, NamesRoot, MustCut};
 ghost use Rattle.page_space.specs.Stops.{IsFault, pages_at_hand};
 ghost use Rattle.page_space.specs.Written.{WritesNothing};
 ghost use Rattle.node_edit.specs.Record.{HoldsLength};
@@ -24,8 +25,9 @@ use tree_search::{Root, get};
 
 /// Puts a value at a key, whether or not the key is there. Its callers know that already: it is `put` without the look-up.
 /// `Damaged` comes with the first check that a page of the tree fails; where a page is to be taken or given back, with the first
-/// of the checks 31, 33, 34 and 36 that the header or the free list fails, and with 37 where no page is left; and with 39 where
-/// a root at level 3 has 240 children and would have to be cut.
+/// of the checks 31, 33, 34 and 36 that the header or the free list fails, and with 37 where no page is left; and with 39, of the
+/// root, where it is at level 3, has 240 children and would have to be cut. On a tree beside a free list damage comes only where
+/// the leaf of the key has no room for the row, and with 39 only where each page above that leaf has 240 children.
 pub fn put_row<P: Pages>(
     pages: &mut P,
     root: &mut Root,
@@ -53,6 +55,8 @@ pub fn put_row<P: Pages>(
     ensures sound { IsTrue (P.standing pages.old).told → (rows : List Row) (used free : List ℕ) → StandsIn (P.standing pages.old).count (P.standing pages.old).current root.old rows used free → IfErr result (IsLack (pages_at_hand (P.standing pages.old).count (P.standing pages.old).current used free) (length (row_put key value.now rows)) (length rows)) }
     ensures cause { HasCause (IsTreeDamage (P.standing pages.old).told (P.standing pages.old).count (P.standing pages.new).current work.new.page) (P.standing pages.old) (P.standing pages.new) result }
     ensures fails { IfErr result (Keeps (FailsTree (P.standing pages.old).count work.new.page)) }
+    ensures at_root { IfErr result (NamesRoot root.old) }
+    ensures needed { IsTrue (P.standing pages.old).told → (rows : List Row) (used free : List ℕ) → StandsIn (P.standing pages.old).count (P.standing pages.old).current root.old rows used free → IfErr result (MustCut (P.standing pages.old).current (root.old.levels - 1) root.old.page key value.now) }
     // what stays
     ensures continues { Continues (P.may_leave pages.old) (P.may_leave pages.new) (P.is_steady pages.old) (P.standing pages.old) (P.standing pages.new) }
     ensures few { (P.standing pages.new).visits ≤ (P.standing pages.old).visits + 58 }
@@ -111,6 +115,7 @@ pub fn delete_row<P: Pages>(
     ensures sound { IsTrue (P.standing pages.old).told → (rows : List Row) (used free : List ℕ) → StandsIn (P.standing pages.old).count (P.standing pages.old).current root.old rows used free → IfErr result IsFault }
     ensures cause { HasCause (IsTreeDamage (P.standing pages.old).told (P.standing pages.old).count (P.standing pages.new).current work.new.page) (P.standing pages.old) (P.standing pages.new) result }
     ensures fails { IfErr result (Keeps (FailsTree (P.standing pages.old).count work.new.page)) }
+    ensures not_full { IfErr result NotFull }
     // what stays
     ensures continues { Continues (P.may_leave pages.old) (P.may_leave pages.new) (P.is_steady pages.old) (P.standing pages.old) (P.standing pages.new) }
     ensures few { (P.standing pages.new).visits ≤ (P.standing pages.old).visits + 52 }
@@ -142,6 +147,7 @@ fn has_key<P: Pages>(pages: &mut P, root: &Root, key: u64, work: &mut Work) -> R
     ensures nothing { OnOk result (WritesNothing (P.standing pages.old) (P.standing pages.new)) }
     ensures cause { HasCause (IsTreeDamage (P.standing pages.old).told (P.standing pages.old).count (P.standing pages.new).current work.new.page) (P.standing pages.old) (P.standing pages.new) result }
     ensures fails { IfErr result (Keeps (FailsTree (P.standing pages.old).count work.new.page)) }
+    ensures not_full { IfErr result NotFull }
     ensures continues { Continues (P.may_leave pages.old) (P.may_leave pages.new) (P.is_steady pages.old) (P.standing pages.old) (P.standing pages.new) }
     ensures keeps { OnOk result (KeepsLines (P.standing pages.old) (P.standing pages.new)) }
     ensures few { (P.standing pages.new).visits ≤ (P.standing pages.old).visits + 4 }
@@ -171,6 +177,7 @@ fn seek<P: Pages>(
     ensures nothing { OnOk result (WritesNothing (P.standing pages.old) (P.standing pages.new)) }
     ensures cause { HasCause (IsTreeDamage (P.standing pages.old).told (P.standing pages.old).count (P.standing pages.new).current work.new.page) (P.standing pages.old) (P.standing pages.new) result }
     ensures fails { IfErr result (Keeps (FailsTree (P.standing pages.old).count work.new.page)) }
+    ensures not_full { IfErr result NotFull }
     ensures continues { Continues (P.may_leave pages.old) (P.may_leave pages.new) (P.is_steady pages.old) (P.standing pages.old) (P.standing pages.new) }
     ensures keeps { OnOk result (KeepsLines (P.standing pages.old) (P.standing pages.new)) }
     ensures few { (P.standing pages.new).visits ≤ (P.standing pages.old).visits + 4 }
@@ -182,7 +189,8 @@ fn seek<P: Pages>(
 
 /// Puts a value at a key: true where the key is new. On a tree beside a free list the only damage is check 37, where no page
 /// is left and fewer are at hand than a tree of the rows afterwards may have, and check 39, where a root at level 3 has 240
-/// children and would have to be cut, over more than a million rows.
+/// children and would have to be cut, over more than a million rows; and either comes only where the leaf of the key has no room
+/// for the row, 39 only where each page above that leaf has 240 children.
 pub fn put<P: Pages>(
     pages: &mut P,
     root: &mut Root,
@@ -208,6 +216,8 @@ pub fn put<P: Pages>(
     ensures sound { IsTrue (P.standing pages.old).told → (rows : List Row) (used free : List ℕ) → StandsIn (P.standing pages.old).count (P.standing pages.old).current root.old rows used free → IfErr result (IsLack (pages_at_hand (P.standing pages.old).count (P.standing pages.old).current used free) (length (row_put key value.now rows)) (length rows)) }
     ensures cause { HasCause (IsTreeDamage (P.standing pages.old).told (P.standing pages.old).count (P.standing pages.new).current work.new.page) (P.standing pages.old) (P.standing pages.new) result }
     ensures fails { IfErr result (Keeps (FailsTree (P.standing pages.old).count work.new.page)) }
+    ensures at_root { IfErr result (NamesRoot root.old) }
+    ensures needed { IsTrue (P.standing pages.old).told → (rows : List Row) (used free : List ℕ) → StandsIn (P.standing pages.old).count (P.standing pages.old).current root.old rows used free → IfErr result (MustCut (P.standing pages.old).current (root.old.levels - 1) root.old.page key value.now) }
     // the root, and what stays
     ensures some { OnOk result (1 ≤ root.new.page) }
     ensures page { OnOk result (root.new.page < (P.standing pages.old).count) }
@@ -244,6 +254,7 @@ pub fn delete<P: Pages>(
     ensures sound { IsTrue (P.standing pages.old).told → (rows : List Row) (used free : List ℕ) → StandsIn (P.standing pages.old).count (P.standing pages.old).current root.old rows used free → IfErr result IsFault }
     ensures cause { HasCause (IsTreeDamage (P.standing pages.old).told (P.standing pages.old).count (P.standing pages.new).current work.new.page) (P.standing pages.old) (P.standing pages.new) result }
     ensures fails { IfErr result (Keeps (FailsTree (P.standing pages.old).count work.new.page)) }
+    ensures not_full { IfErr result NotFull }
     // the root, and what stays
     ensures some { OnOk result (1 ≤ root.new.page) }
     ensures page { OnOk result (root.new.page < (P.standing pages.old).count) }

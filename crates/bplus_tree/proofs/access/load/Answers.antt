@@ -1,4 +1,5 @@
 use Rattle.bplus_tree.proofs.TreeDamageLaws.{node_cause, node_fails}
+use Rattle.bplus_tree.proofs.FullLaws.{node_not_full}
 use Rattle.bplus_tree.proofs.access.load.Goals as goal
 
 pub returns-clause-cause : goal.returns-clause-cause
@@ -8,3 +9,6 @@ returns-clause-cause g c =
 
 pub returns-clause-fails : goal.returns-clause-fails
 returns-clause-fails g c = node_fails (g.P.Pages.standing c.args.pages.now).count c.read_page.new.work.page c.read_page.result (c.read_page.ensures.fails (record { pages = c.requires.pages; root = c.requires.root }))
+
+pub returns-clause-not_full : goal.returns-clause-not_full
+returns-clause-not_full g c = node_not_full (g.P.Pages.standing c.args.pages.now).count c.read_page.new.work.page c.read_page.result (c.read_page.ensures.fails (record { pages = c.requires.pages; root = c.requires.root }))

@@ -1,4 +1,4 @@
-use Rattle.std.proofs.Common.{◌≡◌, ◌≤◌, ◌+◌, ℕ, true, Result, Ok, Err, IfOk, OnOk, refl, arith, sym, subst, IsTrue, ap, ◌∙◌}
+use Rattle.std.proofs.Common.{rules, IfErr, List, ◌≡◌, ◌≤◌, ◌+◌, ℕ, true, Result, Ok, Err, IfOk, OnOk, refl, arith, sym, subst, IsTrue, ap, ◌∙◌}
 use Rattle.slotted_page.specs.declared.root.Expect.{Expect}
 use Rattle.slotted_page.proofs.PageFacts.{inner_facts}
 use Rattle.node_edit.specs.declared.fit.Fit.{Fit}
@@ -20,6 +20,9 @@ use Rattle.bplus_tree.proofs.TreeDamageLaws.{root_damage, root_fails}
 use Rattle.page_space.specs.Stops.{spare_pages}
 use Rattle.bplus_tree.specs.Path.{IsFullAt}
 use Rattle.page_space.proofs.LackLaws.{stops_wider, stored_sound}
+use Rattle.slotted_page.specs.Node.{entry_count}
+use Rattle.bplus_tree.specs.Full.{NamesFull, CutsFor, IsNeeded}
+use Rattle.bplus_tree.proofs.FullLaws.{not_full_names, fault_needed, cuts_of, needed_of, inner_many}
 use Rattle.bplus_tree.proofs.change.add_child.Goals as goal
 
 stays : {E : Type 0} (count : ℕ) (e : Expect) (fit : Fit) (r : Result Outcome E) → (e.root ≡ true → e.level ≡ 3 → fit ≡ fits.Whole) → IfOk r (IsOutcome count fit) → IfOk r (StaysBelow e)
@@ -102,3 +105,49 @@ returns-clause-sound g c = λ told free well is_free part fits.
     let spare = c.copy_from.ensures.value ∙ c.in_ok-load.ensures.bytes told ∙ ap (λ (lines : Lines). bytes_of lines c.args.page) (sym same) in
     stops_wider (spare_pages old.count old.current free ≤ 0) (spare_pages old.count old.current free ≤ 0) ⊥ (IsFullAt old.current c.args.page c.args.expect.now) (λ none. none) (λ never. absurd never) c.store.result
     (stored_sound old.count first.count old.current first.current c.args.page c.copy_from.new.self free c.store.result c.in_ok-load.ensures.continues.count same spare is_free part fits (c.store.ensures.sound told_on))
+
+pub returns-clause-cuts : goal.returns-clause-cuts
+returns-clause-cuts g c = λ told.
+    let first = g.P.Pages.standing c.load.new.pages in
+    let bytes = c.load.new.work.page in
+    let many = inner_many c.args.expect.now bytes c.inner_put-fit.result c.requires.level c.in_ok-load.ensures.well c.inner_put-fit.ensures.room in
+    subst (λ (b : List ℕ). IfOk c.store.result (CutsFor (entry_count b ≡ 240))) (c.in_ok-load.ensures.bytes told)
+    (cuts_of first.count c.inner_put-fit.result (entry_count bytes ≡ 240) c.store.result many c.store.ensures.is)
+
+pub returns-in_err-load-clause-at : goal.returns-in_err-load-clause-at
+returns-in_err-load-clause-at g c =
+    let High : Type 0 = c.args.expect.now.level ≡ 3 in
+    let h : IfErr c.load.result (NamesFull c.args.page High) = not_full_names c.args.page High c.load.result c.load.ensures.not_full in
+    let k = subst (λ r. IfErr r (NamesFull c.args.page High)) c.in_err-load.was h in
+    search (rules, k)
+
+pub returns-then-is_full_root-clause-at : goal.returns-then-is_full_root-clause-at
+returns-then-is_full_root-clause-at g c =
+    subst (λ (s : Stop). NamesFull c.args.page (c.args.expect.now.level ≡ 3) s) (sym c.full_root.ensures) (λ e. (refl, c.is_full_root.ensures.level c.if-is_full_root.true))
+
+pub returns-clause-at : goal.returns-clause-at
+returns-clause-at g c = not_full_names c.args.page (c.args.expect.now.level ≡ 3) c.store.result c.store.ensures.not_full
+
+pub returns-in_err-load-clause-needed : goal.returns-in_err-load-clause-needed
+returns-in_err-load-clause-needed g c = λ told well.
+    let old = g.P.Pages.standing c.args.pages.now in
+    let Many : Type 0 = entry_count (bytes_of old.current c.args.page) ≡ 240 in
+    let High : Type 0 = c.args.expect.now.level ≡ 3 in
+    let h : IfErr c.load.result (IsNeeded Many High) = fault_needed Many High c.load.result (c.load.ensures.sound told well) in
+    let k = subst (λ r. IfErr r (IsNeeded Many High)) c.in_err-load.was h in
+    search (rules, k)
+
+pub returns-then-is_full_root-clause-needed : goal.returns-then-is_full_root-clause-needed
+returns-then-is_full_root-clause-needed g c = λ told well.
+    let old = g.P.Pages.standing c.args.pages.now in
+    let yes_full = c.if-is_full_root.true in
+    let many = subst (λ (b : List ℕ). entry_count b ≡ 240) (c.in_ok-load.ensures.bytes told) (c.is_full_root.ensures.full yes_full) in
+    subst (λ (s : Stop). IsNeeded (entry_count (bytes_of old.current c.args.page) ≡ 240) (c.args.expect.now.level ≡ 3) s) (sym c.full_root.ensures) (many, λ e. c.is_full_root.ensures.level yes_full)
+
+pub returns-clause-needed : goal.returns-clause-needed
+returns-clause-needed g c = λ told well.
+    let bytes = c.load.new.work.page in
+    let High : Type 0 = c.args.expect.now.level ≡ 3 in
+    let many = inner_many c.args.expect.now bytes c.inner_put-fit.result c.requires.level c.in_ok-load.ensures.well c.inner_put-fit.ensures.room in
+    subst (λ (b : List ℕ). IfErr c.store.result (IsNeeded (entry_count b ≡ 240) High)) (c.in_ok-load.ensures.bytes told)
+    (needed_of c.inner_put-fit.result (entry_count bytes ≡ 240) High c.store.result many c.store.ensures.plain c.store.ensures.not_full)

@@ -1,4 +1,4 @@
-use Rattle.std.proofs.Common.{length, ◌≤◌, ℕ, List, arith, sym, subst, IsTrue, true, ◌≡◌, ap, ◌∙◌}
+use Rattle.std.proofs.Common.{rules, length, ◌≤◌, ℕ, List, arith, sym, subst, IsTrue, true, ◌≡◌, ap, ◌∙◌}
 use Rattle.line_pages.specs.Lines.{Lines}
 use Rattle.line_pages.specs.Bytes.{bytes_of}
 use Rattle.slotted_page.specs.Rows.{row_put}
@@ -10,6 +10,9 @@ use Rattle.node_edit.specs.Record.{FitsLeaf, HoldsLength}
 use Rattle.bplus_tree.proofs.SameLength.{uncut_whole, outcome_whole, record_written}
 use Rattle.bplus_tree.proofs.LineChangeLaws.{page_changed}
 use Rattle.page_space.proofs.LackLaws.{stored_sound}
+use Rattle.std.specs.Prelude.{IfErr, IfOk}
+use Rattle.bplus_tree.specs.Full.{CutsFor, IsNeeded, IsOverfull}
+use Rattle.bplus_tree.proofs.FullLaws.{fault_needed, cuts_of, needed_of, leaf_overfull}
 use Rattle.bplus_tree.proofs.change.put_leaf.Goals as goal
 
 pub store-requires-clause-room : goal.store-requires-clause-room
@@ -82,3 +85,26 @@ returns-clause-fills g c = λ told fits.
     let is = c.in_ok-load.ensures.bytes told in
     let whole = c.leaf_put-fit.ensures.whole (subst (λ (b : List ℕ). FitsLeaf (c.args.expect.now.root ≡ true) (row_put c.args.key c.args.value.now (leaf_rows b))) (sym is) fits) in
     outcome_whole (g.P.Pages.standing c.load.new.pages).count c.leaf_put-fit.result c.store.result whole c.store.ensures.is
+
+pub returns-clause-cuts : goal.returns-clause-cuts
+returns-clause-cuts g c = λ told.
+    let first = g.P.Pages.standing c.load.new.pages in
+    let rows = row_put c.args.key c.args.value.now (leaf_rows c.load.new.work.page) in
+    let over = leaf_overfull c.args.expect.now c.leaf_put-fit.new.left c.leaf_put-fit.new.right rows c.leaf_put-fit.result c.byte.ensures.size c.requires.level c.leaf_put-fit.ensures.fits c.leaf_put-fit.ensures.whole in
+    subst (λ (b : List ℕ). IfOk c.store.result (CutsFor (IsOverfull (row_put c.args.key c.args.value.now (leaf_rows b))))) (c.in_ok-load.ensures.bytes told)
+    (cuts_of first.count c.leaf_put-fit.result (IsOverfull rows) c.store.result over c.store.ensures.is)
+
+pub returns-in_err-load-clause-needed : goal.returns-in_err-load-clause-needed
+returns-in_err-load-clause-needed g c = λ told well.
+    let old = g.P.Pages.standing c.args.pages.now in
+    let Over = IsOverfull (row_put c.args.key c.args.value.now (leaf_rows (bytes_of old.current c.args.page))) in
+    let h : IfErr c.load.result (IsNeeded Over ⊥) = fault_needed Over ⊥ c.load.result (c.load.ensures.sound told well) in
+    let k = subst (λ r. IfErr r (IsNeeded Over ⊥)) c.in_err-load.was h in
+    search (rules, k)
+
+pub returns-clause-needed : goal.returns-clause-needed
+returns-clause-needed g c = λ told well.
+    let rows = row_put c.args.key c.args.value.now (leaf_rows c.load.new.work.page) in
+    let over = leaf_overfull c.args.expect.now c.leaf_put-fit.new.left c.leaf_put-fit.new.right rows c.leaf_put-fit.result c.byte.ensures.size c.requires.level c.leaf_put-fit.ensures.fits c.leaf_put-fit.ensures.whole in
+    subst (λ (b : List ℕ). IfErr c.store.result (IsNeeded (IsOverfull (row_put c.args.key c.args.value.now (leaf_rows b))) ⊥)) (c.in_ok-load.ensures.bytes told)
+    (needed_of c.leaf_put-fit.result (IsOverfull rows) ⊥ c.store.result over c.store.ensures.plain c.store.ensures.not_full)

@@ -16,6 +16,8 @@ use Rattle.bplus_tree.proofs.StandLaws.{leads_stands}
 use Rattle.bplus_tree.proofs.path.delete_in.Given as given
 use Rattle.bplus_tree.specs.Edit.{IsSafe}
 use Rattle.bplus_tree.proofs.path.delete_in.Goals.{In-Some}
+use Rattle.bplus_tree.specs.Full.{NotFull}
+use Rattle.bplus_tree.proofs.FullWayLaws.{uncut_not_full}
 use Rattle.bplus_tree.proofs.path.delete_in.Goals as goal
 
 pub loop-passed-init : goal.loop-passed-init
@@ -116,4 +118,10 @@ returns-in_err-outcome-2-clause-sound g c = λ told free stands fits.
     let h : IfErr c.settle.result (IsFault) =
     climb_faults old.told old.count c.args.key old.current mid.current c.args.top c.pop.new.self.items c.in-Some.passed c.loop-passed.outcome step old.room mid.room old.visits mid.visits free c.settle.result (delete_local c.args.key) told climbing stands fits before.uncut sound in
     let k = subst (λ r. IfErr r (IsFault)) c.in_err-outcome-2.was h in
+    search (rules, k)
+
+pub returns-in_err-outcome-2-clause-not_full : goal.returns-in_err-outcome-2-clause-not_full
+returns-in_err-outcome-2-clause-not_full g c =
+    let h : IfErr c.settle.result NotFull = uncut_not_full c.in-Some.passed c.loop-passed.outcome c.settle.result c.loop-passed.invariant.uncut c.settle.ensures.at in
+    let k = subst (λ r. IfErr r NotFull) c.in_err-outcome-2.was h in
     search (rules, k)

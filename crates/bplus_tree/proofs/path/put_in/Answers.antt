@@ -1,4 +1,4 @@
-use Rattle.std.proofs.Common.{length, inr, IsTrue, sym, subst, ◌∙◌, rules, IfErr, ℕ, ◌<◌, ◌≤◌}
+use Rattle.std.proofs.Common.{◌≡◌, length, inr, IsTrue, sym, subst, ◌∙◌, rules, IfErr, ℕ, ◌<◌, ◌≤◌}
 use Rattle.std.specs.Prelude.{List}
 use Rattle.line_pages.proofs.StandingLaws.{Continues-trans}
 use Rattle.slotted_page.specs.Rows.{row_put}
@@ -17,6 +17,10 @@ use Rattle.bplus_tree.proofs.LineChangeLaws.{lines_start, lines_on}
 use Rattle.bplus_tree.proofs.path.put_in.Given as given
 use Rattle.bplus_tree.specs.Edit.{IsSafe}
 use Rattle.bplus_tree.proofs.path.put_in.Goals.{In-Some}
+use Rattle.bplus_tree.specs.Full.{NamesFull, MustCut, IsOverfull, IsWayFull}
+use Rattle.bplus_tree.specs.LineChanges.{leaf_after}
+use Rattle.bplus_tree.proofs.FullLaws.{not_full_names, fault_needed}
+use Rattle.bplus_tree.proofs.FullWayLaws.{Filling, filling_start, filling_on, filling_end, leaf_needed, climb_needed, climb_names}
 use Rattle.bplus_tree.proofs.path.put_in.Goals as goal
 
 pub loop-passed-init : goal.loop-passed-init
@@ -38,6 +42,8 @@ loop-passed-init g c =
           (λ told fits. (leaf.fills (subst IsTrue (sym down.continues.told) told) fits, leaf.lines (subst IsTrue (sym down.continues.told) told) fits));
       climbing = climb_start old.told old.count c.args.key old.current mid.current new.current c.args.top c.in_ok-leaf.leaf c.descend.new.path.items c.in_ok-outcome.outcome (row_put c.args.key c.args.value.now) old.room mid.room new.room old.visits mid.visits new.visits
           down.level down.place.pages down.leads down.keeps.current down.keeps.room down.few (subst (λ n. IsSafe n c.in_ok-leaf.leaf.expect c.in_ok-outcome.outcome) down.continues.count leaf.safe) leaf.below (λ told. leaf.edits (subst IsTrue (sym down.continues.told) told)) leaf.room leaf.few;
+      filling = filling_start old.told old.count c.args.key c.args.value.now old.current mid.current c.args.top c.in_ok-leaf.leaf c.descend.new.path.items c.in_ok-outcome.outcome down.level down.leads down.keeps.current
+          (λ told. leaf.cuts (subst IsTrue (sym down.continues.told) told));
     }
 
 popped : (g : given.Over) (c : In-Some g) → CanSettle (g.P.Pages.standing c.loop-passed.pages).count c.in-Some.passed c.loop-passed.outcome (g.P.Pages.standing c.loop-passed.pages).room
@@ -87,6 +93,9 @@ loop-passed-preserved g c =
       climbing = climb_on old.told old.count c.args.key old.current mid.current new.current c.args.top c.pop.new.self.items c.in-Some.passed c.loop-passed.outcome c.in_ok-outcome-2.outcome step old.room mid.room new.room old.visits mid.visits new.visits
           (put_local c.args.key c.args.value.now) (subst (λ (path : List Passed). Climbing old.told old.count c.args.key old.current mid.current c.args.top path c.loop-passed.outcome step old.room mid.room old.visits mid.visits) c.in-Some.ensures.items before.climbing)
           (subst (λ n. IsSafe n c.in-Some.passed.place.expect c.in_ok-outcome-2.outcome) before.continues.count up.safe) up.below (λ told. up.settles (told_on told)) up.follows up.room up.few;
+      filling = filling_on old.told old.count c.args.key c.args.value.now old.current mid.current c.args.top c.pop.new.self.items c.in-Some.passed c.loop-passed.outcome c.in_ok-outcome-2.outcome step old.room mid.room old.visits mid.visits
+          (subst (λ (path : List Passed). Climbing old.told old.count c.args.key old.current mid.current c.args.top path c.loop-passed.outcome step old.room mid.room old.visits mid.visits) c.in-Some.ensures.items before.climbing)
+          (subst (λ (path : List Passed). Filling old.told old.count c.args.key c.args.value.now old.current c.args.top path c.loop-passed.outcome) c.in-Some.ensures.items before.filling) up.follows (λ told. up.cuts (told_on told));
     }
 
 pub returns-in_err-leaf-clause-sound : goal.returns-in_err-leaf-clause-sound
@@ -131,3 +140,77 @@ returns-clause-takes g c = λ told.
     let now = g.P.Pages.standing c.loop-passed.pages in
     let none = emptied c.loop-passed.path.items (λ some. let never = c.in_default.ensures.variant.1 some in absurd (cc)) in
     (climb_end old.told old.count c.args.key old.current now.current c.args.top c.loop-passed.path.items c.loop-passed.outcome (row_put c.args.key c.args.value.now) old.room now.room old.visits now.visits none c.loop-passed.invariant.climbing).takes told
+
+pub returns-clause-cuts : goal.returns-clause-cuts
+returns-clause-cuts g c = λ told free stands.
+    let old = g.P.Pages.standing c.args.pages.now in
+    let none = emptied c.loop-passed.path.items (λ some. let never = c.in_default.ensures.variant.1 some in absurd (cc)) in
+    filling_end old.told old.count c.args.key c.args.value.now old.current c.args.top c.loop-passed.path.items c.loop-passed.outcome none c.loop-passed.invariant.filling told free stands
+
+pub returns-in_err-leaf-clause-at_top : goal.returns-in_err-leaf-clause-at_top
+returns-in_err-leaf-clause-at_top g c =
+    let Named = NamesFull c.args.top.page (c.args.top.expect.level ≡ 3) in
+    let h : IfErr c.descend.result Named = not_full_names c.args.top.page (c.args.top.expect.level ≡ 3) c.descend.result c.descend.ensures.not_full in
+    let k = subst (λ r. IfErr r Named) c.in_err-leaf.was h in
+    search (rules, k)
+
+pub returns-in_err-outcome-clause-at_top : goal.returns-in_err-outcome-clause-at_top
+returns-in_err-outcome-clause-at_top g c =
+    let Named = NamesFull c.args.top.page (c.args.top.expect.level ≡ 3) in
+    let h : IfErr c.put_leaf.result Named = not_full_names c.args.top.page (c.args.top.expect.level ≡ 3) c.put_leaf.result c.put_leaf.ensures.not_full in
+    let k = subst (λ r. IfErr r Named) c.in_err-outcome.was h in
+    search (rules, k)
+
+pub returns-in_err-outcome-2-clause-at_top : goal.returns-in_err-outcome-2-clause-at_top
+returns-in_err-outcome-2-clause-at_top g c =
+    let old = g.P.Pages.standing c.args.pages.now in
+    let mid = g.P.Pages.standing c.loop-passed.pages in
+    let before = c.loop-passed.invariant in
+    let step = row_put c.args.key c.args.value.now in
+    let climbing = subst (λ (path : List Passed). Climbing old.told old.count c.args.key old.current mid.current c.args.top path c.loop-passed.outcome step old.room mid.room old.visits mid.visits) c.in-Some.ensures.items before.climbing in
+    let Named = NamesFull c.args.top.page (c.args.top.expect.level ≡ 3) in
+    let h : IfErr c.settle.result Named =
+    climb_names old.told old.count c.args.key old.current mid.current c.args.top c.pop.new.self.items c.in-Some.passed c.loop-passed.outcome step old.room mid.room old.visits mid.visits c.settle.result climbing c.requires.few_levels c.settle.ensures.at in
+    let k = subst (λ r. IfErr r Named) c.in_err-outcome-2.was h in
+    search (rules, k)
+
+pub returns-in_err-leaf-clause-needed : goal.returns-in_err-leaf-clause-needed
+returns-in_err-leaf-clause-needed g c = λ told free stands fits.
+    let old = g.P.Pages.standing c.args.pages.now in
+    let level = c.args.top.expect.level in
+    let page = c.args.top.page in
+    let Must = MustCut old.current level page c.args.key c.args.value.now in
+    let h : IfErr c.descend.result Must =
+    fault_needed (IsOverfull (leaf_after old.current level page c.args.key c.args.value.now)) (IsWayFull old.current level page c.args.key c.args.value.now) c.descend.result (c.descend.ensures.sound told free stands) in
+    let k = subst (λ r. IfErr r Must) c.in_err-leaf.was h in
+    search (rules, k)
+
+pub returns-in_err-outcome-clause-needed : goal.returns-in_err-outcome-clause-needed
+returns-in_err-outcome-clause-needed g c = λ told free stands fits.
+    let old = g.P.Pages.standing c.args.pages.now in
+    let mid = g.P.Pages.standing c.descend.new.pages in
+    let leaf = c.in_ok-leaf.leaf in
+    let down = c.in_ok-leaf.ensures in
+    let told_on = subst IsTrue (sym down.continues.told) told in
+    let Must = MustCut old.current c.args.top.expect.level c.args.top.page c.args.key c.args.value.now in
+    let h : IfErr c.put_leaf.result Must =
+    leaf_needed old.told old.count c.args.key c.args.value.now old.current mid.current c.args.top leaf c.descend.new.path.items free c.put_leaf.result down.level down.leads told (down.keeps.current told) stands (c.put_leaf.ensures.needed told_on) in
+    let k = subst (λ r. IfErr r Must) c.in_err-outcome.was h in
+    search (rules, k)
+
+pub returns-in_err-outcome-2-clause-needed : goal.returns-in_err-outcome-2-clause-needed
+returns-in_err-outcome-2-clause-needed g c = λ told free stands fits.
+    let old = g.P.Pages.standing c.args.pages.now in
+    let mid = g.P.Pages.standing c.loop-passed.pages in
+    let before = c.loop-passed.invariant in
+    let told_on = subst IsTrue (sym before.continues.told) told in
+    let step = row_put c.args.key c.args.value.now in
+    let climbing = subst (λ (path : List Passed). Climbing old.told old.count c.args.key old.current mid.current c.args.top path c.loop-passed.outcome step old.room mid.room old.visits mid.visits) c.in-Some.ensures.items before.climbing in
+    let filling = subst (λ (path : List Passed). Filling old.told old.count c.args.key c.args.value.now old.current c.args.top path c.loop-passed.outcome) c.in-Some.ensures.items before.filling in
+    let sound = subst (λ (n : ℕ). (rest : List ℕ) → StandsAbove mid.current c.in-Some.passed c.loop-passed.outcome rest → FitsHeader n (mid.current 0 0) → IfErr c.settle.result (StopsAbove n mid.current c.in-Some.passed c.loop-passed.outcome rest)) before.continues.count (c.settle.ensures.sound told_on) in
+    let Must = MustCut old.current c.args.top.expect.level c.args.top.page c.args.key c.args.value.now in
+    let h : IfErr c.settle.result Must =
+    climb_needed old.told old.count c.args.key c.args.value.now old.current mid.current c.args.top c.pop.new.self.items c.in-Some.passed c.loop-passed.outcome step old.room mid.room old.visits mid.visits free c.settle.result (put_local c.args.key c.args.value.now) told
+    climbing filling c.requires.few_levels stands fits sound (c.settle.ensures.needed told_on) in
+    let k = subst (λ r. IfErr r Must) c.in_err-outcome-2.was h in
+    search (rules, k)

@@ -5,6 +5,7 @@ use Rattle.slotted_page.specs.Rows.{row_put}
 use Rattle.bplus_tree.specs.Record.{PutsAgain}
 use Rattle.bplus_tree.specs.LineChanges.{PutsChange}
 use Rattle.bplus_tree.proofs.PathLaws.{Climbing}
+use Rattle.bplus_tree.proofs.FullWayLaws.{Filling}
 use Rattle.bplus_tree.proofs.path.put_in.Given as goal
 
 abbrev pub invariant-loop-passed : goal.invariant-loop-passed
@@ -18,6 +19,7 @@ invariant-loop-passed g l = record {
   lines : PutsChange l.fn.top l.fn.key l.fn.value (g.P.Pages.standing l.fn.pages) (g.P.Pages.standing l.pages) l.outcome;
   climbing : Climbing (g.P.Pages.standing l.fn.pages).told (g.P.Pages.standing l.fn.pages).count l.fn.key (g.P.Pages.standing l.fn.pages).current (g.P.Pages.standing l.pages).current l.fn.top l.path.items l.outcome (row_put l.fn.key l.fn.value)
       (g.P.Pages.standing l.fn.pages).room (g.P.Pages.standing l.pages).room (g.P.Pages.standing l.fn.pages).visits (g.P.Pages.standing l.pages).visits;
+  filling : Filling (g.P.Pages.standing l.fn.pages).told (g.P.Pages.standing l.fn.pages).count l.fn.key l.fn.value (g.P.Pages.standing l.fn.pages).current l.fn.top l.path.items l.outcome;
 }
 
 abbrev pub decreases-loop-passed : goal.decreases-loop-passed

@@ -1,6 +1,9 @@
-use Rattle.std.proofs.Common.{IfErr, sym, subst}
+use Rattle.std.proofs.Common.{◌≡◌, IfErr, sym, subst}
 use Rattle.bplus_tree.specs.declared.outcome.Outcome.{Outcome}
 use Rattle.bplus_tree.specs.Path.{StandsAbove, StopsAbove}
+use Rattle.bplus_tree.proofs.FullLaws.{uncut_cuts}
+use Rattle.slotted_page.specs.Node.{entry_count}
+use Rattle.line_pages.specs.Bytes.{bytes_of}
 use Rattle.bplus_tree.proofs.path.settle.Goals as goal
 
 pub returns-in-Short-clause-sound : goal.returns-in-Short-clause-sound
@@ -8,3 +11,6 @@ returns-in-Short-clause-sound g c = λ told free stands fits.
     let old = g.P.Pages.standing c.args.pages.now in
     subst (λ (o : Outcome). StandsAbove old.current c.args.passed.now o free → IfErr c.mend.result (StopsAbove old.count old.current c.args.passed.now o free)) (sym c.in-Short.is)
     (λ short. c.mend.ensures.sound told short.0 free short.1 fits) stands
+
+pub returns-in-Short-clause-cuts : goal.returns-in-Short-clause-cuts
+returns-in-Short-clause-cuts g c = λ told. uncut_cuts (entry_count (bytes_of (g.P.Pages.standing c.args.pages.now).current c.args.passed.now.place.page) ≡ 240) c.mend.result c.mend.ensures.uncut

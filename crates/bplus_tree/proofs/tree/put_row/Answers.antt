@@ -1,4 +1,4 @@
-use Rattle.std.proofs.Common.{rules, length, IfErr, ◌≢◌, ◌≤◌, ◌-◌, ℕ, arith, refl, IsTrue, sym, subst}
+use Rattle.std.proofs.Common.{rules, length, IfErr, ◌≡◌, ◌≢◌, ◌≤◌, ◌-◌, ℕ, arith, refl, IsTrue, sym, subst}
 use Rattle.slotted_page.specs.Rows.{row_put}
 use Rattle.bplus_tree.specs.declared.path.Place.{Place}
 use Rattle.bplus_tree.specs.declared.outcome.Outcome.TheVariants.{Whole, Short, Cut, Alone}
@@ -13,6 +13,10 @@ use Rattle.bplus_tree.proofs.LackLaws.{fault_lack}
 use Rattle.bplus_tree.proofs.RootLaws.{root_stands, put_lack, take_lack}
 use Rattle.bplus_tree.proofs.LeafOfKey.{root_again}
 use Rattle.bplus_tree.proofs.LineChangeLaws.{root_lines}
+use Rattle.bplus_tree.specs.LineChanges.{leaf_after}
+use Rattle.bplus_tree.specs.Full.{NamesRoot, MustCut, IsOverfull, IsWayFull}
+use Rattle.bplus_tree.proofs.FullLaws.{fault_not_full, not_full_names, fault_needed}
+use Rattle.bplus_tree.proofs.FullWayLaws.{root_names, root_needed, take_needed}
 use Rattle.bplus_tree.proofs.tree.put_row.Goals as goal
 
 few_levels : (levels : ℕ) → levels ≤ 4 → levels - 1 ≢ 3 → levels ≤ 3
@@ -159,3 +163,55 @@ returns-in_ok-write_new-in-Cut-clause-same_root g c = λ told rows used rooted h
     let w = root_again c.args.root.now c.top_of-top.result _ c.args.key (length c.args.value.now) (g.P.Pages.standing c.args.pages.now) (g.P.Pages.standing c.put_in.new.pages) (Cut c.in-Cut.separator c.in-Cut.right) c.page_count-count.ensures.count c.top_of-top.ensures
     (rw c.in-Cut.is at c.in_ok-put_in.ensures.again) told rows used rooted holds in
     let never = w.0 in absurd (cc)
+
+pub returns-in_err-put_in-clause-at_root : goal.returns-in_err-put_in-clause-at_root
+returns-in_err-put_in-clause-at_root g c =
+    let root = c.args.root.now in
+    let h : IfErr c.put_in.result (NamesRoot root) = root_names _ root c.top_of-top.result c.put_in.result c.top_of-top.ensures c.requires.some_levels c.put_in.ensures.at_top in
+    let k = subst (λ r. IfErr r (NamesRoot root)) c.in_err-put_in.was h in
+    search (rules, k)
+
+pub returns-in_err-page-in-Cut-clause-at_root : goal.returns-in_err-page-in-Cut-clause-at_root
+returns-in_err-page-in-Cut-clause-at_root g c =
+    let root = c.args.root.now in
+    let h : IfErr c.take.result (NamesRoot root) = not_full_names root.page (root.levels ≡ 4) c.take.result c.take.ensures.not_full in
+    let k = subst (λ r. IfErr r (NamesRoot root)) c.in_err-page-in-Cut.was h in
+    search (rules, k)
+
+pub returns-in_err-write_new-in-Cut-clause-at_root : goal.returns-in_err-write_new-in-Cut-clause-at_root
+returns-in_err-write_new-in-Cut-clause-at_root g c =
+    let root = c.args.root.now in
+    let h : IfErr c.write_new.result (NamesRoot root) = not_full_names root.page (root.levels ≡ 4) c.write_new.result (fault_not_full c.write_new.result c.write_new.ensures.sound) in
+    let k = subst (λ r. IfErr r (NamesRoot root)) c.in_err-write_new-in-Cut.was h in
+    search (rules, k)
+
+pub returns-in_err-put_in-clause-needed : goal.returns-in_err-put_in-clause-needed
+returns-in_err-put_in-clause-needed g c = λ told rows used free stands.
+    let old = g.P.Pages.standing c.args.pages.now in
+    let root = c.args.root.now in
+    let at = root_stands old.count _ old.current root c.top_of-top.result rows used free c.page_count-count.ensures.count c.top_of-top.ensures stands in
+    let Must = MustCut old.current (root.levels - 1) root.page c.args.key c.args.value.now in
+    let h : IfErr c.put_in.result Must = root_needed _ c.args.key c.args.value.now old.current root c.top_of-top.result c.put_in.result c.top_of-top.ensures (c.put_in.ensures.needed told free at stands.header) in
+    let k = subst (λ r. IfErr r Must) c.in_err-put_in.was h in
+    search (rules, k)
+
+pub returns-in_err-page-in-Cut-clause-needed : goal.returns-in_err-page-in-Cut-clause-needed
+returns-in_err-page-in-Cut-clause-needed g c = λ told rows used free stands.
+    let old = g.P.Pages.standing c.args.pages.now in
+    let root = c.args.root.now in
+    let at = root_stands old.count _ old.current root c.top_of-top.result rows used free c.page_count-count.ensures.count c.top_of-top.ensures stands in
+    let Must = MustCut old.current (root.levels - 1) root.page c.args.key c.args.value.now in
+    let h : IfErr c.take.result Must =
+    take_needed _ c.args.key c.args.value.now old.current root c.top_of-top.result c.take.result c.top_of-top.ensures (rw c.in-Cut.is at (c.in_ok-put_in.ensures.cuts told free at)) c.take.ensures.not_full in
+    let k = subst (λ r. IfErr r Must) c.in_err-page-in-Cut.was h in
+    search (rules, k)
+
+pub returns-in_err-write_new-in-Cut-clause-needed : goal.returns-in_err-write_new-in-Cut-clause-needed
+returns-in_err-write_new-in-Cut-clause-needed g c = λ told rows used free stands.
+    let old = g.P.Pages.standing c.args.pages.now in
+    let root = c.args.root.now in
+    let Must = MustCut old.current (root.levels - 1) root.page c.args.key c.args.value.now in
+    let h : IfErr c.write_new.result Must =
+    fault_needed (IsOverfull (leaf_after old.current (root.levels - 1) root.page c.args.key c.args.value.now)) (IsWayFull old.current (root.levels - 1) root.page c.args.key c.args.value.now) c.write_new.result c.write_new.ensures.sound in
+    let k = subst (λ r. IfErr r Must) c.in_err-write_new-in-Cut.was h in
+    search (rules, k)
