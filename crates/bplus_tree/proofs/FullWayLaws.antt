@@ -1,9 +1,9 @@
 -- A way to a leaf on which no page has room.
-use Rattle.std.proofs.Common.{◌≡◌, ◌≢◌, ℕ, zero, suc, ◌+◌, ◌-◌, ◌≤◌, Bool, List, [], ◌∷◌, ◌++◌, length, IsTrue, Result, IfErr, refl, sym, ap, subst, ◌∙◌, arith, length-append}
+use Rattle.std.proofs.Common.{◌≡◌, ◌≢◌, ℕ, zero, suc, ◌-◌, ◌≤◌, Bool, List, [], ◌∷◌, ◌++◌, IsTrue, Result, IfErr, refl, sym, ap, subst, ◌∙◌, arith}
 use Rattle.line_pages.specs.declared.stop.Stop.{Stop}
 use Rattle.line_pages.specs.Lines.{Lines}
 use Rattle.line_pages.specs.Bytes.{bytes_of, page_bytes}
-use Rattle.slotted_page.specs.Rows.{Row, row_put, last_key}
+use Rattle.slotted_page.specs.Rows.{Row, row_put}
 use Rattle.slotted_page.specs.Spans.{Span}
 use Rattle.slotted_page.specs.Node.{leaf_rows, children, entry_count, IsWellFormed}
 use Rattle.tree_search.specs.declared.root.Root.{Root}
