@@ -1,5 +1,5 @@
 //! Lines that are put into the NVM, durable, and gates behind them.
-ghost use Rattle.std.specs.Prelude.{◌≡◌, ◌<◌, ℕ, [], ◌∷◌};
+ghost use Rattle.std.specs.Prelude.{◌<◌, [], ◌∷◌};
 ghost use Rattle.devices.specs.State.Call.{store_word, store_line, flush, fence};
 ghost use Rattle.devices.specs.World.{Goes, MakesAll, NvmCause};
 ghost use Rattle.nvm_log.specs.Puts.{line_put, gate_put};

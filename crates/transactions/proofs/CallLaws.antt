@@ -1,5 +1,5 @@
 -- The calls of a function that begins with a load.
-use Rattle.std.proofs.Common.{◌≡◌, ℕ, List, [], ◌∷◌, subst, arith, IsTrue, Result, Ok, Err}
+use Rattle.std.proofs.Common.{◌≡◌, ℕ, List, [], subst, arith, IsTrue, Result, Ok, Err}
 use Rattle.std.specs.Prelude.{OnOk}
 use Rattle.devices.specs.State.{Call}
 use Rattle.devices.specs.World.{Standing, Goes, Stays, MakesAll, now}
