@@ -7,8 +7,9 @@ use crate::geometry::Geometry;
 use crate::superblock::Super;
 use line_pages::Evidence;
 
-/// The magic word, whose bytes in order are `SPITFIR1`.
-const MAGIC: u64 = 0x3152_4946_5449_5053;
+/// The magic word of a store: word 0 of line 0 of its NVM, whose bytes from the lowest to the highest are `SPITFIR1`. With any
+/// other word there, `read_super` answers `NotAStore`.
+pub const MAGIC: u64 = 0x3152_4946_5449_5053;
 
 /// The largest tail with which a store is opened: 2^61.
 const LAST_TAIL: u64 = 0x2000_0000_0000_0000;

@@ -13,4 +13,5 @@ mod tests;
 
 pub use errors::SuperError;
 pub use geometry::Geometry;
+pub use judging::MAGIC;
 pub use superblock::{Super, read_super};

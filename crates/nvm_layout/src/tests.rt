@@ -1,12 +1,9 @@
 //! Sizes and places of worked geometries, and each answer of reading a superblock on a world in memory.
-use crate::{Geometry, Super, SuperError, read_super};
+use crate::{Geometry, MAGIC, Super, SuperError, read_super};
 use devices::{Devices, Fault, FaultKind, MemWorld};
 use line_pages::Evidence;
 use nvm_model::Line;
 use std::alloc::Global;
-
-/// The magic word.
-const NAME: u64 = 0x3152_4946_5449_5053;
 
 /// The geometry that settings without keys have.
 fn defaults() -> Geometry {
@@ -28,6 +25,11 @@ fn small() -> Geometry {
         frames: 10,
         log_blocks: 31,
     }
+}
+
+#[test]
+fn magic_word_is_its_bytes(rt: HostRuntime) {
+    assert_eq!(rt; MAGIC.to_le_bytes(), *b"SPITFIR1");
 }
 
 #[test]
@@ -81,7 +83,7 @@ fn answer(
 
 /// What the small store is read as with these gates.
 fn gates(alloc: Global, start: u64, tail: u64) -> Option<Result<Super, SuperError>> {
-    answer(alloc, 2706, 46, &head(NAME, 1, 10), start, tail, &[])
+    answer(alloc, 2706, 46, &head(MAGIC, 1, 10), start, tail, &[])
 }
 
 /// What damage of the small store is told as.
@@ -111,17 +113,18 @@ fn reads_gates(rt: HostRuntime) {
 fn tests_sizes_in_order(rt: HostRuntime) {
     let alloc = rt.alloc();
     assert!(rt;
-        answer(alloc, 3, 46, &head(NAME, 1, 10), 0, 0, &[]) == Some(Err(SuperError::TooSmall))
+        answer(alloc, 3, 46, &head(MAGIC, 1, 10), 0, 0, &[]) == Some(Err(SuperError::TooSmall))
     );
     assert!(rt;
-        answer(alloc, 4, 46, &head(NAME + 1, 63, 10), 0, 0, &[]) == Some(Err(SuperError::NotAStore))
+        answer(alloc, 4, 46, &head(MAGIC + 1, 63, 10), 0, 0, &[])
+            == Some(Err(SuperError::NotAStore))
     );
-    assert!(rt; answer(alloc, 4, 46, &head(NAME, 63, 10), 2, 1, &[]) == damage(63, 2, 1, 1));
+    assert!(rt; answer(alloc, 4, 46, &head(MAGIC, 63, 10), 2, 1, &[]) == damage(63, 2, 1, 1));
     assert!(rt;
-        answer(alloc, 2705, 46, &head(NAME, 1, 10), 2, 1, &[]) == Some(Err(SuperError::TooSmall))
+        answer(alloc, 2705, 46, &head(MAGIC, 1, 10), 2, 1, &[]) == Some(Err(SuperError::TooSmall))
     );
     assert!(rt;
-        answer(alloc, 2706, 45, &head(NAME, 1, 10), 2, 1, &[]) == Some(Err(SuperError::TooSmall))
+        answer(alloc, 2706, 45, &head(MAGIC, 1, 10), 2, 1, &[]) == Some(Err(SuperError::TooSmall))
     );
 }
 
@@ -129,7 +132,7 @@ fn tests_sizes_in_order(rt: HostRuntime) {
 fn each_page_needs_a_frame(rt: HostRuntime) {
     let words = [1, 2, 1, 9, 31, 0, 0, 0];
     let told = Some(Err(SuperError::Damaged(Evidence::Super { words, check: 1 })));
-    assert!(rt; answer(rt.alloc(), 2706, 46, &head(NAME, 1, 9), 0, 0, &[]) == told);
+    assert!(rt; answer(rt.alloc(), 2706, 46, &head(MAGIC, 1, 9), 0, 0, &[]) == told);
 }
 
 #[test]
@@ -140,7 +143,7 @@ fn each_load_may_fail(rt: HostRuntime) {
             nth,
         }];
         assert!(rt;
-            answer(rt.alloc(), 2706, 46, &head(NAME, 1, 10), 0, 0, &fail)
+            answer(rt.alloc(), 2706, 46, &head(MAGIC, 1, 10), 0, 0, &fail)
                 == Some(Err(SuperError::Nvm))
         );
     }

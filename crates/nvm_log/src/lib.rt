@@ -14,4 +14,5 @@ mod tests;
 
 pub use head::{Head, read_head};
 pub use log::Log;
-pub use record::{EndKind, LineRecord};
+pub use putting::{put_gate, put_line};
+pub use record::{EndKind, LineRecord, eight};

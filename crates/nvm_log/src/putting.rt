@@ -1,27 +1,30 @@
 //! Lines that are put into the NVM, durable, and gates behind them.
-ghost use Rattle.std.specs.Prelude.{◌≡◌, ◌<◌, ℕ, [], ◌∷◌};
+ghost use Rattle.std.specs.Prelude.{◌<◌, [], ◌∷◌};
 ghost use Rattle.devices.specs.State.Call.{store_word, store_line, flush, fence};
 ghost use Rattle.devices.specs.World.{Goes, MakesAll, NvmCause};
+ghost use Rattle.nvm_log.specs.Puts.{line_put, gate_put};
 
 use devices::{Devices, Failed};
 use nvm_model::Line;
 
-/// Stores a line and flushes it.
-pub(crate) fn put_line<D: Devices>(dev: &mut D, line: u64, value: &Line) -> Result<(), Failed>
+/// Stores a line of eight words and flushes it; the next fence makes it durable. `line` counts lines of the NVM, from 0, and is
+/// below their number. `Failed` is a fault of the NVM: each word may then be the new one or not.
+pub fn put_line<D: Devices>(dev: &mut D, line: u64, value: &Line) -> Result<(), Failed>
     requires { line < (D.standing dev.old).lines }
     ensures goes { Goes (D.standing dev.old) (D.standing dev.new) }
-    ensures makes { MakesAll (store_line line value.now ∷ flush line ∷ []) (D.standing dev.old) (D.standing dev.new) result }
+    ensures makes { MakesAll (line_put line value.now) (D.standing dev.old) (D.standing dev.new) result }
     ensures cause { NvmCause (D.standing dev.old) (D.standing dev.new) result }
 {
     dev.store_line(line, value)?;
     dev.flush(line)
 }
 
-/// Stores a gate, durable.
-pub(crate) fn put_gate<D: Devices>(dev: &mut D, line: u64, value: u64) -> Result<(), Failed>
-    requires line { line < (D.standing dev.old).lines }
+/// Stores a gate, durable: word 0 of a line is stored, the line flushed, and a fence; its other seven words stay. `line` counts
+/// lines of the NVM, from 0, and is below their number. `Failed` is a fault of the NVM: the gate may then be the new one or not.
+pub fn put_gate<D: Devices>(dev: &mut D, line: u64, value: u64) -> Result<(), Failed>
+    requires { line < (D.standing dev.old).lines }
     ensures goes { Goes (D.standing dev.old) (D.standing dev.new) }
-    ensures makes { MakesAll (store_word line 0 value ∷ flush line ∷ fence ∷ []) (D.standing dev.old) (D.standing dev.new) result }
+    ensures makes { MakesAll (gate_put line value) (D.standing dev.old) (D.standing dev.new) result }
     ensures cause { NvmCause (D.standing dev.old) (D.standing dev.new) result }
 {
     dev.store_word(line, 0, value)?;

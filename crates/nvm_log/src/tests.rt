@@ -1,5 +1,5 @@
 //! Heads made by hand, each public call on a world in memory, and each fault in turn.
-use crate::{EndKind, Head, LineRecord, Log, read_head};
+use crate::{EndKind, Head, LineRecord, Log, put_gate, put_line, read_head};
 use devices::{Devices, Failed, Fault, FaultKind, MemWorld};
 use nvm_layout::{Geometry, Super};
 use nvm_model::Line;
@@ -166,6 +166,70 @@ fn word<D: Devices>(dev: &mut D, line: u64) -> Option<u64> {
         dev.load(line).ok().map(|found| found.words[0])
     } else {
         None
+    }
+}
+
+/// Puts a line where there is one.
+fn put<D: Devices>(dev: &mut D, place: u64, value: &Line) -> Option<Result<(), Failed>> {
+    if place < dev.nvm_lines() {
+        Some(put_line(dev, place, value))
+    } else {
+        None
+    }
+}
+
+/// Puts a gate where there is a line.
+fn put_word<D: Devices>(dev: &mut D, place: u64, value: u64) -> Option<Result<(), Failed>> {
+    if place < dev.nvm_lines() {
+        Some(put_gate(dev, place, value))
+    } else {
+        None
+    }
+}
+
+/// A line of the NVM.
+fn line_at<D: Devices>(dev: &mut D, place: u64) -> Option<Line> {
+    if place < dev.nvm_lines() {
+        dev.load(place).ok()
+    } else {
+        None
+    }
+}
+
+#[test]
+fn puts_a_line_and_a_gate(rt: HostRuntime) {
+    let Some(mut dev) = world(rt.alloc(), &[]) else {
+        return assert!(rt; false, "no memory");
+    };
+    assert_eq!(rt; put(&mut dev, 2705, &line(1, 2, 3)), Some(Ok(())));
+    assert_eq!(rt; line_at(&mut dev, 2705), Some(line(1, 2, 3)));
+    assert_eq!(rt; put_word(&mut dev, 2705, 7), Some(Ok(())));
+    assert_eq!(rt; line_at(&mut dev, 2705), Some(line(7, 2, 3)));
+}
+
+#[test]
+fn each_call_of_a_put_may_fail(rt: HostRuntime) {
+    for nth in 0..2 {
+        let fail = [Fault {
+            kind: FaultKind::Nvm,
+            nth,
+        }];
+        let Some(mut dev) = world(rt.alloc(), &fail) else {
+            return assert!(rt; false, "no memory");
+        };
+        assert_eq!(rt; put(&mut dev, 0, &line(1, 2, 3)), Some(Err(Failed)));
+        assert_eq!(rt; put(&mut dev, 0, &line(1, 2, 3)), Some(Ok(())));
+    }
+    for nth in 0..3 {
+        let fail = [Fault {
+            kind: FaultKind::Nvm,
+            nth,
+        }];
+        let Some(mut dev) = world(rt.alloc(), &fail) else {
+            return assert!(rt; false, "no memory");
+        };
+        assert_eq!(rt; put_word(&mut dev, 0, 7), Some(Err(Failed)));
+        assert_eq!(rt; put_word(&mut dev, 0, 7), Some(Ok(())));
     }
 }
 

@@ -7,7 +7,8 @@ use Rattle.devices.specs.State.Call.{flush}
 use Rattle.devices.specs.World.{Standing, Goes, MakesAll, Makes}
 use Rattle.devices.proofs.CallLaws.{makes_one, makes_then, makes_stop}
 use Rattle.devices.proofs.JoinLaws.{Moments-at}
-use Rattle.recovery.specs.Calls.{flush_calls, line_put}
+use Rattle.nvm_log.specs.Puts.{line_put}
+use Rattle.recovery.specs.Calls.{flush_calls}
 
 -- no call was made
 pub makes_none : {E : Type 0} (a : Standing) → MakesAll {T = Unit {0}} {E = E} [] a a (Ok tt)

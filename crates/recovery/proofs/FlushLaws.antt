@@ -6,7 +6,8 @@ use Rattle.nvm_model.specs.Word.{Word, IsSingle, marked, stored, trimmed}
 use Rattle.devices.specs.State.{State, Call, after_all, flushed, line_stored}
 use Rattle.devices.specs.Growth.{AreWithin}
 use Rattle.devices.proofs.StateLaws.{flushed_same, flushed_other, line_stored_same, line_stored_other}
-use Rattle.recovery.specs.Calls.{line_put, flush_calls}
+use Rattle.nvm_log.specs.Puts.{line_put}
+use Rattle.recovery.specs.Calls.{flush_calls}
 
 pub within_append : (stores : ℕ → ℕ → ℕ → Type 0) (writes : ℕ → Type 0) (xs ys : List Call) → AreWithin stores writes xs → AreWithin stores writes ys → AreWithin stores writes (xs ++ ys)
 within_append stores writes [] ys a b = b

@@ -28,7 +28,8 @@ use Rattle.store_meaning.proofs.FreshLaws.{fresh_stands}
 use Rattle.store_meaning.proofs.PutLaws.{single_at}
 use Rattle.store_meaning.proofs.RecoveredLaws.{line_of-same}
 use Rattle.store_laws.specs.OpenFacts.{super_with}
-use Rattle.recovery.specs.Calls.{line_put, gate_put, flush_calls, super_puts, pages_puts, prepare_calls, format_calls, sizes_line, number_line}
+use Rattle.nvm_log.specs.Puts.{line_put, gate_put}
+use Rattle.recovery.specs.Calls.{flush_calls, super_puts, pages_puts, prepare_calls, format_calls, sizes_line, number_line}
 use Rattle.recovery.specs.Empty.{catalog_line, IsEmptyStore, MayFormat, Formats}
 use Rattle.recovery.proofs.FlushLaws.{within_append, flushes_within, flushes_made, put_other, put_same, put_kept, fenced_single}
 

@@ -2,22 +2,15 @@
 use Rattle.std.specs.Prelude.{ℕ, zero, suc, ◌+◌, ◌*◌, List, [], ◌∷◌, ◌++◌, if◌then◌else◌}
 use Rattle.nvm_model.specs.declared.line.Line.{Line}
 use Rattle.devices.specs.State.{Call}
-use Rattle.devices.specs.State.Call.{store_word, store_line, flush, fence}
+use Rattle.devices.specs.State.Call.{store_line, flush, fence}
 use Rattle.store_meaning.specs.Layout.{Sizes, pages, frame_line}
 use Rattle.store_meaning.specs.Log.{Change, Entry, Group, Log, changes}
 use Rattle.store_meaning.specs.Log.Entry.{item, commit, abort}
 use Rattle.store_meaning.specs.Format.{magic}
 use Rattle.store_meaning.specs.Format.Format.{whole_lines}
 use Rattle.store_laws.specs.Calls.{checkpoint_calls}
+use Rattle.nvm_log.specs.Puts.{line_put, gate_put}
 use Rattle.recovery.specs.Empty.{catalog_line}
-
--- a line, stored and flushed
-abbrev pub line_put : ℕ → Line → List Call
-line_put line value = store_line line value ∷ flush line ∷ []
-
--- a gate, durable
-abbrev pub gate_put : ℕ → ℕ → List Call
-gate_put line value = store_word line 0 value ∷ flush line ∷ fence ∷ []
 
 -- so many lines flushed, from this one on
 abbrev pub flush_calls : ℕ → ℕ → List Call

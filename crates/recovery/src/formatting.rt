@@ -8,13 +8,11 @@ ghost use Rattle.recovery.specs.Empty.{catalog_line, MakesEmpty};
 ghost use Rattle.recovery.specs.Causes.{FormatCause, IsTooSmall};
 
 use crate::errors::FormatError;
-use crate::storing::{flush_lines, put_gate, put_line};
+use crate::storing::flush_lines;
 use devices::{Devices, Failed};
-use nvm_layout::Geometry;
+use nvm_layout::{Geometry, MAGIC};
+use nvm_log::{put_gate, put_line};
 use nvm_model::Line;
-
-/// The magic word, whose bytes in order are `SPITFIR1`.
-const MAGIC: u64 = 0x3152_4946_5449_5053;
 
 /// Makes an empty store, whose log begins at the offset 0. `TooSmall` comes, with nothing written, exactly where a device is
 /// smaller than the geometry needs; `Nvm` where that count of faults rose. The store can be opened where each page has a

@@ -1,9 +1,7 @@
 -- The calls of a function that begins with a load.
-use Rattle.std.proofs.Common.{◌≡◌, ℕ, List, [], ◌∷◌, subst, arith, IsTrue, Result, Ok, Err}
+use Rattle.std.proofs.Common.{◌≡◌, ℕ, List, [], subst, arith, IsTrue, Result, Ok, Err}
 use Rattle.std.specs.Prelude.{OnOk}
-use Rattle.nvm_model.specs.declared.line.Line.{Line}
 use Rattle.devices.specs.State.{Call}
-use Rattle.devices.specs.State.Call.{store_line, flush}
 use Rattle.devices.specs.World.{Standing, Goes, Stays, MakesAll, now}
 
 -- what holds, holds where a call answers ok
@@ -27,7 +25,3 @@ makes_told {old = old} {new = new} {r = r} {calls = calls} {calls' = calls'} e m
   where
     at_list : IsTrue old.told → MakesAll calls' old new r
     at_list told = subst (λ (cs : List Call). MakesAll cs old new r) (e told) makes
-
--- a line that is stored and flushed
-abbrev pub line_put : ℕ → Line → List Call
-line_put place value = store_line place value ∷ flush place ∷ []

@@ -8,7 +8,6 @@ mod book;
 mod checkpoint;
 mod commit;
 mod emptying;
-mod putting;
 mod snapshot;
 mod store;
 #[cfg(test)]

@@ -3,9 +3,9 @@ ghost use Rattle.std.specs.Prelude.{◌≡◌, ◌≤◌};
 
 use crate::book::Book;
 use crate::snapshot::Snapshot;
-use crate::writing::eight;
 use devices::{Devices, Failed};
 use line_pages::{Pages, Stop, whole_line};
+use nvm_log::eight;
 use nvm_model::Line;
 
 /// A book over the device that it stands for.

@@ -13,11 +13,10 @@ ghost use Rattle.store_meaning.specs.Append.{abort_lines};
 ghost use Rattle.store_meaning.specs.InPlace.{store_calls};
 ghost use Rattle.nvm_layout.specs.Sizes.{sizes_of};
 
-use crate::putting::put_line;
 use devices::{Devices, Failed};
 use line_pages::{Evidence, Stop};
 use nvm_layout::Geometry;
-use nvm_log::{EndKind, Head, Log, read_head};
+use nvm_log::{EndKind, Head, Log, put_line, read_head};
 use nvm_model::Line;
 
 /// A line of a page.

@@ -7,9 +7,8 @@ ghost use Rattle.store_laws.specs.Calls.{write_calls};
 ghost use Rattle.nvm_log.specs.Entries.{record_lines};
 
 use crate::book::Book;
-use crate::putting::put_line;
 use devices::{Devices, Failed};
-use nvm_log::LineRecord;
+use nvm_log::{LineRecord, put_line};
 use nvm_model::Line;
 
 impl Book {
@@ -64,11 +63,4 @@ impl Book {
         self.loose.insert(change.page, change.line as usize);
         Ok(())
     }
-}
-
-/// A line has eight words.
-pub(crate) fn eight(line: &Line)
-    ensures { IsLine line.now }
-{
-    let _words = line.words;
 }

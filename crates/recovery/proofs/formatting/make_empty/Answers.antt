@@ -3,7 +3,7 @@ use Rattle.devices.proofs.MomentLaws.{Goes-trans}
 use Rattle.devices.proofs.CallLaws.{makes_then, makes_stop}
 use Rattle.store_meaning.specs.Format.{magic}
 use Rattle.store_meaning.specs.Format.Format.{whole_lines}
-use Rattle.recovery.specs.Calls.{gate_put}
+use Rattle.nvm_log.specs.Puts.{gate_put}
 use Rattle.recovery.proofs.formatting.make_empty.Goals as goal
 
 pub returns-in_err-prepare-clause-makes : goal.returns-in_err-prepare-clause-makes

@@ -1,7 +1,8 @@
 -- The lines join, one behind the other.
 use Rattle.devices.proofs.MomentLaws.{Goes-trans}
 use Rattle.devices.proofs.CallLaws.{makes_then, makes_stop}
-use Rattle.recovery.specs.Calls.{line_put, number_line}
+use Rattle.nvm_log.specs.Puts.{line_put}
+use Rattle.recovery.specs.Calls.{number_line}
 use Rattle.recovery.proofs.CallsLaws.{put_is}
 use Rattle.recovery.proofs.formatting.put_ends.Goals as goal
 

@@ -4,7 +4,7 @@ use Rattle.devices.proofs.CallLaws.{makes_then, makes_stop}
 use Rattle.nvm_model.specs.declared.line.Line.{Line}
 use Rattle.store_meaning.specs.Layout.{frame_line}
 use Rattle.nvm_layout.specs.Sizes.{sizes_of}
-use Rattle.recovery.specs.Calls.{line_put}
+use Rattle.nvm_log.specs.Puts.{line_put}
 use Rattle.recovery.specs.Empty.{catalog_line}
 use Rattle.recovery.proofs.CallsLaws.{makes_as, flushes_are}
 use Rattle.recovery.proofs.formatting.put_pages.Goals as goal

@@ -9,8 +9,9 @@ use Rattle.store_meaning.specs.Layout.{frame_line}
 use Rattle.store_meaning.specs.Append.{record_of}
 use Rattle.store_meaning.specs.Put.{append_calls}
 use Rattle.store_meaning.specs.InPlace.{store_calls}
+use Rattle.nvm_log.specs.Puts.{line_put}
 use Rattle.transactions.specs.StoreStanding.{book_sizes}
-use Rattle.transactions.proofs.CallLaws.{makes_none, makes_told, line_put}
+use Rattle.transactions.proofs.CallLaws.{makes_none, makes_told}
 use Rattle.transactions.proofs.BookLaws.{write_holds}
 use Rattle.transactions.proofs.book.Book.write_in_place.Goals as goal
 
