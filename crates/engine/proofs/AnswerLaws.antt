@@ -1,12 +1,11 @@
 -- What the answers of tables mean for the state that an engine shows.
-use Rattle.std.proofs.Common.{◌≡◌, ℕ, ◌+◌, ◌*◌, ◌/◌, ◌<◌, ◌≤◌, Bool, true, false, List, [], ◌∷◌, ◌++◌, length, refl, sym, ap, subst, ◌∙◌, arith, Some, None, Option, is_some, IsTrue}
+use Rattle.std.proofs.Common.{◌≡◌, ℕ, ◌+◌, ◌*◌, ◌/◌, ◌<◌, ◌≤◌, true, false, List, [], ◌∷◌, length, refl, sym, ap, subst, ◌∙◌, arith, Some, None, Option, is_some}
 use Rattle.std.specs.Prelude.{unwrap_or}
 use Rattle.devices.specs.World.{Standing as Device, now}
 use Rattle.line_pages.specs.Lines.{Lines}
 use Rattle.slotted_page.specs.Rows.{Row, row_put, row_delete}
-use Rattle.store_meaning.specs.Layout.{Sizes, pages}
+use Rattle.store_meaning.specs.Layout.{pages}
 use Rattle.store_laws.specs.ShownPages.{pages_in}
-use Rattle.table_catalog.specs.declared.limits.Limits.{Limits}
 use Rattle.table_catalog.specs.Catalog.{Table, tables}
 use Rattle.table_catalog.specs.Stored.{rows_of, with_rows, is_known}
 use Rattle.table_store.specs.Created.{Makes}
@@ -18,10 +17,8 @@ use Rattle.table_store.specs.declared.answer.Deleted.TheVariants as deleted
 use Rattle.transactions.specs.declared.book.Book.{Book}
 use Rattle.script.specs.Tables.{with_table}
 use Rattle.script.specs.Machine.{Bounds, State, Open, current, written, rows_in, step}
-use Rattle.script.specs.declared.command.Command.{Command}
 use Rattle.script.specs.declared.command.Command.TheVariants as command
 use Rattle.script.specs.declared.command.Reason.TheVariants as reason
-use Rattle.script.specs.declared.command.Reply.{Reply}
 use Rattle.script.specs.declared.command.Reply.TheVariants as reply
 use Rattle.engine.specs.declared.engine.Engine.{Engine}
 use Rattle.engine.specs.Commands.{reason_of}

@@ -1,7 +1,7 @@
 -- Why calls of an engine stop, by why those of its store do.
-use Rattle.std.proofs.Common.{◌≡◌, ◌⊎◌, ℕ, List, refl, sym, ap, subst, inl, inr, false, true, IsTrue, Result, Ok, Err}
-use Rattle.std.specs.Prelude.{OnOk, IfErr, IsErr, IsErrAnd}
-use Rattle.devices.specs.World.{Standing as Device, now}
+use Rattle.std.proofs.Common.{◌≡◌, ℕ, sym, subst, false, true, IsTrue, Result, Ok, Err}
+use Rattle.std.specs.Prelude.{IsErr, IsErrAnd}
+use Rattle.devices.specs.World.{Standing as Device}
 use Rattle.line_pages.specs.declared.stop.Evidence.{Evidence}
 use Rattle.line_pages.specs.declared.stop.Stop.{Stop}
 use Rattle.line_pages.specs.declared.stop.Stop.TheVariants.{Nvm, Ssd, Damaged}

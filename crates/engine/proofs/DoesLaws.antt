@@ -1,15 +1,13 @@
 -- What a call on the store of an engine makes of the plain machine's state.
-use Rattle.std.proofs.Common.{◌≡◌, ◌⊎◌, ℕ, ◌+◌, ◌*◌, ◌<◌, ◌≤◌, min, List, refl, sym, ap, ◌∙◌, subst, inl, inr, arith, true, false, Bool, IsTrue, Result, Ok, Err, Option, Some, None, append-nil, [], length}
-use Rattle.std.specs.Prelude.{OnOk, IfErr, IfOk}
+use Rattle.std.proofs.Common.{◌≡◌, ◌⊎◌, ℕ, ◌+◌, ◌<◌, ◌≤◌, min, List, sym, ap, ◌∙◌, subst, inl, inr, arith, IsTrue, Result}
+use Rattle.std.specs.Prelude.{OnOk, IfErr}
 use Rattle.std.proofs.lemmas.Bool.{cases_lt}
 use Rattle.devices.specs.State.{State as Devices, Image, Leaves, fresh, current}
 use Rattle.devices.specs.World.{Standing, Goes, Moments, now}
-use Rattle.devices.proofs.JoinLaws.{Moments-at}
-use Rattle.devices.proofs.MomentLaws.{Goes-refl}
 use Rattle.line_pages.specs.Lines.{Lines}
-use Rattle.line_pages.specs.Standing.{Continues, KeepsLines}
+use Rattle.line_pages.specs.Standing.{Continues}
 use Rattle.line_pages.specs.declared.stop.Stop.{Stop}
-use Rattle.store_meaning.specs.Layout.{Sizes, pages, nvm_lines, ssd_blocks}
+use Rattle.store_meaning.specs.Layout.{ssd_blocks}
 use Rattle.store_meaning.proofs.AtEndLaws.{OnOk_map}
 use Rattle.store_laws.specs.OpenFacts.{OpenFacts}
 use Rattle.store_laws.specs.ShownPages.{pages_in, committed_in}
@@ -19,10 +17,10 @@ use Rattle.nvm_layout.specs.Sizes.{sizes_of}
 use Rattle.nvm_layout.specs.declared.geometry.Geometry.{Geometry}
 use Rattle.table_catalog.specs.Catalog.{Table}
 use Rattle.transactions.specs.declared.book.Book.{Book}
-use Rattle.transactions.specs.StoreStanding.{Apart, standing_of, past_of, book_sizes, reach, IsReady, IsSteady}
+use Rattle.transactions.specs.StoreStanding.{Apart, standing_of, book_sizes, reach, IsReady, IsSteady}
 use Rattle.script.specs.Machine.{State, current as current_tables}
 use Rattle.engine.specs.declared.engine.Engine.{Engine}
-use Rattle.engine.specs.Holds.{AreLimits, HoldsTables, HasEither, HasOnly, InOrder, Holds}
+use Rattle.engine.specs.Holds.{HoldsTables, HasEither, InOrder, Holds}
 use Rattle.engine.specs.Engine.{engine_sizes, StandsFor, IsSteadyFor, Shows, IsFault}
 use Rattle.engine.specs.Steps.{Does}
 use Rattle.engine.proofs.HoldsLaws.{image_in_order, open_image, open_in_order, open_holds}

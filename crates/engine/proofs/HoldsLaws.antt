@@ -1,22 +1,21 @@
 -- When devices are in order with the tables of a store.
-use Rattle.std.proofs.Common.{◌≡◌, ℕ, ◌<◌, ◌≤◌, refl, sym, ap, ◌∙◌, subst, arith, false, true, IsTrue, Option, Some, None, List}
+use Rattle.std.proofs.Common.{◌≡◌, ℕ, ◌<◌, ◌≤◌, sym, ap, ◌∙◌, subst, arith, false, Some, None, List}
 use Rattle.std.proofs.Math.Bridge.{le_prop}
 use Rattle.devices.specs.State.{State, Image, Leaves, current, fresh}
-use Rattle.devices.specs.World.{Standing, now}
 use Rattle.devices.proofs.FreshLaws.{fresh_only}
-use Rattle.nvm_model.specs.Word.{IsSingle, IsSteady}
+use Rattle.nvm_model.specs.Word.{IsSingle}
 use Rattle.line_pages.specs.Lines.{Lines}
-use Rattle.store_meaning.specs.Layout.{Sizes, pages, nvm_lines, ssd_blocks, frame_line}
+use Rattle.store_meaning.specs.Layout.{Sizes, pages, nvm_lines, ssd_blocks}
 use Rattle.store_meaning.specs.Format.Format.{whole_lines}
 use Rattle.store_meaning.specs.Log.{is_logged}
-use Rattle.store_meaning.specs.Recovered.{Super, super_of, super_check, image_log_check, log_of, recovered_pages, IsStore as IsStoreImage}
+use Rattle.store_meaning.specs.Recovered.{super_of, super_check, image_log_check, log_of, recovered_pages}
 use Rattle.store_meaning.specs.InOrder.{Stands, IsNamed, HomeStands}
-use Rattle.store_meaning.specs.StoreFacts.{Bookkeeping, Changing, Gate, GatesAreOne, NamedIsDurable, IsWord}
+use Rattle.store_meaning.specs.StoreFacts.{Changing, Gate, NamedIsDurable}
 use Rattle.store_meaning.proofs.CheckLaws.{checks_none}
 use Rattle.store_meaning.proofs.FactsLaws.{current_leaves}
 use Rattle.store_meaning.proofs.FreshLaws.{fresh_stands}
 use Rattle.store_laws.specs.OpenFacts.{OpenFacts, keeping}
-use Rattle.store_laws.specs.ShownPages.{pages_in, committed_in}
+use Rattle.store_laws.specs.ShownPages.{committed_in}
 use Rattle.store_laws.specs.Steps.{IsStoreOf}
 use Rattle.store_laws.proofs.OpenLaws.{open_pages, open_store, same_store}
 use Rattle.table_catalog.specs.declared.limits.Limits.{Limits}

@@ -1,17 +1,12 @@
 -- What an engine is that was made of a recovered store.
-use Rattle.std.proofs.Common.{◌≡◌, ℕ, ◌+◌, ◌*◌, ◌^◌, ◌<◌, ◌≤◌, List, refl, sym, ap, ◌∙◌, subst, arith, true, false, IsTrue, Result, Ok, Err}
-use Rattle.std.specs.Prelude.{IfOk, IsErr, IsErrAnd}
-use Rattle.devices.specs.State.{State as Devices, Image, Leaves, current, fresh}
+use Rattle.std.proofs.Common.{◌≡◌, ◌^◌, ◌≤◌, List, sym, ap, ◌∙◌, subst, arith, true, false, IsTrue}
+use Rattle.devices.specs.State.{State as Devices, current, fresh}
 use Rattle.devices.specs.World.{Standing, Goes, Moments, now}
-use Rattle.line_pages.specs.Lines.{Lines}
 use Rattle.line_pages.specs.LineSets.{pages_of}
 use Rattle.store_meaning.specs.Layout.{Sizes, pages, nvm_lines, ssd_blocks, is_allowed}
-use Rattle.store_meaning.specs.Format.Format.{whole_lines}
-use Rattle.store_meaning.specs.Recovered.{super_of, recovered_pages}
 use Rattle.store_meaning.proofs.FactsLaws.{current_leaves}
 use Rattle.store_laws.specs.OpenFacts.{OpenFacts}
 use Rattle.store_laws.specs.ShownPages.{pages_in, committed_in}
-use Rattle.store_laws.specs.Steps.{IsStoreOf}
 use Rattle.nvm_layout.specs.Sizes.{sizes_of}
 use Rattle.nvm_layout.specs.declared.geometry.Geometry.{Geometry}
 use Rattle.nvm_log.specs.declared.log.Log.{Log}
@@ -19,12 +14,10 @@ use Rattle.table_catalog.specs.Catalog.{Table}
 use Rattle.transactions.specs.StoreStanding.{reach, IsReady}
 use Rattle.transactions.proofs.NewLaws.{new_ready, new_steady}
 use Rattle.recovery.specs.Opening.{Recovered, AreParts, KeepsStore}
-use Rattle.recovery.specs.Recovering.{LeavesStores}
 use Rattle.recovery.specs.declared.opening.Parts.{Parts}
-use Rattle.script.specs.Machine.{opening}
 use Rattle.engine.specs.declared.engine.Engine.{Engine}
-use Rattle.engine.specs.Holds.{AreLimits, HoldsTables, Holds, HasOnly, InOrder}
-use Rattle.engine.specs.Engine.{engine_sizes, StandsFor, IsSteadyFor, Shows}
+use Rattle.engine.specs.Holds.{HoldsTables, Holds, HasOnly, InOrder}
+use Rattle.engine.specs.Engine.{engine_sizes, StandsFor, IsSteadyFor}
 use Rattle.engine.specs.Opening.{IsOver, ShowsHeld}
 use Rattle.engine.specs.Resting.{Rests}
 use Rattle.engine.proofs.HoldsLaws.{holds_same, image_in_order}

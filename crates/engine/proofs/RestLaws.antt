@@ -1,10 +1,9 @@
 -- Where nothing is written all lines stay, and a page that is shown is one of theirs.
-use Rattle.std.proofs.Common.{◌≡◌, ◌∙◌, ℕ, List, [], ◌∷◌, refl, sym, ap, subst, inl, inr, true, false, Bool, IsTrue, Result, Ok, Err, Option, Some, None}
+use Rattle.std.proofs.Common.{◌≡◌, ◌∙◌, ℕ, List, [], ◌∷◌, refl, sym, ap, subst, inl, inr, true, false, Bool, IsTrue, Result, Ok, Err, Option, Some}
 use Rattle.std.specs.Prelude.{OnOk, IfErr, IsErr, IsErrAnd, ◌&&◌}
 use Rattle.std.specs.List.{list_all}
 use Rattle.devices.specs.World.{Standing as Device, now}
 use Rattle.line_pages.specs.declared.stop.Evidence.{Evidence}
-use Rattle.line_pages.specs.declared.stop.Evidence.TheVariants as evidence
 use Rattle.line_pages.specs.declared.stop.Evidence.TheVariants.{Super, Frames, Log, Page, Walk}
 use Rattle.line_pages.specs.declared.stop.Stop.{Stop}
 use Rattle.line_pages.specs.declared.stop.Stop.TheVariants.{Nvm, Ssd, Damaged}
@@ -15,7 +14,7 @@ use Rattle.line_pages.specs.Standing.{Standing, Continues, HasCause, KeepsLines 
 use Rattle.slotted_page.specs.Search.{Keeps, IsNodeDamage}
 use Rattle.slotted_page.specs.declared.work.Work.{Work}
 use Rattle.store_meaning.specs.Layout.{Sizes, pages}
-use Rattle.store_laws.specs.ShownPages.{pages_in, committed_in}
+use Rattle.store_laws.specs.ShownPages.{pages_in}
 use Rattle.store_laws.specs.Steps.{MayLeave}
 use Rattle.table_catalog.specs.declared.limits.Limits.{Limits}
 use Rattle.table_catalog.specs.Catalog.{IsCatalogDamage}
@@ -27,7 +26,6 @@ use Rattle.transactions.specs.TakenBack.{StopsFor, IsDamage as IsLogDamage}
 use Rattle.script.specs.Grammar.{command_in, command_of}
 use Rattle.script.specs.declared.command.Command.{Command}
 use Rattle.engine.specs.declared.engine.Engine.{Engine}
-use Rattle.engine.specs.declared.scan.Step.{Step}
 use Rattle.script.specs.declared.command.Reply.{Reply}
 use Rattle.engine.specs.Answers.{said_of}
 use Rattle.engine.specs.Causes.{IsNameDamage, IsRowDamage}

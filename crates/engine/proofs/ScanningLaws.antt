@@ -1,11 +1,10 @@
 -- A scan, row by row, over the rows of a table in order.
-use Rattle.std.proofs.Common.{◌≡◌, ℕ, ◌+◌, ◌-◌, ◌<◌, ◌≤◌, min, Bool, true, false, cond, List, [], ◌∷◌, ◌++◌, map, length, refl, sym, ap, subst, ◌∙◌, arith, inl, inr, Some, None, Option, IsTrue, Result, Ok, Err}
-use Rattle.std.specs.Prelude.{◌&&◌, ◌==◌, nat_le, bytes_eq, unwrap_or}
+use Rattle.std.proofs.Common.{◌≡◌, ℕ, ◌+◌, ◌-◌, ◌<◌, ◌≤◌, min, Bool, true, false, cond, List, [], ◌∷◌, ◌++◌, map, length, refl, sym, ap, subst, ◌∙◌, arith, inl, inr, Some, None, Option, Result, Ok, Err}
+use Rattle.std.specs.Prelude.{◌&&◌, nat_le, bytes_eq, unwrap_or}
 use Rattle.std.proofs.lemmas.Bool.{cases_Bool, cases_lt, cases_eq, le-leb, lt-leb, eq-eqb, ne_eqb}
 use Rattle.devices.specs.World.{Standing as Device}
 use Rattle.line_pages.specs.Lines.{Lines}
 use Rattle.line_pages.specs.Standing.{HasCause}
-use Rattle.line_pages.specs.declared.stop.Evidence.{Evidence}
 use Rattle.line_pages.specs.declared.stop.Stop.{Stop}
 use Rattle.line_pages.specs.declared.stop.Stop.TheVariants.{Nvm, Ssd, Damaged}
 use Rattle.line_pages.specs.declared.touches.Accesses.{Accesses}
@@ -26,7 +25,7 @@ use Rattle.script.proofs.ScanLaws.{range_empty, range_none, range_past, range_ne
 use Rattle.engine.specs.declared.engine.Engine.{Engine}
 use Rattle.engine.specs.declared.scan.Scan.{Scan}
 use Rattle.engine.specs.Commands.{shown}
-use Rattle.engine.specs.Engine.{StandsFor, Shows, IsTransaction}
+use Rattle.engine.specs.Engine.{StandsFor, Shows}
 use Rattle.engine.specs.Scanning.{behind, ended, reply_by, scan_by, Gives}
 use Rattle.engine.specs.Steps.{Does, scan_replies, rows_left, calls_left}
 use Rattle.engine.proofs.CommandLaws.{transaction_by}

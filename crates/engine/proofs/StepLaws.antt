@@ -1,7 +1,7 @@
 -- What the commands of a script make of an engine.
-use Rattle.std.proofs.Common.{◌≡◌, ℕ, ◌+◌, ◌≤◌, List, refl, sym, ap, ◌∙◌, subst, inl, inr, arith, true, false, not, Bool, IsTrue, Result, Ok, Err, Option, Some, None, [], ◌∷◌, ◌++◌, append-nil, is_some}
-use Rattle.std.specs.Prelude.{OnOk, IfOk, IfErr, IsErr, IsErrAnd}
-use Rattle.devices.specs.World.{Standing, Goes, now}
+use Rattle.std.proofs.Common.{◌≡◌, ℕ, List, refl, sym, ap, ◌∙◌, subst, true, false, not, Bool, IsTrue, Result, Ok, Err, Option, Some, None, [], ◌∷◌, ◌++◌, append-nil, is_some}
+use Rattle.std.specs.Prelude.{IfOk, IsErr, IsErrAnd}
+use Rattle.devices.specs.World.{Standing}
 use Rattle.line_pages.specs.declared.stop.Evidence.{Evidence}
 use Rattle.line_pages.specs.declared.stop.Stop.{Stop}
 use Rattle.line_pages.specs.declared.stop.Stop.TheVariants.{Nvm, Ssd, Damaged}
@@ -22,7 +22,7 @@ use Rattle.engine.specs.declared.engine.Engine.{Engine}
 use Rattle.engine.specs.declared.scan.Step.{Step}
 use Rattle.engine.specs.declared.scan.Step.TheVariants.{Silent, Said}
 use Rattle.engine.specs.Holds.{bounds_in}
-use Rattle.engine.specs.Engine.{engine_sizes, StandsFor, IsSteadyFor, IsTransaction, Shows, IsFault}
+use Rattle.engine.specs.Engine.{engine_sizes, StandsFor, IsTransaction, Shows, IsFault}
 use Rattle.engine.specs.Commands.{shown}
 use Rattle.engine.specs.Causes.{IsDamage, Stops}
 use Rattle.engine.specs.Steps.{Does, Replies, after_command, after_line, step_replies, IsBegun}

@@ -1,5 +1,5 @@
 -- What the answers of tables mean for the plain machine.
-use Rattle.std.proofs.Common.{◌≡◌, ℕ, ◌+◌, ◌<◌, ◌≤◌, Bool, true, false, not, List, [], ◌∷◌, ◌++◌, map, zero-add, length, refl, sym, ap, subst, ◌∙◌, arith, inl, inr, Some, None, Option, is_some, cond}
+use Rattle.std.proofs.Common.{◌≡◌, ℕ, ◌+◌, ◌<◌, ◌≤◌, Bool, true, false, not, List, [], ◌∷◌, ◌++◌, map, zero-add, length, refl, sym, ap, ◌∙◌, arith, inl, inr, Some, None, Option, is_some, cond}
 use Rattle.std.specs.Prelude.{◌&&◌, ◌||◌, nat_le, nat_lt, bytes_eq, unwrap_or}
 use Rattle.std.proofs.lemmas.Bool.{cases_Bool, cases_lt, le-leb, lt-leb, lt-ltb, le-ltb}
 use Rattle.slotted_page.specs.Rows.{Row, row_get, row_put, row_delete}
@@ -9,12 +9,9 @@ use Rattle.table_catalog.specs.Stored.{rows_of, is_known, with_rows}
 use Rattle.table_store.specs.Getting.{got_of, found_value}
 use Rattle.table_store.specs.Putting.{stored_of}
 use Rattle.table_store.specs.Deleting.{deleted_of}
-use Rattle.table_store.specs.declared.answer.Stored.{Stored}
 use Rattle.table_store.specs.declared.answer.Stored.TheVariants as stored
-use Rattle.table_store.specs.declared.answer.Deleted.{Deleted}
 use Rattle.table_store.specs.declared.answer.Deleted.TheVariants as deleted
 use Rattle.table_store.specs.declared.answer.Got.{Got}
-use Rattle.table_store.specs.declared.answer.Got.TheVariants as got
 use Rattle.script.specs.Tables.{has_row, row_range, with_table}
 use Rattle.script.specs.Machine.{Bounds, State, Open, current, writes_so_far, first_true, transaction_wrong, table_wrong, writes_spent, tables_spent, rows_spent, is_full, accepted, written, found, scanned, rows_in, step, judged}
 use Rattle.script.specs.declared.command.Command.{Command}

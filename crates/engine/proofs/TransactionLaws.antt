@@ -1,28 +1,27 @@
 -- What the calls that open and end transactions mean for the plain machine.
-use Rattle.std.proofs.Common.{◌≡◌, ◌⊎◌, ℕ, ◌+◌, ◌*◌, ◌^◌, ◌<◌, ◌≤◌, List, refl, sym, ap, ◌∙◌, subst, inl, inr, arith, true, false, Bool, IsTrue, Result, Ok, Err, Option, Some, None, [], ◌∷◌, is_some}
-use Rattle.std.specs.Prelude.{OnOk, IfErr, IfOk, IsErr, IsErrAnd}
+use Rattle.std.proofs.Common.{◌≡◌, ℕ, ◌+◌, ◌^◌, ◌<◌, ◌≤◌, List, refl, sym, ap, ◌∙◌, subst, arith, true, false, IsTrue, Result, Ok, Err, Option, Some, None, [], ◌∷◌}
+use Rattle.std.specs.Prelude.{IfErr, IsErr, IsErrAnd}
 use Rattle.devices.specs.World.{Standing, Goes, now}
 use Rattle.devices.proofs.MomentLaws.{Goes-refl}
 use Rattle.line_pages.specs.Lines.{Lines}
 use Rattle.line_pages.specs.declared.stop.Stop.{Stop}
 use Rattle.line_pages.specs.declared.stop.Stop.TheVariants.{Nvm, Ssd, Damaged}
-use Rattle.store_meaning.specs.Layout.{Sizes, pages, nvm_lines, ssd_blocks}
+use Rattle.store_meaning.specs.Layout.{ssd_blocks}
 use Rattle.store_laws.specs.ShownPages.{pages_in, committed_in}
 use Rattle.store_laws.specs.Steps.{MayLeave}
 use Rattle.nvm_layout.specs.Sizes.{sizes_of}
 use Rattle.nvm_layout.specs.declared.geometry.Geometry.{Geometry}
 use Rattle.table_catalog.specs.Catalog.{Table}
 use Rattle.transactions.specs.declared.book.Book.{Book}
-use Rattle.transactions.specs.StoreStanding.{book_sizes, reach, kept_lines, reserve, IsReady, IsSteady}
+use Rattle.transactions.specs.StoreStanding.{reach, kept_lines, IsReady, IsSteady}
 use Rattle.transactions.specs.StoreCalls as store
 use Rattle.transactions.specs.StoreCalls.{StoreCall, IsCommitted, IsOldOrNew, KeepsLines, CommitsLines, AbortsLines, Begins, Ends, Checkpoints, FaultCause}
 use Rattle.script.specs.Machine.{Bounds, State, Open, current, step, accepted}
-use Rattle.script.specs.declared.command.Command.{Command}
 use Rattle.script.specs.declared.command.Command.TheVariants as command
 use Rattle.script.specs.declared.command.Reply.TheVariants as reply
 use Rattle.engine.specs.declared.engine.Engine.{Engine}
-use Rattle.engine.specs.Holds.{AreLimits, HoldsTables, bounds_in}
-use Rattle.engine.specs.Engine.{engine_sizes, StandsFor, IsSteadyFor, IsTransaction, Shows, IsFault}
+use Rattle.engine.specs.Holds.{HoldsTables, bounds_in}
+use Rattle.engine.specs.Engine.{engine_sizes, StandsFor, IsTransaction, Shows, IsFault}
 use Rattle.engine.specs.Steps.{Does, Replies, after_command}
 use Rattle.engine.proofs.HoldsLaws.{holds_same}
 use Rattle.engine.proofs.DoesLaws.{does_same, does_kept, does_chosen}

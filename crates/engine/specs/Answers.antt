@@ -12,7 +12,7 @@ use Rattle.engine.specs.declared.scan.Step.{Step}
 use Rattle.engine.specs.declared.scan.Step.TheVariants.{Said}
 use Rattle.engine.specs.Holds.{bounds_in}
 use Rattle.engine.specs.Engine.{engine_sizes, Shows}
-use Rattle.engine.specs.Steps.{Does, IsBegun, step_replies, after_command, after_line}
+use Rattle.engine.specs.Steps.{Does, IsBegun, step_replies, after_command}
 use Rattle.engine.specs.Causes.{Stops}
 use Rattle.engine.specs.Resting.{is_read, Reads}
 use Rattle.engine.specs.Refused.{LineStaysIfRefused}

@@ -1,6 +1,6 @@
 -- What the opening of an engine answers.
-use Rattle.std.specs.Prelude.{◌≡◌, ℕ, ◌<◌, ◌≤◌, List, Result, Ok, Err, IfOk, IsTrue}
-use Rattle.devices.specs.World.{Standing, Moments, now}
+use Rattle.std.specs.Prelude.{◌≡◌, ◌<◌, ◌≤◌, List, Result, Ok, Err, IfOk}
+use Rattle.devices.specs.World.{Standing, Moments}
 use Rattle.store_meaning.specs.Layout.{Sizes}
 use Rattle.nvm_layout.specs.Sizes.{sizes_of}
 use Rattle.table_catalog.specs.Catalog.{Table}
@@ -12,7 +12,7 @@ use Rattle.recovery.specs.declared.errors.OpenError.{OpenError}
 use Rattle.recovery.specs.declared.errors.OpenError.TheVariants.{TooSmall}
 use Rattle.script.specs.Machine.{opening}
 use Rattle.engine.specs.declared.engine.Engine.{Engine}
-use Rattle.engine.specs.Holds.{HasOnly, InOrder, Holds}
+use Rattle.engine.specs.Holds.{HasOnly}
 use Rattle.engine.specs.Engine.{engine_sizes, IsSteadyFor, Shows}
 
 -- The answer is that of a recovery: an engine of the sizes that it found, or its refusal.

@@ -1,18 +1,16 @@
-use Rattle.std.proofs.Common.{◌≡◌, ◌∙◌, ap, rules, Ok, Some, List, ◌∷◌, [], sym, true}
+use Rattle.std.proofs.Common.{ap, rules, Ok, Some}
 use Rattle.devices.specs.World.{now}
 use Rattle.store_laws.specs.ShownPages.{pages_in}
 use Rattle.transactions.specs.StoreStanding.{book_sizes}
-use Rattle.slotted_page.specs.Rows.{row_put, row_delete}
-use Rattle.script.specs.Machine.{State, current}
+use Rattle.script.specs.Machine.{current}
 use Rattle.script.specs.Tables.{with_table}
 use Rattle.script.specs.declared.command.Command.TheVariants as command
 use Rattle.script.specs.declared.command.Reason.TheVariants as reason
 use Rattle.script.specs.declared.command.Reply.TheVariants as reply
-use Rattle.engine.specs.Engine.{Shows}
 use Rattle.engine.specs.Steps.{after_command}
 use Rattle.engine.proofs.CommandLaws.{on_device, does_fails, does_stays, does_writes, cause_fails, fault_is, store_shown}
 use Rattle.engine.proofs.RefusalLaws.{stays_kept}
-use Rattle.engine.proofs.AnswerLaws.{stepped, enough_pages, create_writes, make_holds, create_there, create_no_more}
+use Rattle.engine.proofs.AnswerLaws.{enough_pages, create_writes, make_holds, create_there, create_no_more}
 use Rattle.engine.proofs.engine.Engine.create_table.Goals as goal
 
 pub returns-in_err-create-clause-does : goal.returns-in_err-create-clause-does

@@ -1,16 +1,14 @@
-use Rattle.std.proofs.Common.{◌≡◌, ◌∙◌, ap, rules, Ok, Some, List, ◌∷◌, [], sym, true}
+use Rattle.std.proofs.Common.{◌∙◌, ap, rules, Ok, Some, sym}
 use Rattle.devices.specs.World.{now}
 use Rattle.store_meaning.specs.Layout.{pages}
 use Rattle.store_laws.specs.ShownPages.{pages_in}
 use Rattle.transactions.specs.StoreStanding.{book_sizes}
-use Rattle.slotted_page.specs.Rows.{row_put, row_delete}
-use Rattle.script.specs.Machine.{State, current}
-use Rattle.script.specs.Tables.{with_table}
+use Rattle.slotted_page.specs.Rows.{row_delete}
 use Rattle.script.specs.declared.command.Command.TheVariants as command
 use Rattle.script.specs.declared.command.Reason.TheVariants as reason
 use Rattle.script.specs.declared.command.Reply.TheVariants as reply
 use Rattle.table_store.specs.Changed.{IsChangeDamage}
-use Rattle.engine.specs.Engine.{Shows, engine_sizes}
+use Rattle.engine.specs.Engine.{engine_sizes}
 use Rattle.engine.specs.Steps.{after_command}
 use Rattle.engine.proofs.DoesLaws.{pages_geometry}
 use Rattle.engine.proofs.CommandLaws.{on_device, does_fails, does_stays, does_writes, cause_fails_at, fault_is, store_shown}

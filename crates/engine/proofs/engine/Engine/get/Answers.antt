@@ -1,13 +1,11 @@
-use Rattle.std.proofs.Common.{◌≡◌, ◌∙◌, ap, rules, Ok, Some, List, ◌∷◌, [], sym}
+use Rattle.std.proofs.Common.{◌∙◌, ap, rules, Ok, Some, List, ◌∷◌, [], sym}
 use Rattle.table_catalog.specs.Catalog.{Table}
 use Rattle.table_catalog.specs.Stored.{rows_of}
 use Rattle.table_store.specs.Getting.{got_of}
-use Rattle.script.specs.Machine.{State, step}
 use Rattle.script.specs.declared.command.Command.TheVariants.{Get}
 use Rattle.script.specs.declared.command.Reply.{Reply}
-use Rattle.engine.specs.Commands.{reply_of}
 use Rattle.engine.specs.Holds.{bounds_in}
-use Rattle.engine.specs.Engine.{engine_sizes, Shows}
+use Rattle.engine.specs.Engine.{engine_sizes}
 use Rattle.engine.specs.Steps.{after_command}
 use Rattle.engine.proofs.TableLaws.{get_gives}
 use Rattle.engine.proofs.CommandLaws.{on_device, does_fails, does_stays, cause_fails, fault_is, store_shown}

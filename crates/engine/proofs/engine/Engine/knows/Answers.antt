@@ -1,10 +1,9 @@
-use Rattle.std.proofs.Common.{◌≡◌, ◌∙◌, ap, refl, rules, Ok, List}
+use Rattle.std.proofs.Common.{◌∙◌, ap, refl, rules, Ok, List}
 use Rattle.line_pages.proofs.StandingLaws.{page_keeps}
 use Rattle.table_catalog.specs.Catalog.{Table}
 use Rattle.table_catalog.specs.Stored.{is_known}
 use Rattle.script.specs.Machine.{State}
 use Rattle.engine.proofs.CommandLaws.{on_device, does_fails, does_stays, cause_fails, fault_is, store_shown}
-use Rattle.engine.proofs.AnswerLaws.{put_spent}
 use Rattle.engine.proofs.RestLaws.{reads_name, reads_stays}
 use Rattle.engine.proofs.RefusalLaws.{stays_kept}
 use Rattle.engine.proofs.engine.Engine.knows.Goals as goal

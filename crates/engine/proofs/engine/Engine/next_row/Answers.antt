@@ -1,4 +1,4 @@
-use Rattle.std.proofs.Common.{◌≡◌, ◌∙◌, ap, List}
+use Rattle.std.proofs.Common.{◌∙◌, ap, List}
 use Rattle.table_catalog.specs.Catalog.{Table}
 use Rattle.table_catalog.specs.Stored.{rows_of}
 use Rattle.store_meaning.specs.Layout.{pages}

@@ -1,12 +1,9 @@
 -- Each command by its own call.
-use Rattle.std.proofs.Common.{subst, inl, inr, false, ◌≡◌}
-use Rattle.script.specs.Machine.{transaction_wrong}
-use Rattle.script.specs.declared.command.Command.{Command}
+use Rattle.std.proofs.Common.{inl, inr}
 use Rattle.script.specs.declared.command.Command.TheVariants as command
-use Rattle.engine.specs.Commands.{shown}
 use Rattle.engine.specs.Causes.{IsDamage}
 use Rattle.engine.proofs.CauseLaws.{causes_weaker}
-use Rattle.engine.proofs.StepLaws.{obeys_at, obeys_said, unread, not_false}
+use Rattle.engine.proofs.StepLaws.{obeys_at, obeys_said, unread}
 use Rattle.engine.proofs.engine.Engine.obey.Goals as goal
 
 pub returns-in-Create : goal.returns-in-Create

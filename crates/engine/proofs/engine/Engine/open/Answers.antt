@@ -1,8 +1,7 @@
 -- What was recovered is what the engine goes on with.
-use Rattle.std.specs.Prelude.{IfOk}
 use Rattle.std.proofs.lemmas.Result.{IfOk-from_err}
 use Rattle.engine.specs.Engine.{IsSteadyFor}
-use Rattle.engine.proofs.OpenLaws.{over_stands, over_low, over_shows, over_rests, over_steady, over_sizes, order_stays}
+use Rattle.engine.proofs.OpenLaws.{over_stands, over_shows, over_rests, over_steady, order_stays}
 use Rattle.engine.proofs.engine.Engine.open.Goals as goal
 
 pub returns-clause-stands : goal.returns-clause-stands

@@ -1,4 +1,4 @@
-use Rattle.std.proofs.Common.{◌≡◌, ◌∙◌, ap, Bool}
+use Rattle.std.proofs.Common.{◌∙◌, ap, Bool}
 use Rattle.script.specs.Machine.{State}
 use Rattle.script.specs.declared.command.Reason.{Reason}
 use Rattle.script.specs.declared.command.Reply.TheVariants as reply

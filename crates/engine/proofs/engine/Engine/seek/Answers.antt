@@ -1,4 +1,4 @@
-use Rattle.std.proofs.Common.{◌≡◌, ◌∙◌, ap, refl, rules, Ok, List, sym}
+use Rattle.std.proofs.Common.{◌∙◌, ap, refl, rules, Ok, List}
 use Rattle.table_catalog.specs.Catalog.{Table}
 use Rattle.table_catalog.specs.Stored.{rows_of}
 use Rattle.table_store.specs.Scanning.{next_of}

@@ -1,6 +1,5 @@
 -- A silent line, one of no form, and a command.
-use Rattle.std.proofs.Common.{sym, ◌∙◌, Ok}
-use Rattle.engine.specs.declared.scan.Step.TheVariants.{Silent, Said}
+use Rattle.std.proofs.Common.{sym, ◌∙◌}
 use Rattle.engine.proofs.StepLaws.{leads_silent, leads_none, leads_some}
 use Rattle.engine.proofs.engine.Engine.step.Goals as goal
 
