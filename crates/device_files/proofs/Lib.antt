@@ -1,3 +1,5 @@
-pub mod StreamLaws
+pub mod PositionLaws
+pub mod RunLaws
 pub mod LineLaws
+pub mod LearnLaws
 pub mod NvmFileLaws

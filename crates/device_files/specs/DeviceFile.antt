@@ -1,26 +1,27 @@
--- What a read and a write at a place of a file do, as far as the file's type says where it stands and what it holds.
-use Rattle.std.specs.Prelude.{◌≡◌, ℕ, List, Option, Some, IfSome, IsSome, IsSomeAnd}
-use Rattle.std.specs.Io.KnownBytes.{Appends}
+-- What a read and a write at a position do to the file of a device, as far as the file's type says what it holds.
+use Rattle.std.specs.Prelude.{◌≡◌, ℕ, List, Option, Some, IfSome, IsSomeAnd, drop}
 use Rattle.byteorder.specs.Endian.{little_number, IsRead}
 use Rattle.nvm_model.specs.declared.line.Line.{Line}
 use Rattle.device_files.specs.LineBytes.{line_start}
-use Rattle.device_files.specs.Streams.{padded}
+use Rattle.device_files.specs.Positioned.{padded, bytes_from, Writes}
 
--- From an open file that stood at `start` so many bytes were read, with zeros past its end, and it is still open.
-pub record ReadsAt {F : Type 0} (position : F → Option ℕ) (remaining : F → Option (List ℕ)) (start size : ℕ) (open_file new_file : Option F) (into : List ℕ) : Type 0 where
-  pub sought : F
-  pub placed : IfSome open_file (λ file. IfSome (position file) (λ _. position sought ≡ Some start))
-  pub filled : IfSome (remaining sought) (λ left. into ≡ padded size left)
-  pub stays_open : IsSome new_file
+-- From the file so many bytes were read from `start` on, with zeros past its end. It is open now, and one that was open is
+-- as it was.
+pub record ReadsAt {F : Type 0} (known : F → Option (List ℕ)) (start size : ℕ) (open_file new_file : Option F) (into : List ℕ) : Type 0 where
+  pub same : IfSome open_file (λ file. new_file ≡ Some file)
+  pub filled : IsSomeAnd new_file (λ file. IfSome (bytes_from (known file) start) (λ left. into ≡ padded size left))
 
--- To an open file that stood at `start` the bytes were written, and it is still open.
-pub record WritesAt {F : Type 0} (position : F → Option ℕ) (contents : F → Option (List ℕ)) (start : ℕ) (open_file new_file : Option F) (bytes : List ℕ) : Type 0 where
-  pub sought : F
-  pub placed : IfSome open_file (λ file. IfSome (position file) (λ _. position sought ≡ Some start))
-  pub written : IsSomeAnd new_file (λ file. Appends (contents sought) (contents file) bytes)
+-- To the file, as it was open or was opened now, the bytes were written from `start` on, and it is open.
+pub record WritesAt {F : Type 0} (known : F → Option (List ℕ)) (start : ℕ) (open_file new_file : Option F) (bytes : List ℕ) : Type 0 where
+  pub opened : F
+  pub same : IfSome open_file (λ file. opened ≡ file)
+  pub written : IsSomeAnd new_file (λ file. Writes start bytes (known opened) (known file))
 
--- The line was read where it stands.
-pub record LoadsLine {F : Type 0} (position : F → Option ℕ) (remaining : F → Option (List ℕ)) (line : ℕ) (open_file new_file : Option F) (found : Line) : Type 0 where
-  pub bytes : List ℕ
-  pub read : ReadsAt position remaining (line_start line) 64 open_file new_file bytes
-  pub words : IsRead little_number 8 bytes found.words
+-- among these bytes of a file the line has this value
+pub record IsLineOf (xs : List ℕ) (line : ℕ) (value : Line) : Type 0 where
+  pub words : IsRead little_number 8 (padded 64 (drop (line_start line) xs)) value.words
+
+-- The line was read where it stands. The file is open now, and one that was open is as it was.
+pub record LoadsLine {F : Type 0} (known : F → Option (List ℕ)) (line : ℕ) (open_file new_file : Option F) (found : Line) : Type 0 where
+  pub same : IfSome open_file (λ file. new_file ≡ Some file)
+  pub read : IsSomeAnd new_file (λ file. IfSome (known file) (λ xs. IsLineOf xs line found))

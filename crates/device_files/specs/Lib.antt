@@ -1,7 +1,9 @@
+pub mod Positioned
 pub mod LineBytes
-pub mod Streams
 pub mod DeviceFile
+pub mod PlacedLines
 pub mod Gathered
+pub mod Run
 pub mod LineCache
 pub mod LineMemory
 pub mod NvmFile

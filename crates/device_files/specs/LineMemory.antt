@@ -22,6 +22,11 @@ IsUnknown gathered cache line = (value : Line) → Recalls gathered cache line v
 pub record NoMore (line : ℕ) (gathered : Gathered) (cache : LineCache) (new_gathered : Gathered) (new_cache : LineCache) : Type 0 where
   pub each : (other : ℕ) (value : Line) → other ≢ line → Recalls new_gathered new_cache other value → Recalls gathered cache other value
 
+-- What is remembered now was remembered before, or it is of a line of which nothing was known, and is so.
+pub record Learns (IsSo : ℕ → Line → Type 0) (gathered : Gathered) (cache : LineCache) (new_gathered : Gathered) (new_cache : LineCache) : Type 0 where
+  pub same : new_gathered ≡ gathered
+  pub each : (line : ℕ) (value : Line) → Recalls new_gathered new_cache line value → Recalls gathered cache line value ⊎ (IsUnknown gathered cache line × IsSo line value)
+
 -- the other lines that were gathered still are
 pub record StillGathered (line : ℕ) (gathered new_gathered : Gathered) : Type 0 where
   pub each : (other : ℕ) (value : Line) → other ≢ line → IsGathered gathered other value → IsGathered new_gathered other value

@@ -1,11 +1,10 @@
 //! The file of a device: it is opened at its first use, for reading and writing, and made where it is absent.
-ghost use Rattle.std.specs.Prelude.{◌≡◌, length, None, Some, IfOk, IfSome, IsOk, OnOk};
+ghost use Rattle.std.specs.Prelude.{◌≡◌, ◌<◌, ◌+◌, ◌^◌, length, None, IfOk, IfSome, IsOk, OnOk};
 ghost use Rattle.device_files.specs.DeviceFile.{ReadsAt, WritesAt};
 
-use crate::streams::{drain, fill};
+use crate::positioned::{PositionedFile, drain_at, fill_at};
 use std::fs::{OpenFile, OpenOptions};
 use std::io;
-use std::io::{Read, Seek, SeekFrom, Write};
 use std::rt::Files;
 
 /// A file of the working folder that grows as it is written.
@@ -16,7 +15,10 @@ pub struct DeviceFile<'a, R: Files> {
     pub file: Option<R::File>,
 }
 
-impl<'a, R: Files> DeviceFile<'a, R> {
+impl<'a, R: Files> DeviceFile<'a, R>
+where
+    R::File: PositionedFile,
+{
     /// The file of this name, which is not opened yet.
     pub fn new(rt: &'a R, name: &'a str) -> DeviceFile<'a, R>
         ensures { result.file ≡ None }
@@ -30,20 +32,22 @@ impl<'a, R: Files> DeviceFile<'a, R> {
 
     /// Fills `into` with the bytes from `start` on. Past the file's end they are zeros.
     pub fn read_at(&mut self, start: u64, into: &mut [u8]) -> io::Result<()>
-        ensures { OnOk result (ReadsAt R.File.stream_position R.File.remaining start (length into.old) self.old.file self.new.file into.new) }
+        requires { start + length into.old < 2 ^ 64 }
+        ensures { OnOk result (ReadsAt R.File.known_bytes start (length into.old) self.old.file self.new.file into.new) }
     {
-        let mut file = self.opened()?;
-        let result = read_from(&mut file, start, into);
+        let file = self.opened()?;
+        let result = fill_at(&file, start, into);
         self.file = Some(file);
         result
     }
 
     /// Writes the bytes from `start` on. After an error any first part of them may have been written.
     pub fn write_at(&mut self, start: u64, bytes: &[u8]) -> io::Result<()>
-        ensures { OnOk result (WritesAt R.File.stream_position R.File.contents start self.old.file self.new.file bytes.now) }
+        requires { start + length bytes.now < 2 ^ 64 }
+        ensures { OnOk result (WritesAt R.File.known_bytes start self.old.file self.new.file bytes.now) }
     {
         let mut file = self.opened()?;
-        let result = write_from(&mut file, start, bytes);
+        let result = drain_at(&mut file, start, bytes);
         self.file = Some(file);
         result
     }
@@ -60,7 +64,7 @@ impl<'a, R: Files> DeviceFile<'a, R> {
     }
 
     /// The open file, which is to be put back.
-    fn opened(&mut self) -> io::Result<R::File>
+    pub fn opened(&mut self) -> io::Result<R::File>
         ensures { IfOk result (λ file. IfSome self.old.file (λ before. file ≡ before)) }
     {
         match self.file.take() {
@@ -89,20 +93,4 @@ pub fn open_above_streams<R: Files>(
     let _output = options.open(rt, name)?;
     let _errors = options.open(rt, name)?;
     options.open(rt, name)
-}
-
-fn read_from<F: Read + Seek>(file: &mut F, start: u64, into: &mut [u8]) -> io::Result<()>
-    ensures { OnOk result (ReadsAt F.stream_position F.remaining start (length into.old) (Some file.old) (Some file.new) into.new) }
-{
-    file.seek(SeekFrom::Start(start))?;
-    fill(file, into)?;
-    Ok(())
-}
-
-fn write_from<F: Write + Seek>(file: &mut F, start: u64, bytes: &[u8]) -> io::Result<()>
-    ensures { OnOk result (WritesAt F.stream_position F.contents start (Some file.old) (Some file.new) bytes.now) }
-{
-    file.seek(SeekFrom::Start(start))?;
-    drain(file, bytes)?;
-    Ok(())
 }

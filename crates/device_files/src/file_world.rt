@@ -1,12 +1,13 @@
 //! A world of files: the NVM is the file `nvm.img` of the working folder, the disk `ssd.img`, and the settings are
 //! `spitfire.toml`; script and output are the standard streams.
-ghost use Rattle.std.specs.Prelude.{OnOk};
+ghost use Rattle.std.specs.Prelude.{◌<◌, ◌+◌, ◌^◌, OnOk};
 ghost use Rattle.device_files.specs.DeviceFile.{ReadsAt};
 
 use crate::counts::{CallCounts, fault, raise};
 use crate::device_file::DeviceFile;
-use crate::line_bytes::start_of_block;
+use crate::line_bytes::{NVM_LINES, start_of_block};
 use crate::nvm_file::NvmFile;
+use crate::positioned::PositionedFile;
 use crate::settings_file::SettingsFile;
 use crate::streams::{read_some, write_some};
 use devices::{Devices, Failed, World};
@@ -14,8 +15,6 @@ use nvm_model::Line;
 use ssd_model::PageBuf;
 use std::io;
 use std::rt::Files;
-
-const NVM_LINES: u64 = 4_268_048;
 
 const SSD_BLOCKS: u64 = 31_033_269;
 
@@ -30,7 +29,10 @@ pub struct FileWorld<'a, R: Files + Input + Print> {
     pub(crate) counts: CallCounts,
 }
 
-impl<R: Files + Input + Print> FileWorld<'_, R> {
+impl<R: Files + Input + Print> FileWorld<'_, R>
+where
+    R::File: PositionedFile,
+{
     ghost use Rattle.std.specs.Prelude.{◌≡◌, None};
     ghost use Rattle.device_files.specs.FileWorld.{no_counts};
     ghost use Rattle.device_files.specs.Gathered.{IsEmpty};
@@ -54,8 +56,11 @@ impl<R: Files + Input + Print> FileWorld<'_, R> {
     }
 }
 
-impl<R: Files + Input + Print> Devices for FileWorld<'_, R> {
-    ghost use Rattle.std.specs.Prelude.{◌≡◌, ◌<◌, ℕ, None, IsTrue, IsOk, IfOk, OnErr, OnOk, Ok};
+impl<R: Files + Input + Print> Devices for FileWorld<'_, R>
+where
+    R::File: PositionedFile,
+{
+    ghost use Rattle.std.specs.Prelude.{◌≡◌, ℕ, None, IsTrue, IsOk, IfOk, OnErr, Ok};
     ghost use Rattle.devices.specs.State.{line_at};
     ghost use Rattle.devices.specs.State.Call.{store_word, store_line, flush, fence, write_block, sync};
     ghost use Rattle.devices.specs.World.{now, Goes, Stays, Makes, NvmCause, SsdCause, Counts};
@@ -86,7 +91,7 @@ impl<R: Files + Input + Print> Devices for FileWorld<'_, R> {
 
         // where the file's type says what it holds
         ensures known { (found : Line) → Recalls self.old.nvm.memory.gathered self.old.nvm.memory.cache line found → result ≡ Ok found }
-        ensures found { IfOk result (λ found. Loads R.File.stream_position R.File.remaining line self.old.nvm.device.file self.new.nvm.device.file self.old.nvm.memory self.new.nvm.memory found) }
+        ensures found { IfOk result (λ found. Loads R.File.known_bytes line self.old.nvm.device.file self.new.nvm.device.file self.old.nvm.memory self.new.nvm.memory found) }
         ensures unchanged { OnErr result (self.new.nvm.memory ≡ self.old.nvm.memory) }
     {
         match self.nvm.load(line) {
@@ -103,7 +108,7 @@ impl<R: Files + Input + Print> Devices for FileWorld<'_, R> {
         ensures cause { NvmCause (standing_of self.old.counts) (standing_of self.new.counts) result }
 
         // where the file's type says what it holds
-        ensures stored { OnOk result (StoresWord R.File.stream_position R.File.remaining R.File.contents line word value self.old.nvm.device.file self.new.nvm.device.file self.old.nvm.memory self.new.nvm.memory) }
+        ensures stored { OnOk result (StoresWord R.File.known_bytes line word value self.old.nvm.device.file self.new.nvm.device.file self.old.nvm.memory self.new.nvm.memory) }
         ensures unchanged { OnErr result (self.new.nvm.memory.gathered ≡ self.old.nvm.memory.gathered) }
     {
         match self.nvm.store_word(line, word, value) {
@@ -119,7 +124,7 @@ impl<R: Files + Input + Print> Devices for FileWorld<'_, R> {
         ensures cause { NvmCause (standing_of self.old.counts) (standing_of self.new.counts) result }
 
         // where the file's type says what it holds
-        ensures stored { OnOk result (Stores R.File.stream_position R.File.contents line value.now self.old.nvm.device.file self.new.nvm.device.file self.old.nvm.memory self.new.nvm.memory) }
+        ensures stored { OnOk result (Stores R.File.known_bytes line value.now self.old.nvm.device.file self.new.nvm.device.file self.old.nvm.memory self.new.nvm.memory) }
         ensures unchanged { OnErr result (self.new.nvm.memory ≡ self.old.nvm.memory) }
     {
         match self.nvm.store_line(line, value) {
@@ -148,7 +153,7 @@ impl<R: Files + Input + Print> Devices for FileWorld<'_, R> {
         ensures cause { NvmCause (standing_of self.old.counts) (standing_of self.new.counts) result }
 
         // where the file's type says what it holds
-        ensures written { OnOk result (Hands R.File.stream_position R.File.contents self.old.nvm.device.file self.new.nvm.device.file self.old.nvm.memory self.new.nvm.memory) }
+        ensures written { OnOk result (Hands R.File.known_bytes self.old.nvm.device.file self.new.nvm.device.file self.old.nvm.memory self.new.nvm.memory) }
         ensures unchanged { OnErr result (self.new.nvm.memory ≡ self.old.nvm.memory) }
         ensures idle { IsEmpty self.old.nvm.memory.gathered → IsOk result }
     {
@@ -167,7 +172,7 @@ impl<R: Files + Input + Print> Devices for FileWorld<'_, R> {
         ensures counts { Counts (standing_of self.old.counts) (standing_of self.new.counts) }
 
         // where the file's type says what it holds
-        ensures found { OnOk result (ReadsAt R.File.stream_position R.File.remaining (block_start block) 4096 self.old.ssd.file self.new.ssd.file into.new) }
+        ensures found { OnOk result (ReadsAt R.File.known_bytes (block_start block) 4096 self.old.ssd.file self.new.ssd.file into.new) }
     {
         raise(&mut self.counts.block_reads);
         match read_page(&mut self.ssd, start_of_block(block), into) {
@@ -184,7 +189,7 @@ impl<R: Files + Input + Print> Devices for FileWorld<'_, R> {
         ensures reads { (standing_of self.new.counts).block_reads ≡ (standing_of self.old.counts).block_reads }
 
         // where the file's type says what it holds
-        ensures written { OnOk result (WritesAt R.File.stream_position R.File.contents (block_start block) self.old.ssd.file self.new.ssd.file from.now) }
+        ensures written { OnOk result (WritesAt R.File.known_bytes (block_start block) self.old.ssd.file self.new.ssd.file from.now) }
     {
         match self.ssd.write_at(start_of_block(block), from.bytes()) {
             Ok(()) => Ok(()),
@@ -209,7 +214,10 @@ impl<R: Files + Input + Print> Devices for FileWorld<'_, R> {
     }
 }
 
-impl<R: Files + Input + Print> World for FileWorld<'_, R> {
+impl<R: Files + Input + Print> World for FileWorld<'_, R>
+where
+    R::File: PositionedFile,
+{
     ghost use Rattle.std.specs.Prelude.{◌≡◌, ◌<◌, ◌≤◌, ℕ, true, false, length, take, None, Ok, IsTrue, IfOk, IfSome, IsSome};
     ghost use Rattle.std.specs.Io.KnownBytes.{Consumes, IsAtEnd};
     ghost use Rattle.devices.specs.World.{WorldCall, OwnCause, ReadsNext, OnlyChanges};
@@ -272,7 +280,10 @@ fn read_page<R: Files>(
     start: u64,
     into: &mut PageBuf,
 ) -> io::Result<()>
-    ensures { OnOk result (ReadsAt R.File.stream_position R.File.remaining start 4096 file.old.file file.new.file into.new) }
+where
+    R::File: PositionedFile,
+    requires { start + 4096 < 2 ^ 64 }
+    ensures { OnOk result (ReadsAt R.File.known_bytes start 4096 file.old.file file.new.file into.new) }
 {
     let mut bytes = [0u8; 4096];
     file.read_at(start, &mut bytes)?;

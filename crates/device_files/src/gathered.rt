@@ -1,41 +1,40 @@
-//! Lines that were stored and not yet written: a run of neighbours, which one write takes.
-ghost use Rattle.std.specs.Prelude.{◌≡◌, ◌≢◌, ◌≤◌, ◌<◌, ◌+◌, ◌++◌, ◌↔◌, ℕ, false, MatchOption, IsTrue};
-ghost use Rattle.arrayvec.specs.ArrayVec.{array_vec_len};
-ghost use Rattle.device_files.specs.LineBytes.{line_bytes};
-ghost use Rattle.device_files.specs.FileWorld.{told_lines};
+//! Lines that were stored and not yet written.
+ghost use Rattle.std.specs.Prelude.{◌≡◌, ◌≢◌, ◌≤◌, ◌<◌, ◌+◌, ◌↔◌, ℕ, false, MatchOption, IsTrue, get_or, length};
+ghost use Rattle.device_files.specs.PlacedLines.{AreDistinct, ArePlaced};
 
-use crate::line_bytes::bytes_of_line;
-use arrayvec::ArrayVec;
+use crate::placed_line::PlacedLine;
 use nvm_model::Line;
 
 /// How many lines are gathered at most.
-pub const GATHERED_LINES: usize = 256;
+pub const GATHERED_LINES: usize = 64;
 
-/// The bytes of so many lines.
-pub const GATHERED_BYTES: usize = 64 * GATHERED_LINES;
-
-/// The lines from `first` on, `count` of them, each at its distance from the first.
+/// The first `count` of the lines, in the order in which they were stored first. None stands there twice.
 #[derive(Drop)]
 pub struct Gathered {
-    pub first: u64,
-    pub count: u64,
-    pub lines: [Line; GATHERED_LINES],
-    ghost placed: { first < told_lines },
-    ghost bound: { count ≤ 256 },
+    pub count: usize,
+    pub lines: [PlacedLine; GATHERED_LINES],
+    ghost bound: { count ≤ 64 },
+    ghost placed: { ArePlaced count lines },
+    ghost distinct: { AreDistinct count lines },
 }
 
 impl Gathered {
     ghost use Rattle.nvm_model.specs.declared.line.Line.{Line};
-    ghost use Rattle.device_files.specs.Gathered.{IsGathered, IsEmpty, gathered_bytes};
+    ghost use Rattle.device_files.specs.Gathered.{IsGathered, IsEmpty, gathered_lines};
+    ghost use Rattle.device_files.specs.PlacedLines.{no_place};
+    ghost use Rattle.device_files.specs.FileWorld.{told_lines};
 
     /// No line is gathered.
     pub fn new() -> Gathered
         ensures { IsEmpty result }
     {
+        let blank = PlacedLine {
+            line: 0,
+            value: Line { words: [0; 8] },
+        };
         Gathered {
-            first: 0,
             count: 0,
-            lines: [Line { words: [0; 8] }; GATHERED_LINES],
+            lines: [blank; GATHERED_LINES],
         }
     }
 
@@ -43,14 +42,13 @@ impl Gathered {
     pub fn get(&self, line: u64) -> Option<Line>
         ensures { MatchOption result ((value : Line) → IsGathered self.now line value → ⊥) (λ value. IsGathered self.now line value) }
     {
-        if line < self.first || self.first + self.count <= line {
-            return None;
+        match self.place_of(line) {
+            Some(at) => Some(self.lines[at].value),
+            None => None,
         }
-        Some(self.lines[(line - self.first) as usize])
     }
 
-    /// Gathers the line with this value, where it is gathered already or stands behind the last one, and there is room.
-    /// An empty run begins with it. Where it answers false, nothing is changed.
+    /// Gathers the line with this value. Where it answers false, there is no room, and nothing is changed.
     pub fn put(&mut self, line: u64, value: &Line) -> bool
         requires { line < told_lines }
         ensures taken { IsTrue result → IsGathered self.new line value.now }
@@ -59,19 +57,17 @@ impl Gathered {
         ensures refused { result ≡ false → self.new ≡ self.old }
         ensures empty { IsEmpty self.old → IsTrue result }
     {
-        if self.count == 0 {
-            self.first = line;
+        let placed = PlacedLine {
+            line,
+            value: *value,
+        };
+        match self.place_of(line) {
+            Some(at) => {
+                self.renew(at, &placed);
+                true
+            }
+            None => self.push(&placed),
         }
-        if line < self.first
-            || self.first + self.count < line
-            || line - self.first >= GATHERED_LINES as u64
-        {
-            return false;
-        }
-        let at = line - self.first;
-        self.lines[at as usize] = *value;
-        self.count = self.count.max(at + 1);
-        true
     }
 
     /// Whether no line is gathered.
@@ -88,23 +84,53 @@ impl Gathered {
         self.count = 0;
     }
 
-    /// The bytes of the gathered lines, one behind the other.
-    pub fn bytes(&self) -> ArrayVec<u8, GATHERED_BYTES>
-        ensures { result.items ≡ gathered_bytes self.now }
+    /// The gathered lines, in the order in which they were stored first.
+    pub fn lines(&self) -> &[PlacedLine]
+        ensures lines { result.now ≡ gathered_lines self.now }
+        ensures placed { ArePlaced (length result.now) result.now }
     {
-        let mut bytes = ArrayVec::new();
-        for line in &self.lines[..self.count as usize] {
-            push_line(&mut bytes, line);
-        }
-        bytes
+        &self.lines[..self.count]
     }
-}
 
-/// Puts the bytes of a line behind the others.
-fn push_line(bytes: &mut ArrayVec<u8, GATHERED_BYTES>, line: &Line)
-    requires { array_vec_len bytes.old + 64 ≤ GATHERED_BYTES }
-    ensures items { bytes.new.items ≡ bytes.old.items ++ line_bytes line.now }
-    ensures len { array_vec_len bytes.new ≡ array_vec_len bytes.old + 64 }
-{
-    let _ = bytes.try_extend_from_slice(&bytes_of_line(line));
+    /// Where the line stands.
+    fn place_of(&self, line: u64) -> Option<usize>
+        ensures { MatchOption result ((i : ℕ) → i < self.now.count → (get_or self.now.lines i no_place).line ≢ line) (λ at. (at < self.now.count) × ((get_or self.now.lines at no_place).line ≡ line)) }
+    {
+        'places: for at in 0..self.count {
+            if self.lines[at].line == line {
+                return Some(at);
+            }
+        }
+        None
+    }
+
+    /// Gives the line that stands there a new value.
+    fn renew(&mut self, at: usize, placed: &PlacedLine)
+        requires below { at < self.old.count }
+        requires line { placed.now.line < told_lines }
+        requires same { (get_or self.old.lines at no_place).line ≡ placed.now.line }
+        ensures taken { IsGathered self.new placed.now.line placed.now.value }
+        ensures fewer { (other : ℕ) (found : Line) → other ≢ placed.now.line → IsGathered self.new other found → IsGathered self.old other found }
+        ensures stay { (other : ℕ) (found : Line) → other ≢ placed.now.line → IsGathered self.old other found → IsGathered self.new other found }
+    {
+        self.lines[at] = *placed;
+    }
+
+    /// Puts a line behind the others, where there is room.
+    fn push(&mut self, placed: &PlacedLine) -> bool
+        requires line { placed.now.line < told_lines }
+        requires other { (i : ℕ) → i < self.old.count → (get_or self.old.lines i no_place).line ≢ placed.now.line }
+        ensures taken { IsTrue result → IsGathered self.new placed.now.line placed.now.value }
+        ensures fewer { (other : ℕ) (found : Line) → other ≢ placed.now.line → IsGathered self.new other found → IsGathered self.old other found }
+        ensures stay { (other : ℕ) (found : Line) → other ≢ placed.now.line → IsGathered self.old other found → IsGathered self.new other found }
+        ensures refused { result ≡ false → self.new ≡ self.old }
+        ensures empty { IsEmpty self.old → IsTrue result }
+    {
+        if self.count >= GATHERED_LINES {
+            return false;
+        }
+        self.lines[self.count] = *placed;
+        self.count += 1;
+        true
+    }
 }

@@ -10,9 +10,14 @@ mod line_bytes;
 mod line_cache;
 mod line_memory;
 mod nvm_file;
+mod placed_line;
+mod positioned;
+mod run;
 mod settings_file;
 mod streams;
 #[cfg(test)]
 mod tests;
+mod writing;
 
 pub use file_world::FileWorld;
+pub use positioned::PositionedFile;

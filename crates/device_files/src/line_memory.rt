@@ -1,9 +1,9 @@
 //! What is remembered of the lines of the NVM.
-ghost use Rattle.std.specs.Prelude.{◌≡◌, ◌<◌, IfSome, IsTrue, Some, false};
+ghost use Rattle.std.specs.Prelude.{◌≡◌, ◌≢◌, ◌<◌, ◌%◌, ℕ, IfSome, IsTrue, Some, false};
 ghost use Rattle.nvm_model.specs.declared.line.Line.{Line};
 ghost use Rattle.device_files.specs.FileWorld.{told_lines};
 ghost use Rattle.device_files.specs.Gathered.{IsGathered, IsEmpty};
-ghost use Rattle.device_files.specs.LineMemory.{Agree, Recalls, IsUnknown, NoMore, StillGathered};
+ghost use Rattle.device_files.specs.LineMemory.{Agree, Recalls, IsUnknown, NoMore, Learns, StillGathered};
 
 use crate::gathered::Gathered;
 use crate::line_cache::LineCache;
@@ -33,23 +33,36 @@ impl LineMemory {
         ensures known { (value : Line) → Recalls self.now.gathered self.now.cache line value → result ≡ Some value }
         ensures found { IfSome result (λ value. Recalls self.now.gathered self.now.cache line value) }
     {
-        match self.gathered.get(line) {
+        match self.cache.get(line) {
             Some(value) => Some(value),
-            None => self.cache.get(line),
+            None => self.gathered.get(line),
         }
     }
 
-    /// Keeps a line that was read.
+    /// Keeps a line that was read, where nothing is known of it.
     pub fn learn(&mut self, line: u64, value: &Line)
-        requires { IsUnknown self.old.gathered self.old.cache line }
+        requires { line < told_lines }
+        ensures now { IsUnknown self.old.gathered self.old.cache line → Recalls self.new.gathered self.new.cache line value.now }
+        ensures learns { Learns (λ other found. (other ≡ line) × (found ≡ value.now)) self.old.gathered self.old.cache self.new.gathered self.new.cache }
+        ensures stay { (other : ℕ) (found : Line) → other % 4096 ≢ line % 4096 → Recalls self.old.gathered self.old.cache other found → Recalls self.new.gathered self.new.cache other found }
+    {
+        if self.get(line).is_none() {
+            self.keep(line, value);
+        }
+    }
+
+    /// Keeps a line of which nothing is known.
+    fn keep(&mut self, line: u64, value: &Line)
+        requires line { line < told_lines }
+        requires unknown { IsUnknown self.old.gathered self.old.cache line }
         ensures now { Recalls self.new.gathered self.new.cache line value.now }
-        ensures others { NoMore line self.old.gathered self.old.cache self.new.gathered self.new.cache }
-        ensures gathered { self.new.gathered ≡ self.old.gathered }
+        ensures learns { Learns (λ other found. (other ≡ line) × (found ≡ value.now)) self.old.gathered self.old.cache self.new.gathered self.new.cache }
+        ensures stay { (other : ℕ) (found : Line) → other % 4096 ≢ line % 4096 → Recalls self.old.gathered self.old.cache other found → Recalls self.new.gathered self.new.cache other found }
     {
         self.cache.keep(line, value);
     }
 
-    /// Gathers a line that is stored. Where there is no place for it, the answer is false and nothing is changed.
+    /// Gathers a line that is stored. Where there is no room, the answer is false and nothing is changed.
     pub fn put(&mut self, line: u64, value: &Line) -> bool
         requires { line < told_lines }
         ensures taken { IsTrue result → IsGathered self.new.gathered line value.now }
@@ -61,7 +74,7 @@ impl LineMemory {
         if !self.gathered.put(line, value) {
             return false;
         }
-        self.cache.keep(line, value);
+        self.cache.renew(line, value);
         true
     }
 

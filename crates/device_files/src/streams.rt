@@ -1,7 +1,6 @@
 //! Reads and writes, each tried again where a signal interrupts it.
-ghost use Rattle.std.specs.Prelude.{◌<◌, ◌≤◌, ◌≡◌, ◌-◌, ◌++◌, length, take, replicate, IfOk, OnOk, OnErr, IfSome};
+ghost use Rattle.std.specs.Prelude.{◌<◌, ◌≤◌, ◌≡◌, length, take, IfOk, OnErr};
 ghost use Rattle.std.specs.Io.KnownBytes.{Appends, Consumes, IsAtEnd, Keeps};
-ghost use Rattle.device_files.specs.Streams.{padded};
 
 use std::io;
 use std::io::{ErrorKind, Read, Write};
@@ -43,48 +42,6 @@ pub fn write_some<F: Write>(to: &mut F, bytes: &[u8]) -> io::Result<usize>
                 }
             }
         }
-    }
-    Err(io::Error::from(ErrorKind::TimedOut))
-}
-
-/// Fills `into` with the next bytes of a reader, and with zeros past its end.
-pub fn fill<F: Read>(from: &mut F, into: &mut [u8]) -> io::Result<()>
-    ensures { OnOk result (IfSome (F.remaining from.old) (λ left. into.new ≡ padded (length into.old) left)) }
-{
-    let mut at = 0;
-    'pieces: for _ in 0..u64::MAX {
-        if at >= into.len() {
-            return Ok(());
-        }
-        let count = read_some(from, &mut into[at..])?;
-        if count == 0 {
-            clear_from(into, at);
-            return Ok(());
-        }
-        at += count;
-    }
-    Err(io::Error::from(ErrorKind::TimedOut))
-}
-
-/// Makes the bytes from a place on zeros.
-fn clear_from(into: &mut [u8], at: usize)
-    requires { at ≤ length into.old }
-    ensures { into.new ≡ take at into.old ++ replicate (length into.old - at) 0 }
-{
-    into[at..].fill(0);
-}
-
-/// Writes all of the bytes. After an error any first part of them was written.
-pub fn drain<F: Write>(to: &mut F, bytes: &[u8]) -> io::Result<()>
-    ensures { OnOk result (Appends (F.contents to.old) (F.contents to.new) bytes.now) }
-{
-    let mut rest = bytes;
-    'pieces: for _ in 0..u64::MAX {
-        if rest.is_empty() {
-            return Ok(());
-        }
-        let count = write_some(to, rest)?;
-        rest = &rest[count..];
     }
     Err(io::Error::from(ErrorKind::TimedOut))
 }

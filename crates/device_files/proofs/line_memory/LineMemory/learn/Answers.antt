@@ -1,5 +1,6 @@
-use Rattle.device_files.proofs.LineLaws.{agree_learn}
+use Rattle.std.proofs.Common.{rules}
+use Rattle.device_files.proofs.LineLaws.{unknown_by}
 use Rattle.device_files.proofs.line_memory.LineMemory.learn.Goals as goal
 
-pub invariant_of-self : goal.invariant_of-self
-invariant_of-self c = record { agree = agree_learn c.args.line _ _ _ c.args.self.now.agree c.requires c.keep.ensures.fewer }
+pub keep-requires-clause-unknown : goal.keep-requires-clause-unknown
+keep-requires-clause-unknown c = unknown_by _ _ c.args.line c.get.result c.get.ensures.known (search rules)
