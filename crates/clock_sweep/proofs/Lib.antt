@@ -1,0 +1,3 @@
+pub mod CircleLaws
+pub mod ClockLaws
+pub mod KeptLaws

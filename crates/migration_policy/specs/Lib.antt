@@ -1,0 +1,4 @@
+pub mod Admission
+pub mod Draws
+pub mod Policies
+pub mod Queue

@@ -1,0 +1,141 @@
+-- `get` shows the one value that a place lends. Assumes `Logic`.
+use mathlib.Core.Path.{◌≡◌, refl, sym, subst, ◌∙◌}
+use Prim.Native.Nat.{ℕ, ◌+◌, ◌*◌, ◌<◌, ◌^◌}
+use native.Mathlib.Omega.{arith}
+use mathlib.Core.List.{List, [], ◌∷◌, ◌++◌}
+use lib.ListN.{length, get_or}
+use seplogic.Ra.Ura.{Ura}
+use base.Fraction.{full_share}
+use base.Logic.{SProp, ent, never, id⊢}
+use base.Fml.{Lft, Share, ftrue, fat, flft}
+use mir.Syntax.{Fn, named, w64}
+use mir.MapTy.{inst_fn}
+use mir.Val.{Val, vptr, vint}
+use prog.Wp.{Env, Calls, Loops, WpFn, Tables}
+use types.Logic.{Logic}
+use types.Kit.{Item, ⋆, ‵, ◌⊛◌, at_ret, ◌$◌, ◌∵◌, !, qed, by, move, keep, drop, use1, split, join, rewrite, fsplit, fjoin, feq_i, feq_l, flt_l, suffices, frame, done}
+use types.Part.{whole, sub}
+use types.Run.{stop, fld, of_opd, addr, first, blocks, exec, returns, enter, bin, size_lit}
+use types.ByLocal.{alloc_all, pass_all, free_all, look_at, get, get_in, through, sets, sets_last, take_at, give_at, env}
+use contract.Monad.{fact}
+use contract.Running.{tables, tables_of}
+use sound.WpLaws.{WpFn-mono}
+use denote.Exit.{yes, no}
+use denote.RattleType.{owns}
+use denote.Memory.{hidden_shr}
+use denote.Param.{layout}
+use denote.RawPtr.{Ptr, in_a_block}
+use denote.Ref.{Bor, ShrRef}
+use denote.Builtin.{RefOf, usize}
+use denote.Signature.{plain}
+use denote.Opens.{hide, unhide}
+use denote.Steps.{nothing}
+use denote.Triple.Carry.{spared}
+use denote.Triple.Clauses.{Clauses, Ended, closing}
+use denote.Triple.Entry.{on_entry}
+use denote.Triple.Spec.{Meets, triple_of}
+use denote.Triple.Table.{entered, run_framed}
+use denote.Triple.Walked.{says, needs, Stays, stay_dropped, walk_of, ends_at, Goes-dropped, walk_Meets}
+use Rattle.std.specs.Prelude.{Some, None}
+use Rattle.core.proofs.mem.Param.{El, R, args, el_x}
+use Rattle.core.proofs.ptr.Rows.{times_below, one_below}
+use Rattle.std_alloc.proofs.VecSteps.Shapes.{after}
+use Rattle.std_alloc.proofs.RcSteps.{word, word-Good}
+use Rattle.page_frame.specs.Places.{IsFilled}
+use Rattle.page_frame.specs.Ownership.{place_lent, lends_places}
+use Rattle.page_frame.proofs.Memory.{CellsRow, BaseRow, wide, Place, pointer_had, filled_within, place_seen}
+use Rattle.page_frame.specs.contracts.cells.Cells.get.Key.{name as #get}
+use Rattle.page_frame.proofs.cells.Cells.get.Statement as stated
+use Rattle.page_frame.proofs.cells.Cells.get.Code as code
+
+module _ (E : El) where
+  abbrev function : Fn
+  function = inst_fn (args E) code.function
+
+  abbrev ended : Ended
+  ended = record {
+    signature = record {
+      lifetimes = 1;
+      outlives = [];
+      params = RefOf (0 ∷ []) tt (plain (λ _. CellsRow E)) (λ _. tt) ∷ plain (λ _. BaseRow E) ∷ plain (λ _. usize) ∷ [];
+      result = RefOf (0 ∷ []) tt (plain (λ _. R E)) (λ _. tt);
+    };
+    kept = (yes, (no, (no, tt)));
+  }
+
+  abbrev stayed : Stays ended.signature.params ended.kept
+  stayed = (stay_dropped (RefOf (0 ∷ []) tt (plain (λ _. CellsRow E)) (λ _. tt)) yes, (stay_dropped (plain (λ _. BaseRow E)) no, (stay_dropped (plain (λ _. usize)) no, tt)))
+
+  abbrev Asks : (CellsRow E).Denot → (BaseRow E).Denot → ℕ → Type 0
+  Asks cells base place = (base.ptr ≡ cells.at) × IsFilled cells.slots place
+
+  abbrev Gives : (CellsRow E).Denot → ℕ → Bor (el_x E) → Type 0
+  Gives cells place r = get_or cells.slots place None ≡ Some r.now
+
+  abbrev clauses : {M : Type 1} {𝓤 : Ura M} (𝓛 : Logic 𝓤) → Clauses 𝓤 ended
+  clauses {𝓤 = 𝓤} 𝓛 κs a = record { ghost = Unit {0}; requires = λ _. fact 𝓤 (Asks a.0.now a.1.0 a.1.1.0); ensures = λ _ r w. fact 𝓤 (Gives a.0.now a.1.1.0 r) }
+
+module _ (E : El) {M : Type 1} {𝓤 : Ura M} (𝓛 : Logic 𝓤) (C : Calls 𝓤 𝓛.H) (Λ : Loops 𝓤 𝓛.H) (κ : Lft) (q : Share) (rb ro : ℕ) (cells : (CellsRow E).Denot) (base : (BaseRow E).Denot) (place : ℕ) (us0 us1 us2 : List Val) where
+  open 𝓛 use {H, A}
+
+  abbrev self : Bor (CellsRow E).Denot
+  self = record { ref_ptr = (rb, ro); now = cells }
+
+  abbrev bound : (walk_of 𝓛 (ended E) (stayed E) (clauses E 𝓛)).Ghost
+  bound = (((κ, tt), (q, tt), tt, (self, (base, (place, tt))), (us0, (us1, (us2, tt)))), tt)
+
+  abbrev Post : Val → SProp 𝓤
+  Post = (walk_of 𝓛 (ended E) (stayed E) (clauses E 𝓛)).post bound
+
+  exits : (r : (ShrRef (named 0) κ (R E)).Denot) (v : Val) → Gives E cells place r → ent 𝓤 (⋆ 𝓛 (‵ (flft κ q) ∷ ‵ ((ShrRef (named 0) κ (R E)).own_val r (v ∷ [])) ∷ [])) (Post v)
+  exits r v given =
+      qed 𝓛 (‵ (flft κ q) ∷ ‵ ((ShrRef (named 0) κ (R E)).own_val r (v ∷ [])) ∷ []) ∵
+      suffices ! _ (ends_at 𝓛 (ended E) (stayed E) (clauses E 𝓛) bound v r (tt, (tt, (tt, tt))) (tt, (tt, (tt, tt)))) $ says ! given $
+      nothing ! $ move ! (1 ∷ 0 ∷ []) $ join ! $ frame ! $ nothing ! $ nothing ! $ fjoin ! $ nothing ! $ fjoin ! $ nothing ! $ fjoin ! $ done !
+
+  abbrev Had : List (Item 𝓤)
+  Had = ‵ (hidden_shr (CellsRow E) κ cells rb ro) ∷ ‵ (flft κ q) ∷ []
+
+  walk : Asks E cells base place → place < 2 ^ 64 → ent 𝓤 (⋆ 𝓛 Had) (WpFn 𝓤 H C Λ (function E) (vptr rb ro ∷ word base.ptr ∷ vint w64 place ∷ []) Post)
+  walk asked fits =
+      let value = asked.1.0 in let stands = asked.1.1 in let within = filled_within cells.slots place value stands in
+      qed 𝓛 Had ∵ enter ! C Λ (function E) (vptr rb ro ∷ word base.ptr ∷ vint w64 place ∷ []) _ $
+      alloc_all ! (λ l. pass_all ! refl ((tt, tt), (word-Good [] base.ptr, ((tt, record { fits = fits }), tt))) $
+      let En : Env 𝓤 H = env (function E).locals l in
+      unhide ! $ fsplit ! $ drop ! $ in_a_block ! cells.at (λ p. lends_places (R E) p cells.slots κ) (id⊢ 𝓤 (never 𝓤)) (λ b o e. fsplit ! $ flt_l ! (λ countable.
+      let s = wide E in let at = place * s + o in
+      let one : s < 2 ^ 64 = omega (arith, one_below (length cells.slots) s (2 ^ 63) (omega arith) countable) in
+      let far : place * s < 2 ^ 64 = omega (arith, times_below place (length cells.slots) s (2 ^ 63) (omega arith) countable) in
+      take_at ! 2 $ rewrite ! 0 (λ (p : Ptr). ‵ (fat full_share (layout (BaseRow E)) (l 2) 0 (word p))) (asked.0 ∙ e) refl $ give_at ! 2 $ first ! $ blocks ! $
+      sets ! (bin ! (get ! refl) (size_lit ! (record { fits = one })) (record { fits = far })) refl (tt, record { fits = far }) $
+      sets ! (bin ! (get_in ! (fld ! refl (stop !)) (sub ! 0 refl (whole !))) (get ! refl) tt) refl (tt, tt) $
+      use1 𝓛 (‵ (place_lent (R E) b at (get_or cells.slots place None) κ)) (place_seen E 𝓛 b κ o cells.slots place within) $
+      rewrite ! 0 (λ (c : Place E). ‵ (place_lent (R E) b at c κ)) stands refl $ hide ! $
+      sets_last ! (addr ! (through ! refl (stop !))) refl (tt, tt) $ exec ! C Λ En (after 1 (function E).body) (at_ret En Post) $ sets ! (of_opd ! (get ! refl)) refl (tt, tt) $
+      feq_i ! (List Val) (vptr b at ∷ []) (vptr b at ∷ []) refl $ fjoin ! $
+      returns ! (look_at ! 0 refl) $ free_all ! refl $ keep ! (1 ∷ 0 ∷ []) $ by ! (exits (record { ref_ptr = (b, at); now = value }) (vptr b at) stands))))
+
+  entry : Asks E cells base place → ent 𝓤 (on_entry 𝓛 (ended E).signature (κ, tt) (q, tt) (self, (base, (place, tt))) (us0, (us1, (us2, tt)))) (WpFn 𝓤 H C Λ (function E) (us0 ++ (us1 ++ (us2 ++ []))) Post)
+  entry asked =
+      qed 𝓛 ((‵ (flft κ q) ⊛ ‵ ftrue) ∷ ‵ (owns (ShrRef (named 0) κ (CellsRow E) ∷ BaseRow E ∷ usize ∷ []) (self, (base, (place, tt))) (us0, (us1, (us2, tt)))) ∷ []) ∵
+      split ! $ move ! (2 ∷ []) $ fsplit ! $ fsplit ! $ feq_l ! (λ e0. move ! (1 ∷ []) $ fsplit ! $ pointer_had ! base.ptr us1 (λ e1. fsplit ! $ fsplit ! $ feq_l ! (λ e2. flt_l ! (λ fits.
+      keep ! (1 ∷ 2 ∷ []) $
+      by ! (subst (λ (ws : List Val × List Val × List Val). ent 𝓤 (⋆ 𝓛 Had) (WpFn 𝓤 H C Λ (function E) (ws.0 ++ (ws.1 ++ (ws.2 ++ []))) Post)) (λ j. (sym e0 j, sym e1 j, sym e2 j)) (walk asked fits))))))
+
+meets : (E : El) {M : Type 1} {𝓤 : Ura M} (𝓛 : Logic 𝓤) (𝓣 : Tables 𝓤 𝓛.H) → Meets 𝓛 (ended E).signature (WpFn 𝓤 𝓛.H 𝓣.C 𝓣.Λ (function E)) (closing 𝓛 (ended E) (clauses E 𝓛))
+meets E {𝓤 = 𝓤} 𝓛 𝓣 =
+    walk_Meets 𝓛 (ended E) (stayed E)
+    (Goes-dropped 𝓛 1 (RefOf (0 ∷ []) tt (plain (λ _. CellsRow E)) (λ _. tt)) yes (λ κs x f. refl), (Goes-dropped 𝓛 1 (plain (λ _. BaseRow E)) no (λ κs x f. refl), (Goes-dropped 𝓛 1 (plain (λ _. usize)) no (λ κs x f. refl), tt)))
+    (clauses E 𝓛) (WpFn 𝓤 𝓛.H 𝓣.C 𝓣.Λ (function E)) (WpFn-mono 𝓤 𝓛.H 𝓛.laws 𝓣 (function E))
+    (λ z. let a = z.0.3 in let us = z.0.4 in let me = a.0 in
+    needs 𝓤 (Asks E me.now a.1.0 a.1.1.0) _ (entry E 𝓛 𝓣.C 𝓣.Λ z.0.0.0 z.0.1.0 me.ref_ptr.0 me.ref_ptr.1 me.now a.1.0 a.1.1.0 us.0 us.1.0 us.1.1.0))
+
+pub get_spec : {M : Type 1} → stated.statement M
+unfolding tables_of
+get_spec 𝓤 𝓛 𝓜 𝓡 wired X LX y =
+    let E : El = record { row = X; laws = LX } in
+    let 𝓣 : Tables 𝓤 𝓛.H = tables_of 𝓤 𝓛.H 𝓜 (tables 𝓤 𝓛.H 𝓜 𝓡 𝓡.env) in
+    let key = #get (args E) in let closed = closing 𝓛 (ended E) (clauses E 𝓛) in
+    spared 𝓛 (ended E).signature (𝓡.run (𝓡.env key)) (run_framed 𝓤 𝓛.H 𝓜 𝓡 (𝓡.env key)) 1 (X.lives, tt) closed
+    (entered 𝓤 𝓛.H (triple_of 𝓛 (ended E).signature closed) 𝓣.C 𝓣.Λ key (function E) (code.unfolded 𝓤 𝓛.H 𝓜 𝓡 wired (X, tt)) (meets E 𝓛 𝓣))
+    ((y.0.0, y.0.1, tt, y.0.3, y.0.4), y.1)
