@@ -1,0 +1,12 @@
+pub mod CopyFacts
+pub mod FlushedFacts
+pub mod WriteFacts
+pub mod MovesFacts
+pub mod KeptCopyFacts
+pub mod KeptLogFacts
+pub mod KeptPlaceFacts
+pub mod KeptRecordFacts
+pub mod ChangeFacts
+pub mod OpenFacts
+pub mod StepFacts
+pub mod UpdateExample

@@ -1,0 +1,13 @@
+pub mod AppendLaws
+pub mod HardenLaws
+pub mod BehindLaws
+pub mod TailLaws
+pub mod EndFacts
+pub mod EndsLaws
+pub mod EndsFacts
+pub mod RecordFacts
+pub mod PendingFacts
+pub mod StartLaws
+pub mod DrainLaws
+pub mod DrainFacts
+pub mod LengthenedFacts
