@@ -3,16 +3,16 @@ use Rattle.std.proofs.Common.{◌≡◌, ◌^◌, ◌≤◌, sym, ap, ◌∙◌,
 use Rattle.devices.specs.State.{fresh, current}
 use Rattle.devices.specs.World.{Standing, Goes, now}
 use Rattle.line_pages.specs.LineSets.{pages_of}
-use Rattle.store_meaning.specs.Layout.{Sizes, pages, nvm_lines, is_allowed}
-use Rattle.store_laws.specs.OpenFacts.{OpenFacts}
-use Rattle.nvm_layout.specs.Sizes.{sizes_of}
-use Rattle.nvm_layout.specs.declared.geometry.Geometry.{Geometry}
-use Rattle.transactions.specs.declared.book.Book.{Book}
-use Rattle.transactions.specs.BookCalls.{IsNew}
-use Rattle.transactions.specs.StoreStanding.{IsReady}
-use Rattle.transactions.proofs.NewLaws.{new_ready}
-use Rattle.recovery.specs.Opening.{Recovered, AreParts}
-use Rattle.recovery.specs.declared.opening.Parts.{Parts}
+use Rattle.flat_store_meaning.specs.Layout.{Sizes, pages, nvm_lines, is_allowed}
+use Rattle.flat_store_laws.specs.OpenFacts.{OpenFacts}
+use Rattle.flat_nvm_layout.specs.Sizes.{sizes_of}
+use Rattle.flat_nvm_layout.specs.declared.geometry.Geometry.{Geometry}
+use Rattle.flat_transactions.specs.declared.book.Book.{Book}
+use Rattle.flat_transactions.specs.BookCalls.{IsNew}
+use Rattle.flat_transactions.specs.StoreStanding.{IsReady}
+use Rattle.flat_transactions.proofs.NewLaws.{new_ready}
+use Rattle.flat_recovery.specs.Opening.{Recovered, AreParts}
+use Rattle.flat_recovery.specs.declared.opening.Parts.{Parts}
 
 module _ (parts : Parts) (book : Book) (a b : Standing) (goes : Goes a b) (are : AreParts parts a.lines a.blocks) (made : IsNew parts.log parts.loose book) where
   log_sizes : sizes_of parts.log.geometry ≡ sizes_of parts.geometry

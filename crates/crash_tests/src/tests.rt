@@ -1,17 +1,17 @@
 //! Transactions and recoveries over a world in memory that are stopped after each event, and what a recovery finds of that.
 ghost use Rattle.std.specs.Prelude.{◌≡◌, ◌+◌, ◌≤◌, ◌^◌, true, false, IfOk, OnOk};
-ghost use Rattle.transactions.specs.StoreStanding.{IsReady, reach};
+ghost use Rattle.flat_transactions.specs.StoreStanding.{IsReady, reach};
 
 use devices::{Devices, MemWorld};
+use flat_nvm_layout::Geometry;
+use flat_recovery::{format, recover};
+use flat_transactions::{Book, Store};
 use line_pages::Pages;
-use nvm_layout::Geometry;
 use nvm_model::{Choice, Line};
-use recovery::{format, recover};
 use ssd_model::BlockChoice;
 use std::alloc::Global;
 use std::process::Abort;
 use std::test::Fail;
-use transactions::{Book, Store};
 
 /// The words of lines 0 and 5 of page 3 in the store as it was.
 const OLD: [u64; 2] = [7, 8];
