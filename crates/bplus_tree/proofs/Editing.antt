@@ -4,31 +4,31 @@ use Rattle.std.proofs.lemmas.Bool.{lt-ltb, le-ltb, eqb-true, ne_eqb, cases_Bool,
 use Rattle.std.proofs.lemmas.List.Concat.{flat_map-append}
 use Rattle.line_pages.specs.Lines.{Lines}
 use Rattle.line_pages.specs.Bytes.{bytes_of, page_bytes}
-use Rattle.slotted_page.specs.declared.root.Expect.{Expect}
-use Rattle.slotted_page.specs.Rows.{Row, row_put, row_delete, Each, AllBelow, AllAbove}
-use Rattle.slotted_page.specs.Spans.{Span, reach, spans}
-use Rattle.slotted_page.specs.Node.{Child, children, IsWellFormed, entry_count, begins_at, leaf_checks, inner_checks, first_failing}
-use Rattle.slotted_page.proofs.FactLemmas.{all_hold}
-use Rattle.slotted_page.proofs.PageFacts.{inner_facts}
+use Rattle.page_format.specs.declared.root.Expect.{Expect}
+use Rattle.rows.specs.Rows.{Row, row_put, row_delete, Each, AllBelow, AllAbove}
+use Rattle.page_format.specs.Spans.{Span, reach, spans}
+use Rattle.page_format.specs.Node.{Child, children, IsWellFormed, entry_count, begins_at, leaf_checks, inner_checks, first_failing}
+use Rattle.page_format.proofs.FactLemmas.{all_hold}
+use Rattle.page_format.proofs.PageFacts.{inner_facts}
 use Rattle.node_edit.specs.declared.fit.Fit.{Fit}
 use Rattle.node_edit.specs.declared.fit.Fit.TheVariants as fits
 use Rattle.bplus_tree.specs.declared.outcome.Outcome.{Outcome}
 use Rattle.bplus_tree.specs.declared.outcome.Outcome.TheVariants.{Whole, Short, Alone}
 use Rattle.node_edit.specs.declared.pair.Pair.{Pair}
-use Rattle.page_space.specs.Space.{high_of, IsFreeList}
-use Rattle.page_space.specs.Counted.{times, SameOn}
+use Rattle.page_alloc.specs.Space.{high_of, IsFreeList}
+use Rattle.page_alloc.specs.Counted.{times, SameOn}
 use Rattle.tree_search.specs.Tree.{IsTree, tree_rows, tree_pages, rows_of, pages_of}
-use Rattle.page_space.specs.Moves.{below, ArePart, Moves, SameEntries, Gives}
-use Rattle.page_space.specs.Written.{Rewrites}
+use Rattle.page_alloc.specs.Moves.{below, ArePart, Moves, SameEntries, Gives}
+use Rattle.page_alloc.specs.Written.{Rewrites}
 use Rattle.node_edit.specs.Edit.{part, loose, Holds, Fits, both, joined, IsPairAt, PairsUp, Mended}
 use Rattle.bplus_tree.specs.Edit.{Became, Edits, Joins, IsMendable, Mends, own, after_fit, Rewritten}
-use Rattle.page_space.proofs.CountedLaws.{times-append, SameOn-first}
+use Rattle.page_alloc.proofs.CountedLaws.{times-append, SameOn-first}
 use Rattle.tree_search.proofs.TreeLaws.{tree_pages-same, tree_rows-same, IsTree-same}
 use Rattle.tree_search.proofs.OrderLaws.{IsChildTree, length-children, Each-get, located}
-use Rattle.node_edit.proofs.RowLaws.{row_put-amid, row_delete-amid}
+use Rattle.rows.proofs.RowLaws.{row_put-amid, row_delete-amid}
 use Rattle.tree_search.proofs.FanLaws.{StayUnder, spans-parts, spans-join, stay_under, beside}
-use Rattle.page_space.proofs.MovesLaws.{Moves-trans}
-use Rattle.page_space.proofs.Places.{Moves-widen, Moves-write, part_after, same_beside}
+use Rattle.page_alloc.proofs.MovesLaws.{Moves-trans}
+use Rattle.page_alloc.proofs.Places.{Moves-widen, Moves-write, part_after, same_beside}
 
 -- a change of rows that acts in the part alone that the key belongs to
 pub record IsLocal (key : ℕ) (step : List Row → List Row) : Type 0 where

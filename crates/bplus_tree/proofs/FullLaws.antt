@@ -1,28 +1,28 @@
 -- Stops for a full root, and pages that are cut.
 use Rattle.std.proofs.Common.{◌≡◌, ◌≢◌, ◌-◌, ℕ, ◌<◌, ◌≤◌, inl, inr, Bool, true, false, List, [], ◌∷◌, length, Some, None, Result, Ok, Err, IfErr, IfOk, ◌==◌, refl, sym, ap, subst, ◌∙◌, arith}
 use Rattle.std.proofs.lemmas.Bool.{cases_Bool, cases_eq, cases_lt, eq-eqb, ne_eqb}
-use Rattle.line_pages.specs.declared.stop.Evidence.{Evidence}
-use Rattle.line_pages.specs.declared.stop.Evidence.TheVariants.{Super, Frames, Log, Page, Walk}
+use Rattle.damage.specs.declared.evidence.Evidence.{Evidence}
+use Rattle.damage.specs.declared.evidence.Evidence.TheVariants.{Super, Frames, Log, Page, Walk}
 use Rattle.line_pages.specs.declared.stop.Stop.{Stop}
 use Rattle.line_pages.specs.declared.stop.Stop.TheVariants.{Nvm, Ssd, Damaged}
 use Rattle.line_pages.specs.Bytes.{line_at}
 use Rattle.line_pages.specs.Standing.{Standing, HasCause, Never}
-use Rattle.slotted_page.specs.declared.root.Expect.{Expect}
-use Rattle.slotted_page.specs.Checks.{first_failure, fails}
-use Rattle.slotted_page.specs.Rows.{Row}
-use Rattle.slotted_page.specs.Room.{leaf_room}
-use Rattle.slotted_page.specs.Sound.{row_bytes}
-use Rattle.slotted_page.specs.Node.{leaf_rows, leaf_checks, inner_checks, first_failing, entry_count, IsWellFormed}
-use Rattle.slotted_page.proofs.PageFacts.{inner_facts}
-use Rattle.slotted_page.specs.Search.{FailsNode, Keeps, is_root_span}
-use Rattle.slotted_page.proofs.RowLemmas.{row_bytes-append}
+use Rattle.page_format.specs.declared.root.Expect.{Expect}
+use Rattle.damage.specs.Checks.{first_failure, fails}
+use Rattle.rows.specs.Rows.{Row}
+use Rattle.page_format.specs.Room.{leaf_room}
+use Rattle.page_format.specs.Sound.{row_bytes}
+use Rattle.page_format.specs.Node.{leaf_rows, leaf_checks, inner_checks, first_failing, entry_count, IsWellFormed}
+use Rattle.page_format.proofs.PageFacts.{inner_facts}
+use Rattle.page_format.specs.Search.{FailsNode, Keeps, is_root_span}
+use Rattle.page_format.proofs.RowLemmas.{row_bytes-append}
 use Rattle.node_edit.specs.declared.fit.Fit.{Fit}
 use Rattle.node_edit.specs.declared.fit.Fit.TheVariants as fits
 use Rattle.node_edit.specs.Edit.{Fits}
 use Rattle.node_edit.specs.Record.{FitsLeaf}
-use Rattle.page_space.specs.Space.{FailsSpace, IsPageEvidence, space_checks}
-use Rattle.page_space.specs.Stops.{IsFault}
-use Rattle.page_space.proofs.SoundLaws.{sound_never}
+use Rattle.page_alloc.specs.Space.{FailsSpace, IsPageEvidence, space_checks}
+use Rattle.page_alloc.specs.Stops.{IsFault}
+use Rattle.page_alloc.proofs.SoundLaws.{sound_never}
 use Rattle.bplus_tree.specs.declared.outcome.Outcome.{Outcome}
 use Rattle.bplus_tree.specs.declared.outcome.Outcome.TheVariants.{Whole, Short, Cut, Alone}
 use Rattle.bplus_tree.specs.Edit.{IsOutcome}

@@ -3,15 +3,15 @@ use Rattle.std.proofs.Common.{◌≡◌, ◌≢◌, ℕ, zero, suc, ◌-◌, ◌
 use Rattle.line_pages.specs.declared.stop.Stop.{Stop}
 use Rattle.line_pages.specs.Lines.{Lines}
 use Rattle.line_pages.specs.Bytes.{bytes_of, page_bytes}
-use Rattle.slotted_page.specs.Rows.{Row, row_put}
-use Rattle.slotted_page.specs.Spans.{Span}
-use Rattle.slotted_page.specs.Node.{leaf_rows, children, entry_count, IsWellFormed}
+use Rattle.rows.specs.Rows.{Row, row_put}
+use Rattle.page_format.specs.Spans.{Span}
+use Rattle.page_format.specs.Node.{leaf_rows, children, entry_count, IsWellFormed}
 use Rattle.tree_search.specs.declared.root.Root.{Root}
 use Rattle.tree_search.specs.Tree.{IsTree, path, child_for, leaf_for, tree_pages}
 use Rattle.tree_search.proofs.SearchLaws.{well_formed_top}
 use Rattle.tree_search.proofs.OrderLaws.{descends}
-use Rattle.page_space.specs.Space.{FitsHeader}
-use Rattle.page_space.specs.Stops.{IsFault}
+use Rattle.page_alloc.specs.Space.{FitsHeader}
+use Rattle.page_alloc.specs.Stops.{IsFault}
 use Rattle.bplus_tree.specs.declared.outcome.Outcome.{Outcome}
 use Rattle.bplus_tree.specs.declared.outcome.Outcome.TheVariants.{Whole, Short, Cut, Alone}
 use Rattle.bplus_tree.specs.declared.path.Place.{Place}

@@ -5,24 +5,24 @@ use Rattle.std.proofs.lemmas.List.Concat.{flat_map-append}
 use Rattle.line_pages.specs.Lines.{Lines}
 use Rattle.line_pages.specs.Bytes.{bytes_of, page_bytes}
 use Rattle.line_pages.proofs.ByteLaws.{length-page_bytes}
-use Rattle.slotted_page.specs.Rows.{Row, Each}
-use Rattle.slotted_page.specs.Spans.{reach, spans}
-use Rattle.slotted_page.specs.Node.{Child, leaf_rows, children, IsWellFormed}
-use Rattle.slotted_page.proofs.FactLemmas.{leaf_used_is}
-use Rattle.slotted_page.proofs.PageFacts.{leaf_facts, inner_facts}
-use Rattle.slotted_page.proofs.InnerLemmas.{length_children}
+use Rattle.rows.specs.Rows.{Row, Each}
+use Rattle.page_format.specs.Spans.{reach, spans}
+use Rattle.page_format.specs.Node.{Child, leaf_rows, children, IsWellFormed}
+use Rattle.page_format.proofs.FactLemmas.{leaf_used_is}
+use Rattle.page_format.proofs.PageFacts.{leaf_facts, inner_facts}
+use Rattle.page_format.proofs.InnerLemmas.{length_children}
 use Rattle.node_edit.specs.declared.pair.Pair.{Pair}
-use Rattle.page_space.specs.Space.{high_of, IsFreeList}
-use Rattle.page_space.specs.Counted.{times, SameOn}
+use Rattle.page_alloc.specs.Space.{high_of, IsFreeList}
+use Rattle.page_alloc.specs.Counted.{times, SameOn}
 use Rattle.tree_search.specs.Tree.{IsTree, tree_rows, tree_pages, rows_of, pages_of}
-use Rattle.page_space.specs.Moves.{ArePart, Moves, SameEntries}
+use Rattle.page_alloc.specs.Moves.{ArePart, Moves, SameEntries}
 use Rattle.node_edit.specs.Edit.{part, both, joined, whole_of, Merges, IsEnoughLeaf, IsEnoughInner}
 use Rattle.bplus_tree.specs.Edit.{Turns, Joins, WritesJoined, WritesDivided}
-use Rattle.page_space.proofs.CountedLaws.{times-append, SameOn-first}
+use Rattle.page_alloc.proofs.CountedLaws.{times-append, SameOn-first}
 use Rattle.tree_search.proofs.OrderLaws.{IsChildTree, length-children}
 use Rattle.tree_search.proofs.FanLaws.{spans-parts, spans-join, stay_under}
-use Rattle.page_space.proofs.MovesLaws.{Moves-trans}
-use Rattle.page_space.proofs.Places.{Moves-widen, Moves-write, in_part, part_after, same_beside}
+use Rattle.page_alloc.proofs.MovesLaws.{Moves-trans}
+use Rattle.page_alloc.proofs.Places.{Moves-widen, Moves-write, in_part, part_after, same_beside}
 use Rattle.bplus_tree.proofs.Editing.{tree_of, reach_begins}
 
 -- the pages that are left, and their bytes

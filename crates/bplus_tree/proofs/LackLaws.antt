@@ -2,19 +2,19 @@
 use Rattle.std.proofs.Common.{◌≡◌, ℕ, ◌+◌, ◌-◌, ◌/◌, ◌<◌, List, Result, IfErr, sym, ap, subst, arith, Option}
 use Rattle.line_pages.specs.declared.stop.Stop.{Stop}
 use Rattle.line_pages.specs.Lines.{Lines}
-use Rattle.page_space.specs.Stops.{IsFault}
+use Rattle.page_alloc.specs.Stops.{IsFault}
 use Rattle.bplus_tree.specs.Damage.{IsLack}
 use Rattle.line_pages.specs.Bytes.{bytes_of, page_bytes}
-use Rattle.slotted_page.specs.declared.root.Expect.{Expect}
-use Rattle.slotted_page.specs.Node.{children, IsWellFormed}
+use Rattle.page_format.specs.declared.root.Expect.{Expect}
+use Rattle.page_format.specs.Node.{children, IsWellFormed}
 use Rattle.node_edit.specs.declared.pair.Pair.{Pair}
-use Rattle.page_space.specs.Space.{FitsHeader}
+use Rattle.page_alloc.specs.Space.{FitsHeader}
 use Rattle.node_edit.specs.Edit.{PairsUp, left_of, right_of}
 use Rattle.bplus_tree.specs.Edit.{IsMendable, Joins}
 use Rattle.bplus_tree.proofs.Editing.{mend_segment, joins_over}
 use Rattle.bplus_tree.proofs.SoundLaws.{loose_top}
-use Rattle.page_space.proofs.SoundLaws.{moved_header}
-use Rattle.page_space.proofs.LackLaws.{fault_stops}
+use Rattle.page_alloc.proofs.SoundLaws.{moved_header}
+use Rattle.page_alloc.proofs.LackLaws.{fault_stops}
 
 -- the two pages that are joined under a page to be mended
 pub record PairWell (lines : Lines) (count level : ℕ) (pair : Pair) : Type 0 where

@@ -3,9 +3,9 @@ use Rattle.std.proofs.Common.{◌≡◌, ℕ, zero, suc, ◌-◌, Bool, true, Li
 use Rattle.line_pages.specs.Lines.{Lines}
 use Rattle.line_pages.specs.Bytes.{bytes_of}
 use Rattle.line_pages.specs.Standing.{Standing}
-use Rattle.slotted_page.specs.Rows.{Row, row_get, last_key}
-use Rattle.slotted_page.specs.Spans.{Span}
-use Rattle.slotted_page.specs.Node.{leaf_rows, children}
+use Rattle.rows.specs.Rows.{Row, row_get, last_key}
+use Rattle.page_format.specs.Spans.{Span}
+use Rattle.page_format.specs.Node.{leaf_rows, children, IsWellFormed}
 use Rattle.bplus_tree.specs.declared.outcome.Outcome.{Outcome}
 use Rattle.bplus_tree.specs.declared.outcome.Outcome.TheVariants.{Whole}
 use Rattle.tree_search.specs.declared.root.Root.{Root}
@@ -15,10 +15,10 @@ use Rattle.tree_search.specs.Tree.{IsTree, IsRooted, tree_rows, path, child_for,
 use Rattle.bplus_tree.specs.Path.{Leads, root_place}
 use Rattle.node_edit.specs.Record.{HoldsLength, record_at}
 use Rattle.bplus_tree.specs.Record.{WritesRecord, PutsAgain, PutsRecord}
-use Rattle.page_space.specs.Written.{Meets, WritesOnly, WritesNothing}
+use Rattle.page_alloc.specs.Written.{Meets, WritesOnly, WritesNothing}
 use Rattle.tree_search.proofs.SearchLaws.{well_formed_top}
 use Rattle.tree_search.proofs.OrderLaws.{Descends, descends}
-use Rattle.page_space.proofs.TouchedLaws.{only_then, only_nothing}
+use Rattle.page_alloc.proofs.TouchedLaws.{only_then, only_nothing}
 
 -- paths that are the same begin at the same page
 pub same_first : (lines : Lines) (level key x y : ℕ) → path lines level x key ≡ path lines level y key → x ≡ y
@@ -60,15 +60,36 @@ leads_leaf told lines count key top bottom (passed ∷ path) t tree leads level 
     let here = leaf_next from.expect.pages lines next.expect.level from.page key bottom.page s d ih in
     subst (λ (p : Place). IsLeafOf lines p.expect.level p.page key bottom.page) leads.0 (subst (λ (l : ℕ). IsLeafOf lines l from.page key bottom.page) (sym way.level) here)
 
+-- the leaf at the end of the way is well formed
+pub leads_well : (told : Bool) (lines : Lines) (count key : ℕ) (top bottom : Place) (path : List Passed) → IsTrue told
+    → IsTree top.expect.pages lines top.expect.level top.page top.expect.low top.expect.high top.expect.root → Leads told lines count key top path bottom → IsWellFormed (bytes_of lines bottom.page) bottom.expect
+leads_well told lines count key top bottom [] t tree leads =
+    subst (λ (p : Place). IsWellFormed (bytes_of lines p.page) p.expect) leads (well_formed_top top.expect.pages lines top.expect.level top.page top.expect.low top.expect.high top.expect.root tree)
+leads_well told lines count key top bottom (passed ∷ path) t tree leads =
+    let next = leads.1 in
+    let way = leads.2 in
+    let s : Span = record { page = next.page; low = next.expect.low; high = next.expect.high } in
+    let from = passed.place in
+    let own : IsTree from.expect.pages lines from.expect.level from.page from.expect.low from.expect.high from.expect.root =
+    subst (λ (p : Place). IsTree p.expect.pages lines p.expect.level p.page p.expect.low p.expect.high p.expect.root) (sym leads.0) tree in
+    let found = way.found t (well_formed_top from.expect.pages lines from.expect.level from.page from.expect.low from.expect.high from.expect.root own) in
+    let d = descends from.expect.pages lines next.expect.level from.page from.expect.low from.expect.high from.expect.root key way.at s
+    (subst (λ (l : ℕ). IsTree from.expect.pages lines l from.page from.expect.low from.expect.high from.expect.root) way.level own) found (omega (arith, way.after, way.above)) (omega (arith, way.within, way.before)) way.above way.within in
+    let below : IsTree next.expect.pages lines next.expect.level next.page next.expect.low next.expect.high next.expect.root =
+    subst (λ (n : ℕ). IsTree n lines next.expect.level next.page next.expect.low next.expect.high next.expect.root) (sym way.pages)
+    (subst (λ (b : Bool). IsTree from.expect.pages lines next.expect.level next.page next.expect.low next.expect.high b) (sym way.root) d.tree) in
+    leads_well told lines count key next bottom path t below leads.3
+
 pub again_start : {A : Type 0} (key size : ℕ) (top leaf : Place) (path : List Passed) (old mid new : Standing A) (outcome : Outcome) → Leads old.told old.current old.count key top path leaf → leaf.expect.level ≡ 0
     → (IsTrue old.told → mid.current ≡ old.current) → WritesNothing old mid
-    → (IsTrue old.told → HoldsLength key size (leaf_rows (bytes_of mid.current leaf.page)) → (outcome ≡ Whole) × WritesRecord leaf.page key mid new) → PutsAgain top key size old new outcome
+    → (IsTrue old.told → IsWellFormed (bytes_of mid.current leaf.page) leaf.expect → HoldsLength key size (leaf_rows (bytes_of mid.current leaf.page)) → (outcome ≡ Whole) × WritesRecord leaf.page key mid new) → PutsAgain top key size old new outcome
 again_start key size top leaf path old mid new outcome leads level same nothing wrote = record {
   is = λ told tree holds.
       let at = leads_leaf old.told old.current old.count key top leaf path told tree leads level in
       let here : HoldsLength key size (leaf_rows (bytes_of mid.current leaf.page)) =
       subst (λ (lines : Lines). HoldsLength key size (leaf_rows (bytes_of lines leaf.page))) (sym (same told)) (record { held = holds.held; is = sym at.rows ∙ holds.is; long = holds.long }) in
-      let w = wrote told here in
+      let well = subst (λ (lines : Lines). IsWellFormed (bytes_of lines leaf.page) leaf.expect) (sym (same told)) (leads_well old.told old.current old.count key top leaf path told tree leads) in
+      let w = wrote told well here in
       let record_is = record_at key (bytes_of old.current leaf.page) in (
         w.0,
         subst (λ (n : ℕ). WritesRecord n key old new) (sym at.is)

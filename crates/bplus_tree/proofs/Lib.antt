@@ -12,3 +12,4 @@ pub mod LeafOfKey
 pub mod LineChangeLaws
 pub mod FullLaws
 pub mod FullWayLaws
+mod ByLines

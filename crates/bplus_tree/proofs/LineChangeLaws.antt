@@ -3,15 +3,15 @@ use Rattle.std.proofs.Common.{◌≡◌, ◌≤◌, ◌+◌, ◌-◌, ℕ, suc, 
 use Rattle.line_pages.specs.Lines.{Lines}
 use Rattle.line_pages.specs.Bytes.{bytes_of}
 use Rattle.line_pages.specs.Standing.{Standing, ReadsPage}
-use Rattle.slotted_page.specs.Rows.{Row, row_put, last_key}
-use Rattle.slotted_page.specs.Node.{leaf_rows}
+use Rattle.rows.specs.Rows.{Row, row_put, last_key}
+use Rattle.page_format.specs.Node.{leaf_rows, IsWellFormed}
 use Rattle.node_edit.specs.declared.fit.Fit.{Fit}
 use Rattle.node_edit.specs.declared.fit.Fit.TheVariants as fits
 use Rattle.node_edit.specs.Record.{FitsLeaf}
 use Rattle.tree_search.specs.declared.root.Root.{Root}
 use Rattle.tree_search.specs.Tree.{IsTree, IsRooted, leaf_for}
-use Rattle.page_space.specs.Written.{Differs, WritesOnly, WritesNothing, lines_changed}
-use Rattle.page_space.proofs.TouchedLaws.{only_then, only_nothing, nothing_read}
+use Rattle.page_alloc.specs.Written.{Differs, WritesOnly, WritesNothing, lines_changed}
+use Rattle.page_alloc.proofs.TouchedLaws.{only_then, only_nothing, nothing_read}
 use Rattle.bplus_tree.specs.declared.outcome.Outcome.{Outcome}
 use Rattle.bplus_tree.specs.declared.outcome.Outcome.TheVariants.{Whole}
 use Rattle.bplus_tree.specs.declared.path.Place.{Place}
@@ -19,10 +19,10 @@ use Rattle.bplus_tree.specs.declared.path.Passed.{Passed}
 use Rattle.bplus_tree.specs.Edit.{spent}
 use Rattle.bplus_tree.specs.Path.{Leads, root_place}
 use Rattle.bplus_tree.specs.LineChanges.{WritesChange, PutsChange, PutsLines, leaf_after}
-use Rattle.bplus_tree.proofs.LeafOfKey.{leads_leaf}
+use Rattle.bplus_tree.proofs.LeafOfKey.{leads_leaf, leads_well}
 
 -- after calls that wrote nothing
-change_later : {A : Type 0} (leaf : ℕ) (old mid new : Standing A) → mid.current ≡ old.current → mid.room ≡ old.room → WritesNothing old mid → WritesChange leaf mid new → WritesChange leaf old new
+pub change_later : {A : Type 0} (leaf : ℕ) (old mid new : Standing A) → mid.current ≡ old.current → mid.room ≡ old.room → WritesNothing old mid → WritesChange leaf mid new → WritesChange leaf old new
 change_later leaf old mid new same same_room nothing change =
     let Fact = Differs (bytes_of old.current leaf) (bytes_of new.current leaf) in
     let fewer : old.room ≤ new.room + lines_changed (bytes_of mid.current leaf) (bytes_of new.current leaf) = omega (arith, change.once, same_room) in
@@ -56,7 +56,7 @@ leads_ground told lines count key top bottom (passed ∷ path) leads ground =
 
 pub lines_start : {A : Type 0} (key : ℕ) (value : List ℕ) (top leaf : Place) (path : List Passed) (old mid new : Standing A) (outcome : Outcome) → Leads old.told old.current old.count key top path leaf → leaf.expect.level ≡ 0
     → (IsTrue old.told → mid.current ≡ old.current) → mid.room ≡ old.room → WritesNothing old mid
-    → (IsTrue old.told → FitsLeaf (leaf.expect.root ≡ true) (row_put key value (leaf_rows (bytes_of mid.current leaf.page))) → (outcome ≡ Whole) × WritesChange leaf.page mid new) → PutsChange top key value old new outcome
+    → (IsTrue old.told → IsWellFormed (bytes_of mid.current leaf.page) leaf.expect → FitsLeaf (leaf.expect.root ≡ true) (row_put key value (leaf_rows (bytes_of mid.current leaf.page))) → (outcome ≡ Whole) × WritesChange leaf.page mid new) → PutsChange top key value old new outcome
 lines_start key value top leaf path old mid new outcome leads level same same_room nothing wrote = record {
   is = λ told tree fits.
       let at = leads_leaf old.told old.current old.count key top leaf path told tree leads level in
@@ -64,7 +64,8 @@ lines_start key value top leaf path old mid new outcome leads level same same_ro
       λ h. sym (ap (λ (p : Place). p.expect.root) (leads_ground old.told old.current old.count key top leaf path leads h.0)) ∙ h.1 in
       let there : FitsLeaf (leaf.expect.root ≡ true) (row_put key value (leaf_rows (bytes_of old.current leaf.page))) =
       subst (λ (n : ℕ). FitsLeaf (leaf.expect.root ≡ true) (row_put key value (leaf_rows (bytes_of old.current n)))) at.is (fits_or (leaf_after old.current top.expect.level top.page key value) is_root fits) in
-      let w = wrote told (subst (λ (lines : Lines). FitsLeaf (leaf.expect.root ≡ true) (row_put key value (leaf_rows (bytes_of lines leaf.page)))) (sym (same told)) there) in
+      let well = subst (λ (lines : Lines). IsWellFormed (bytes_of lines leaf.page) leaf.expect) (sym (same told)) (leads_well old.told old.current old.count key top leaf path told tree leads) in
+      let w = wrote told well (subst (λ (lines : Lines). FitsLeaf (leaf.expect.root ≡ true) (row_put key value (leaf_rows (bytes_of lines leaf.page)))) (sym (same told)) there) in
       (w.0, subst (λ (n : ℕ). WritesChange n old new) (sym at.is) (change_later leaf.page old mid new (same told) same_room nothing w.1));
 }
 

@@ -3,27 +3,27 @@ use Rattle.std.proofs.Common.{◌≡◌, ◌≢◌, ℕ, suc, ◌+◌, ◌-◌, 
 use Rattle.line_pages.specs.Lines.{Lines}
 use Rattle.line_pages.specs.Bytes.{bytes_of, page_bytes}
 use Rattle.line_pages.specs.Standing.{Standing}
-use Rattle.slotted_page.specs.declared.root.Expect.{Expect}
-use Rattle.slotted_page.specs.declared.spot.Spot.TheVariants.{Child}
-use Rattle.slotted_page.specs.Search.{IsSafeSpot}
-use Rattle.slotted_page.specs.Spans.{spans}
-use Rattle.slotted_page.specs.Node.{children, IsWellFormed, entry_count}
+use Rattle.page_format.specs.declared.root.Expect.{Expect}
+use Rattle.page_format.specs.declared.spot.Spot.TheVariants.{Child}
+use Rattle.page_format.specs.Search.{IsSafeSpot}
+use Rattle.page_format.specs.Spans.{spans}
+use Rattle.page_format.specs.Node.{children, IsWellFormed, entry_count}
 use Rattle.bplus_tree.specs.declared.path.Place.{Place}
 use Rattle.bplus_tree.specs.declared.path.Passed.{Passed}
-use Rattle.slotted_page.specs.Rows.{Row}
+use Rattle.rows.specs.Rows.{Row}
 use Rattle.bplus_tree.specs.declared.outcome.Outcome.{Outcome}
 use Rattle.bplus_tree.specs.declared.outcome.Outcome.TheVariants.{Whole, Short, Cut, Alone}
 use Rattle.bplus_tree.specs.Edit.{Edits, Mends, IsSafe, StaysBelow, IsSpent, IsMendable}
 use Rattle.tree_search.specs.declared.root.Root.{Root}
 use Rattle.bplus_tree.specs.Path.{IsPlace, LeadsTo, Leads, Settles, MayFollow, StandsAt, StandsAbove, StopsAbove, IsFullAt, TakesFor, room_above, root_place}
 use Rattle.line_pages.specs.declared.stop.Stop.{Stop}
-use Rattle.page_space.specs.Space.{FitsHeader}
+use Rattle.page_alloc.specs.Space.{FitsHeader}
 use Rattle.tree_search.specs.Tree.{IsTree, tree_pages, tree_rows}
-use Rattle.page_space.specs.Stops.{IsFault, StopsFor, spare_pages}
+use Rattle.page_alloc.specs.Stops.{IsFault, StopsFor, spare_pages}
 use Rattle.tree_search.proofs.SizeLaws.{full_root_rows}
-use Rattle.page_space.proofs.SoundLaws.{moved_header}
+use Rattle.page_alloc.proofs.SoundLaws.{moved_header}
 use Rattle.tree_search.proofs.SearchLaws.{well_formed_top}
-use Rattle.page_space.proofs.LackLaws.{stops_wider, fault_stops}
+use Rattle.page_alloc.proofs.LackLaws.{stops_wider, fault_stops}
 use Rattle.bplus_tree.proofs.StandLaws.{way_down, stands_child, leads_stands, above_child, takes_leaf, takes_above}
 use Rattle.bplus_tree.proofs.Editing.{IsLocal, at_level, short_below, edits_kept, edits_short, edits_alone}
 use Rattle.bplus_tree.proofs.Storing.{edits_cut}

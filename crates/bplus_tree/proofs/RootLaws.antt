@@ -3,20 +3,20 @@ use Rattle.std.proofs.Common.{◌≡◌, ℕ, ◌+◌, ◌-◌, ◌/◌, ◌<◌
 use Rattle.std.proofs.lemmas.Bool.{cases_lt, cases_eq, lt-ltb, le-ltb, eq-eqb, ne_eqb}
 use Rattle.line_pages.specs.declared.stop.Stop.{Stop}
 use Rattle.line_pages.specs.Lines.{Lines}
-use Rattle.slotted_page.specs.Rows.{Row, row_put, last_key}
+use Rattle.rows.specs.Rows.{Row, row_put, last_key}
 use Rattle.tree_search.specs.declared.root.Root.{Root}
 use Rattle.bplus_tree.specs.declared.path.Place.{Place}
 use Rattle.bplus_tree.specs.declared.outcome.Outcome.TheVariants.{Cut}
-use Rattle.page_space.specs.Space.{IsFreeList, FitsHeader}
+use Rattle.page_alloc.specs.Space.{IsFreeList, FitsHeader}
 use Rattle.tree_search.specs.Tree.{tree_rows}
-use Rattle.page_space.specs.Moves.{ArePart}
+use Rattle.page_alloc.specs.Moves.{ArePart}
 use Rattle.bplus_tree.specs.Damage.{StandsIn, IsLack}
-use Rattle.page_space.specs.Stops.{StopsFor, IsShort, spare_pages, pages_at_hand}
+use Rattle.page_alloc.specs.Stops.{StopsFor, IsShort, spare_pages, pages_at_hand}
 use Rattle.bplus_tree.specs.Edit.{Edits}
 use Rattle.bplus_tree.specs.Path.{StandsAt, TakesFor, root_place}
 use Rattle.tree_search.proofs.SizeLaws.{page_most}
-use Rattle.page_space.proofs.SoundLaws.{moved_header}
-use Rattle.page_space.proofs.LackLaws.{stops_wider}
+use Rattle.page_alloc.proofs.SoundLaws.{moved_header}
+use Rattle.page_alloc.proofs.LackLaws.{stops_wider}
 
 pub length-row_put : (key : ℕ) (value : List ℕ) (rows : List Row) → length rows ≤ length (row_put key value rows)
 length-row_put key value [] = omega arith

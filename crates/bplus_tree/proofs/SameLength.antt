@@ -7,10 +7,10 @@ use Rattle.node_edit.specs.declared.fit.Fit.TheVariants as fits
 use Rattle.bplus_tree.specs.declared.outcome.Outcome.{Outcome}
 use Rattle.bplus_tree.specs.declared.outcome.Outcome.TheVariants.{Whole}
 use Rattle.bplus_tree.specs.Edit.{IsOutcome}
-use Rattle.page_space.proofs.TouchedLaws.{only_then, only_weaker, only_nothing, nothing_read}
+use Rattle.page_alloc.proofs.TouchedLaws.{only_then, only_weaker, only_nothing, nothing_read}
 use Rattle.node_edit.specs.Record.{record_at}
 use Rattle.bplus_tree.specs.Record.{WritesRecord}
-use Rattle.page_space.specs.Written.{Differs, Meets, WritesOnly}
+use Rattle.page_alloc.specs.Written.{Differs, Meets, WritesOnly}
 
 -- a fit that is no cut
 pub uncut_whole : (fit : Fit) → fit ≡ fits.Whole → (key : ℕ) → fit ≢ fits.Cut key

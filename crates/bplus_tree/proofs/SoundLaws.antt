@@ -3,19 +3,19 @@ use Rattle.std.proofs.Common.{◌≡◌, ℕ, inl, inr, Bool, true, List, [], �
 use Rattle.std.proofs.lemmas.Bool.{cases_Bool, cases_eq, eq-eqb, ne_eqb}
 use Rattle.line_pages.specs.declared.stop.Stop.{Stop}
 use Rattle.line_pages.specs.declared.stop.Stop.TheVariants.{Nvm, Ssd, Damaged}
-use Rattle.line_pages.specs.declared.stop.Evidence.TheVariants.{Super, Frames, Log, Page, Walk}
+use Rattle.damage.specs.declared.evidence.Evidence.TheVariants.{Super, Frames, Log, Page, Walk}
 use Rattle.line_pages.specs.Lines.{Lines}
-use Rattle.slotted_page.specs.declared.root.Expect.{Expect}
-use Rattle.slotted_page.specs.Checks.{first_failure}
+use Rattle.page_format.specs.declared.root.Expect.{Expect}
+use Rattle.damage.specs.Checks.{first_failure}
 use Rattle.line_pages.specs.Bytes.{bytes_of}
-use Rattle.slotted_page.specs.Room.{leaf_floor, inner_floor}
-use Rattle.slotted_page.specs.Node.{entry_count, slots, bytes_used, first_failing, IsWellFormed}
+use Rattle.page_format.specs.Room.{leaf_floor, inner_floor}
+use Rattle.page_format.specs.Node.{entry_count, slots, bytes_used, first_failing, IsWellFormed}
 use Rattle.node_edit.specs.Edit.{loose}
 use Rattle.tree_search.specs.Tree.{IsTree}
 use Rattle.tree_search.proofs.SearchLaws.{well_formed_top}
 use Rattle.page_search.specs.Answers.{ShowsDamage}
 use Rattle.page_search.proofs.DamageLaws.{leaf_front, inner_front}
-use Rattle.page_space.specs.Stops.{IsFault}
+use Rattle.page_alloc.specs.Stops.{IsFault}
 
 -- a page that is well formed shows no damage
 pub sound_page : {T : Type 0} (page : ℕ) (expect : Expect) (bytes : List ℕ) (result : Result T Stop) → IsWellFormed bytes expect → IfErr result (ShowsDamage page expect bytes) → IfErr result IsFault

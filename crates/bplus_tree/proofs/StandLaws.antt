@@ -3,26 +3,26 @@ use Rattle.std.proofs.Common.{◌≡◌, ℕ, suc, ◌+◌, ◌≤◌, Bool, fal
 use Rattle.line_pages.specs.declared.stop.Stop.{Stop}
 use Rattle.line_pages.specs.Lines.{Lines}
 use Rattle.line_pages.specs.Bytes.{bytes_of}
-use Rattle.slotted_page.specs.Rows.{Row}
-use Rattle.slotted_page.specs.Spans.{spans}
-use Rattle.slotted_page.specs.Node.{Child, children, IsWellFormed}
+use Rattle.rows.specs.Rows.{Row}
+use Rattle.page_format.specs.Spans.{spans}
+use Rattle.page_format.specs.Node.{Child, children, IsWellFormed}
 use Rattle.bplus_tree.specs.declared.outcome.Outcome.{Outcome}
 use Rattle.bplus_tree.specs.declared.outcome.Outcome.TheVariants.{Whole, Short, Cut, Alone}
 use Rattle.bplus_tree.specs.declared.path.Place.{Place}
 use Rattle.bplus_tree.specs.declared.path.Passed.{Passed}
-use Rattle.page_space.specs.Space.{free_head, IsFreeList, FitsHeader}
-use Rattle.page_space.specs.Counted.{times}
+use Rattle.page_alloc.specs.Space.{free_head, IsFreeList, FitsHeader}
+use Rattle.page_alloc.specs.Counted.{times}
 use Rattle.tree_search.specs.Tree.{IsTree, tree_pages, tree_rows, pages_of}
-use Rattle.page_space.specs.Moves.{ArePart, Moves}
-use Rattle.page_space.specs.Stops.{StopsFor, IsShort, spare_pages}
+use Rattle.page_alloc.specs.Moves.{ArePart, Moves}
+use Rattle.page_alloc.specs.Stops.{StopsFor, IsShort, spare_pages}
 use Rattle.bplus_tree.specs.Edit.{Became, Edits, own}
 use Rattle.bplus_tree.specs.Path.{LeadsTo, Leads, Settles, MayFollow, StandsAt, TakesFor}
-use Rattle.page_space.proofs.CountedLaws.{times-append, SameOn-first}
+use Rattle.page_alloc.proofs.CountedLaws.{times-append, SameOn-first}
 use Rattle.tree_search.proofs.OrderLaws.{IsChildTree, Each-get, Located, located}
-use Rattle.page_space.proofs.SpaceLaws.{free_from-unique}
-use Rattle.page_space.proofs.Places.{Moves-widen, part_after, same_beside}
+use Rattle.page_alloc.proofs.SpaceLaws.{free_from-unique}
+use Rattle.page_alloc.proofs.Places.{Moves-widen, part_after, same_beside}
 use Rattle.bplus_tree.proofs.Editing.{at_level, child_part, three_pages}
-use Rattle.page_space.proofs.LackLaws.{stops_wider, at_hand-kept}
+use Rattle.page_alloc.proofs.LackLaws.{stops_wider, at_hand-kept}
 use Rattle.tree_search.proofs.SearchLaws.{well_formed_top}
 
 -- the child that the way goes on to, in the page that it leaves

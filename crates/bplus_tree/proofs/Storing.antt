@@ -4,30 +4,30 @@ use Rattle.std.proofs.lemmas.Bool.{eq-eqb}
 use Rattle.std.proofs.lemmas.List.Concat.{flat_map-append}
 use Rattle.line_pages.specs.Lines.{Lines}
 use Rattle.line_pages.specs.Bytes.{bytes_of, page_bytes}
-use Rattle.slotted_page.specs.declared.root.Expect.{Expect}
-use Rattle.slotted_page.specs.Rows.{Row, Each, Ascends, last_key}
-use Rattle.slotted_page.specs.Spans.{Span, reach, spans}
-use Rattle.slotted_page.specs.Node.{Child, leaf_rows, children, first_keys, IsWellFormed}
-use Rattle.slotted_page.proofs.PageFacts.{inner_facts}
+use Rattle.page_format.specs.declared.root.Expect.{Expect}
+use Rattle.rows.specs.Rows.{Row, Each, Ascends, last_key}
+use Rattle.page_format.specs.Spans.{Span, reach, spans}
+use Rattle.page_format.specs.Node.{Child, leaf_rows, children, first_keys, IsWellFormed}
+use Rattle.page_format.proofs.PageFacts.{inner_facts}
 use Rattle.tree_search.specs.declared.root.Root.{Root}
 use Rattle.node_edit.specs.declared.fit.Fit.{Fit}
 use Rattle.node_edit.specs.declared.fit.Fit.TheVariants as fits
 use Rattle.bplus_tree.specs.declared.outcome.Outcome.{Outcome}
 use Rattle.bplus_tree.specs.declared.outcome.Outcome.TheVariants.{Whole, Short, Cut, Alone}
-use Rattle.page_space.specs.Space.{high_of}
-use Rattle.page_space.specs.Counted.{times, SameOn}
+use Rattle.page_alloc.specs.Space.{high_of}
+use Rattle.page_alloc.specs.Counted.{times, SameOn}
 use Rattle.tree_search.specs.Tree.{IsTree, Tree, tree_rows, tree_pages, rows_of, pages_of}
-use Rattle.page_space.specs.Moves.{ArePart, Moves, Takes}
+use Rattle.page_alloc.specs.Moves.{ArePart, Moves, Takes}
 use Rattle.bplus_tree.specs.Changes.{ChangesRows}
-use Rattle.page_space.specs.Written.{Rewrites}
+use Rattle.page_alloc.specs.Written.{Rewrites}
 use Rattle.node_edit.specs.Edit.{part, loose, Divides, Fits, child_put, IsNewRoot}
 use Rattle.bplus_tree.specs.Edit.{Became, Edits, IsOutcome, Stored, Stores, AddsChild, root_left, spent, IsSpent}
-use Rattle.page_space.proofs.CountedLaws.{times-append, SameOn-first}
+use Rattle.page_alloc.proofs.CountedLaws.{times-append, SameOn-first}
 use Rattle.tree_search.proofs.SizeLaws.{page_bound}
 use Rattle.tree_search.proofs.OrderLaws.{IsChildTree, length-children, Each-get, located}
 use Rattle.tree_search.proofs.FanLaws.{spans-parts, spans-join, stay_under, beside}
-use Rattle.page_space.proofs.MovesLaws.{Moves-trans}
-use Rattle.page_space.proofs.Places.{Moves-widen, Moves-write, in_part, part_after, same_beside}
+use Rattle.page_alloc.proofs.MovesLaws.{Moves-trans}
+use Rattle.page_alloc.proofs.Places.{Moves-widen, Moves-write, in_part, part_after, same_beside}
 use Rattle.bplus_tree.proofs.Editing.{IsLocal, at_level, tree_of, reach_begins, one_above, once_after, Beside, turn, child_part}
 use Rattle.node_edit.proofs.ChildEdits.{child_put-behind, child_put-next, keys_below}
 

@@ -1,14 +1,14 @@
 -- Damage in the words of trees.
 use Rattle.std.proofs.Common.{◌≡◌, ℕ, inl, inr, Bool, List, [], ◌∷◌, ◌++◌, Some, Result, Ok, Err, IfErr, IsTrue, sym, subst, not, ◌==◌, ◌&&◌, ◌||◌}
 use Rattle.std.proofs.lemmas.Bool.{cases_Bool}
-use Rattle.line_pages.specs.declared.stop.Evidence.{Evidence}
+use Rattle.damage.specs.declared.evidence.Evidence.{Evidence}
 use Rattle.line_pages.specs.declared.stop.Stop.{Stop}
 use Rattle.line_pages.specs.declared.stop.Stop.TheVariants.{Nvm, Ssd, Damaged}
 use Rattle.line_pages.specs.Lines.{Lines}
 use Rattle.line_pages.specs.Standing.{Standing, HasCause}
-use Rattle.slotted_page.specs.Checks.{first_failure}
-use Rattle.slotted_page.specs.Search.{IsNodeDamage, FailsNode, Keeps, Unchanged}
-use Rattle.page_space.specs.Space.{free_head, high_of, is_free_page, header_checks, take_checks, IsSpaceDamage, FailsSpace}
+use Rattle.damage.specs.Checks.{first_failure}
+use Rattle.page_format.specs.Search.{IsNodeDamage, FailsNode, Keeps, Unchanged}
+use Rattle.page_alloc.specs.Space.{free_head, high_of, is_free_page, header_checks, take_checks, IsSpaceDamage, FailsSpace}
 use Rattle.bplus_tree.specs.Damage.{IsTreeDamage, IsFullRoot, FailsRoot, FailsTree}
 
 node_damage : (told : Bool) (count : ℕ) (lines : Lines) (buffer : List ℕ) (e : Evidence) → (IsTrue told → IsNodeDamage count lines buffer e) → IsTreeDamage told count lines buffer e

@@ -2,10 +2,10 @@
 use Rattle.std.specs.Prelude.{ℕ, ◌+◌, ◌/◌, ◌≤◌, List, ◌++◌, length}
 use Rattle.tree_search.specs.declared.root.Root.{Root}
 use Rattle.line_pages.specs.Lines.{Lines}
-use Rattle.page_space.specs.Space.{high_of, IsFreeList}
-use Rattle.slotted_page.specs.Rows.{Row}
+use Rattle.page_alloc.specs.Space.{high_of, IsFreeList}
+use Rattle.rows.specs.Rows.{Row}
 use Rattle.tree_search.specs.Tree.{IsRooted}
-use Rattle.page_space.specs.Moves.{ArePart, Moves, SameEntries}
+use Rattle.page_alloc.specs.Moves.{ArePart, Moves, SameEntries}
 
 -- The tree of a root before a call and after it: it has these rows, and at most so many pages.
 pub record Changes (count : ℕ) (old new : Lines) (root root' : Root) (used free : List ℕ) (rows' : List Row) : Type 0 where

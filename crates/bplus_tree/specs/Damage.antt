@@ -1,18 +1,18 @@
 -- What the evidence of damage that a call on a tree answers shows.
 use Rattle.std.specs.Prelude.{◌≡◌, ℕ, ◌+◌, ◌/◌, ◌<◌, ◌⊎◌, Bool, true, List, ◌++◌, IsTrue}
-use Rattle.line_pages.specs.declared.stop.Evidence.{Evidence}
-use Rattle.line_pages.specs.declared.stop.Evidence.TheVariants.{Super, Frames, Log, Page, Walk}
+use Rattle.damage.specs.declared.evidence.Evidence.{Evidence}
+use Rattle.damage.specs.declared.evidence.Evidence.TheVariants.{Super, Frames, Log, Page, Walk}
 use Rattle.line_pages.specs.declared.stop.Stop.{Stop}
 use Rattle.line_pages.specs.Lines.{Lines}
 use Rattle.line_pages.specs.Bytes.{bytes_of}
-use Rattle.slotted_page.specs.Node.{entry_count}
-use Rattle.slotted_page.specs.Rows.{Row}
-use Rattle.slotted_page.specs.Search.{is_root_span, IsNodeDamage, FailsNode}
+use Rattle.page_format.specs.Node.{entry_count}
+use Rattle.rows.specs.Rows.{Row}
+use Rattle.page_format.specs.Search.{is_root_span, IsNodeDamage, FailsNode}
 use Rattle.tree_search.specs.declared.root.Root.{Root}
-use Rattle.page_space.specs.Space.{take_checks, IsSpaceDamage, FailsSpace, IsFreeList, FitsHeader}
+use Rattle.page_alloc.specs.Space.{take_checks, IsSpaceDamage, FailsSpace, IsFreeList, FitsHeader}
 use Rattle.tree_search.specs.Tree.{IsRooted}
-use Rattle.page_space.specs.Moves.{ArePart}
-use Rattle.page_space.specs.Stops.{StopsFor}
+use Rattle.page_alloc.specs.Moves.{ArePart}
+use Rattle.page_alloc.specs.Stops.{StopsFor}
 
 -- a root at level 3 that has all the children that a page has room for, and would have to be cut
 abbrev pub IsFullRoot : ℕ → Lines → List ℕ → Evidence → Type 0

@@ -2,20 +2,20 @@
 use Rattle.std.specs.Prelude.{◌≡◌, ◌≢◌, ℕ, suc, ◌+◌, ◌-◌, ◌*◌, ◌<◌, ◌≤◌, ◌⊎◌, Bool, true, false, List, [], ◌∷◌, ◌++◌, Option, None, max}
 use Rattle.line_pages.specs.Lines.{Lines}
 use Rattle.line_pages.specs.Bytes.{bytes_of}
-use Rattle.slotted_page.specs.declared.root.Expect.{Expect}
-use Rattle.slotted_page.specs.Rows.{Row, Each}
-use Rattle.slotted_page.specs.Spans.{Span, reach, spans}
-use Rattle.slotted_page.specs.Node.{Child, children, entry_count, IsWellFormed}
+use Rattle.page_format.specs.declared.root.Expect.{Expect}
+use Rattle.rows.specs.Rows.{Row, Each}
+use Rattle.page_format.specs.Spans.{Span, reach, spans}
+use Rattle.page_format.specs.Node.{Child, children, entry_count, IsWellFormed}
 use Rattle.tree_search.specs.declared.root.Root.{Root}
 use Rattle.node_edit.specs.declared.fit.Fit.{Fit}
 use Rattle.node_edit.specs.declared.fit.Fit.TheVariants as fits
 use Rattle.bplus_tree.specs.declared.outcome.Outcome.{Outcome}
 use Rattle.bplus_tree.specs.declared.outcome.Outcome.TheVariants.{Whole, Short, Cut, Alone}
 use Rattle.node_edit.specs.declared.pair.Pair.{Pair}
-use Rattle.page_space.specs.Space.{high_of, IsFreeList}
+use Rattle.page_alloc.specs.Space.{high_of, IsFreeList}
 use Rattle.tree_search.specs.Tree.{IsTree, tree_rows, tree_pages, pages_of, rows_of}
-use Rattle.page_space.specs.Moves.{ArePart, Moves, SameEntries, Gives}
-use Rattle.page_space.specs.Written.{Rewrites}
+use Rattle.page_alloc.specs.Moves.{ArePart, Moves, SameEntries, Gives}
+use Rattle.page_alloc.specs.Written.{Rewrites}
 use Rattle.node_edit.specs.Edit.{Fits, Mended, both, child_put, joined}
 
 -- what stands for a page afterwards: its pages, its rows, and that it is a tree, or two that part at a key

@@ -1,14 +1,14 @@
 -- Why a put stops for a full root, or where no page is left: the leaf of the key has no room for the row.
 use Rattle.std.specs.Prelude.{◌≡◌, ◌≢◌, ℕ, zero, suc, ◌<◌, List}
-use Rattle.line_pages.specs.declared.stop.Evidence.TheVariants.{Super, Frames, Log, Page, Walk}
+use Rattle.damage.specs.declared.evidence.Evidence.TheVariants.{Super, Frames, Log, Page, Walk}
 use Rattle.line_pages.specs.declared.stop.Stop.{Stop}
 use Rattle.line_pages.specs.declared.stop.Stop.TheVariants.{Nvm, Ssd, Damaged}
 use Rattle.line_pages.specs.Lines.{Lines}
 use Rattle.line_pages.specs.Bytes.{bytes_of}
-use Rattle.slotted_page.specs.Rows.{Row}
-use Rattle.slotted_page.specs.Room.{leaf_room}
-use Rattle.slotted_page.specs.Sound.{row_bytes}
-use Rattle.slotted_page.specs.Node.{children, entry_count}
+use Rattle.rows.specs.Rows.{Row}
+use Rattle.page_format.specs.Room.{leaf_room}
+use Rattle.page_format.specs.Sound.{row_bytes}
+use Rattle.page_format.specs.Node.{children, entry_count}
 use Rattle.tree_search.specs.declared.root.Root.{Root}
 use Rattle.tree_search.specs.Tree.{child_for}
 use Rattle.bplus_tree.specs.declared.outcome.Outcome.{Outcome}

@@ -1,3 +1,4 @@
+pub mod Causes
 pub mod Changes
 pub mod Damage
 pub mod Edit

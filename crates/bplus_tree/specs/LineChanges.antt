@@ -1,7 +1,7 @@
 -- A value put by the lines of its leaf that change alone.
 use Rattle.std.specs.Prelude.{◌≡◌, ℕ, ◌+◌, ◌-◌, ◌≤◌, IsTrue, true, List}
-use Rattle.slotted_page.specs.Rows.{Row, row_put}
-use Rattle.slotted_page.specs.Node.{leaf_rows}
+use Rattle.rows.specs.Rows.{Row, row_put}
+use Rattle.page_format.specs.Node.{leaf_rows}
 use Rattle.line_pages.specs.Lines.{Lines}
 use Rattle.line_pages.specs.Bytes.{bytes_of}
 use Rattle.line_pages.specs.Standing.{Standing}
@@ -10,7 +10,7 @@ use Rattle.bplus_tree.specs.declared.path.Place.{Place}
 use Rattle.bplus_tree.specs.declared.outcome.Outcome.{Outcome}
 use Rattle.bplus_tree.specs.declared.outcome.Outcome.TheVariants.{Whole}
 use Rattle.tree_search.specs.Tree.{IsTree, IsRooted, leaf_for}
-use Rattle.page_space.specs.Written.{Differs, WritesOnly, lines_changed}
+use Rattle.page_alloc.specs.Written.{Differs, WritesOnly, lines_changed}
 use Rattle.node_edit.specs.Record.{FitsLeaf}
 
 -- Lines are written of this leaf alone, and of it those alone that differ before and after, each once.

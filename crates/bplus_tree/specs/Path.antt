@@ -2,21 +2,21 @@
 use Rattle.std.specs.Prelude.{◌≡◌, ◌≢◌, ℕ, suc, ◌+◌, ◌-◌, ◌<◌, ◌≤◌, Bool, true, false, List, [], ◌∷◌, ◌++◌, Some, slice_get, IsTrue}
 use Rattle.line_pages.specs.Lines.{Lines}
 use Rattle.line_pages.specs.Bytes.{bytes_of}
-use Rattle.slotted_page.specs.declared.root.Expect.{Expect}
-use Rattle.slotted_page.specs.Search.{is_root_span}
-use Rattle.slotted_page.specs.Rows.{last_key}
-use Rattle.slotted_page.specs.Spans.{spans}
-use Rattle.slotted_page.specs.Node.{children, entry_count, IsWellFormed}
+use Rattle.page_format.specs.declared.root.Expect.{Expect}
+use Rattle.page_format.specs.Search.{is_root_span}
+use Rattle.rows.specs.Rows.{last_key}
+use Rattle.page_format.specs.Spans.{spans}
+use Rattle.page_format.specs.Node.{children, entry_count, IsWellFormed}
 use Rattle.tree_search.specs.declared.root.Root.{Root}
 use Rattle.bplus_tree.specs.declared.outcome.Outcome.{Outcome}
 use Rattle.bplus_tree.specs.declared.outcome.Outcome.TheVariants.{Whole, Short, Cut, Alone}
 use Rattle.bplus_tree.specs.declared.path.Place.{Place}
 use Rattle.bplus_tree.specs.declared.path.Passed.{Passed}
 use Rattle.line_pages.specs.declared.stop.Stop.{Stop}
-use Rattle.page_space.specs.Space.{high_of, IsFreeList}
+use Rattle.page_alloc.specs.Space.{high_of, IsFreeList}
 use Rattle.tree_search.specs.Tree.{IsTree, tree_pages}
-use Rattle.page_space.specs.Moves.{ArePart}
-use Rattle.page_space.specs.Stops.{IsFault, StopsFor, spare_pages}
+use Rattle.page_alloc.specs.Moves.{ArePart}
+use Rattle.page_alloc.specs.Stops.{IsFault, StopsFor, spare_pages}
 use Rattle.bplus_tree.specs.Edit.{IsMendable, Mends, AddsChild}
 
 -- the place of a root

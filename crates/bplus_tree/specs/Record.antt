@@ -1,6 +1,6 @@
 -- A value put by the lines of its record alone.
 use Rattle.std.specs.Prelude.{◌≡◌, ℕ, ◌-◌, IsTrue, List}
-use Rattle.slotted_page.specs.Rows.{Row}
+use Rattle.rows.specs.Rows.{Row}
 use Rattle.line_pages.specs.Bytes.{bytes_of}
 use Rattle.line_pages.specs.Standing.{Standing}
 use Rattle.tree_search.specs.declared.root.Root.{Root}
@@ -8,7 +8,7 @@ use Rattle.bplus_tree.specs.declared.path.Place.{Place}
 use Rattle.bplus_tree.specs.declared.outcome.Outcome.{Outcome}
 use Rattle.bplus_tree.specs.declared.outcome.Outcome.TheVariants.{Whole}
 use Rattle.tree_search.specs.Tree.{IsTree, IsRooted, tree_rows, leaf_for}
-use Rattle.page_space.specs.Written.{Meets, WritesOnly}
+use Rattle.page_alloc.specs.Written.{Meets, WritesOnly}
 use Rattle.node_edit.specs.Record.{HoldsLength, record_at}
 
 -- lines are written of the key's record in its leaf alone, as it stands before

@@ -1,25 +1,29 @@
 //! The calls on pages that the changes of a tree are made of, with the damage that they show in the words of trees.
-ghost use Rattle.std.specs.Prelude.{◌≡◌, ◌≢◌, ◌∷◌, ◌+◌, ◌*◌, ◌<◌, ◌≤◌, ℕ, List, length, true, IsTrue, OnOk, IfOk, IfErr};
+ghost use Rattle.std.specs.Prelude.{◌≡◌, ◌≢◌, ◌∷◌, ◌+◌, ◌*◌, ◌<◌, ◌≤◌, ℕ, List, length, true, false, IsTrue, OnOk, IfOk, IfErr};
+ghost use Rattle.bplus_tree.specs.Causes.{TreeCause};
+ghost use Rattle.page_search.specs.Causes.{OnPage};
+ghost use Rattle.line_pages.specs.PagesCall.{PagesCall};
 ghost use Rattle.line_pages.specs.Bytes.{bytes_of};
-ghost use Rattle.line_pages.specs.Standing.{Continues, HasCause, Never, KeepsLines, ReadsPage};
-ghost use Rattle.slotted_page.specs.Node.{IsWellFormed};
-ghost use Rattle.slotted_page.specs.Search.{is_root_span, IsSpot, IsSafeSpot, Keeps};
-ghost use Rattle.slotted_page.specs.Work.{KeepsOthers};
-ghost use Rattle.bplus_tree.specs.Damage.{IsTreeDamage, FailsTree};
+ghost use Rattle.line_pages.specs.Touch.{begins};
+ghost use Rattle.line_pages.specs.Standing.{HasCause, Never, KeepsLines, ReadsPage};
+ghost use Rattle.page_format.specs.Node.{IsWellFormed};
+ghost use Rattle.page_format.specs.Search.{is_root_span, IsSpot, IsSafeSpot, Keeps};
+ghost use Rattle.page_format.specs.Work.{KeepsOthers};
+ghost use Rattle.bplus_tree.specs.Damage.{FailsTree};
 ghost use Rattle.bplus_tree.specs.Full.{NotFull};
-ghost use Rattle.page_space.specs.Stops.{IsFault, IsShort, spare_pages};
-ghost use Rattle.page_space.specs.Moves.{ArePart, Takes, Gives};
-ghost use Rattle.page_space.specs.Space.{FitsHeader, IsFreeList};
-ghost use Rattle.page_space.specs.Written.{Rewrites, Differs, WritesOnly, lines_changed};
+ghost use Rattle.page_alloc.specs.Stops.{IsFault, IsShort, spare_pages};
+ghost use Rattle.page_alloc.specs.Moves.{ArePart, Takes, Gives};
+ghost use Rattle.page_alloc.specs.Space.{FitsHeader, IsFreeList};
+ghost use Rattle.page_alloc.specs.Written.{Rewrites, Differs, WritesOnly, lines_changed};
 ghost use Rattle.node_edit.specs.declared.fit.Fit.TheVariants as fits;
 ghost use Rattle.bplus_tree.specs.Edit.{IsOutcome, IsCutAt, Stores, spent};
 
 use crate::outcome::Outcome;
 use line_pages::{Pages, Stop, copy_page};
 use node_edit::Fit;
+use page_alloc::{give_page, take_page, write_changes};
+use page_format::{Expect, Spot, Work};
 use page_search::{find, read_page};
-use page_space::{give_page, take_page, write_changes};
-use slotted_page::{Expect, Spot, Work};
 use ssd_model::PageBuf;
 
 /// Looks a key up in a page.
@@ -37,18 +41,16 @@ pub fn look<P: Pages>(
     requires root { is_root_span expect.now.low expect.now.high ≡ true → expect.now.root ≡ true }
     requires above { expect.now.low ≤ key }
     requires within { key ≤ expect.now.high }
-    ensures spot { IsTrue (P.standing pages.old).told → IsWellFormed (bytes_of (P.standing pages.old).current page) expect.now → IfOk result (IsSpot (bytes_of (P.standing pages.old).current page) expect.now key) }
+    ensures spot { OnPage P.Pages pages.old page expect.now (IfOk result (IsSpot (bytes_of (P.standing pages.old).current page) expect.now key)) }
     ensures safe { IfOk result (IsSafeSpot expect.now key) }
     ensures reads { OnOk result (ReadsPage page (P.standing pages.old) (P.standing pages.new)) }
     ensures keeps { OnOk result (KeepsLines (P.standing pages.old) (P.standing pages.new)) }
-    ensures sound { IsTrue (P.standing pages.old).told → IsWellFormed (bytes_of (P.standing pages.old).current page) expect.now → IfErr result IsFault }
-    ensures cause { HasCause (IsTreeDamage (P.standing pages.old).told (P.standing pages.old).count (P.standing pages.new).current work.new.page) (P.standing pages.old) (P.standing pages.new) result }
+    ensures sound { OnPage P.Pages pages.old page expect.now (IfErr result IsFault) }
+    ensures cause { TreeCause P.Pages pages.old pages.new work.new.page result }
     ensures fails { IfErr result (Keeps (FailsTree (P.standing pages.old).count work.new.page)) }
     ensures not_full { IfErr result NotFull }
-    ensures continues { Continues (P.may_leave pages.old) (P.may_leave pages.new) (P.is_steady pages.old) (P.standing pages.old) (P.standing pages.new) }
+    ensures call { PagesCall P.Pages pages.old pages.new result }
     ensures few { (P.standing pages.new).visits ≤ (P.standing pages.old).visits + 1 }
-    ensures ready { OnOk result (P.is_ready pages.new) }
-    ensures steady { P.is_steady pages.old → OnOk result (P.is_steady pages.new) }
 {
     find(pages, page, expect, key, work)
 }
@@ -70,14 +72,13 @@ pub fn load<P: Pages>(
     ensures others { KeepsOthers work.old work.new }
     ensures reads { OnOk result (ReadsPage page (P.standing pages.old) (P.standing pages.new)) }
     ensures keeps { OnOk result (KeepsLines (P.standing pages.old) (P.standing pages.new)) }
-    ensures sound { IsTrue (P.standing pages.old).told → IsWellFormed (bytes_of (P.standing pages.old).current page) expect.now → IfErr result IsFault }
-    ensures cause { HasCause (IsTreeDamage (P.standing pages.old).told (P.standing pages.old).count (P.standing pages.new).current work.new.page) (P.standing pages.old) (P.standing pages.new) result }
+    ensures sound { OnPage P.Pages pages.old page expect.now (IfErr result IsFault) }
+    ensures cause { TreeCause P.Pages pages.old pages.new work.new.page result }
     ensures fails { IfErr result (Keeps (FailsTree (P.standing pages.old).count work.new.page)) }
     ensures not_full { IfErr result NotFull }
-    ensures continues { Continues (P.may_leave pages.old) (P.may_leave pages.new) (P.is_steady pages.old) (P.standing pages.old) (P.standing pages.new) }
+    ensures call { PagesCall P.Pages pages.old pages.new result }
+    ensures again { begins (P.standing pages.old).access page false ≡ false → (P.standing pages.new).visits ≤ (P.standing pages.old).visits }
     ensures few { (P.standing pages.new).visits ≤ (P.standing pages.old).visits + 1 }
-    ensures ready { OnOk result (P.is_ready pages.new) }
-    ensures steady { P.is_steady pages.old → OnOk result (P.is_steady pages.new) }
 {
     read_page(pages, page, expect, work)
 }
@@ -91,13 +92,11 @@ pub fn take<P: Pages>(pages: &mut P, work: &mut Work) -> Result<u64, Stop>
     ensures room { OnOk result ((P.standing pages.new).room + 1 ≡ (P.standing pages.old).room) }
     ensures work { OnOk result (work.new ≡ work.old) }
     ensures sound { IsTrue (P.standing pages.old).told → FitsHeader (P.standing pages.old).count ((P.standing pages.old).current 0 0) → (free : List ℕ) → IsFreeList (P.standing pages.old).current free → IfErr result (IsShort (spare_pages (P.standing pages.old).count (P.standing pages.old).current free) 0) }
-    ensures cause { HasCause (IsTreeDamage (P.standing pages.old).told (P.standing pages.old).count (P.standing pages.new).current work.new.page) (P.standing pages.old) (P.standing pages.new) result }
+    ensures cause { TreeCause P.Pages pages.old pages.new work.new.page result }
     ensures fails { IfErr result (Keeps (FailsTree (P.standing pages.old).count work.new.page)) }
     ensures not_full { IfErr result NotFull }
-    ensures continues { Continues (P.may_leave pages.old) (P.may_leave pages.new) (P.is_steady pages.old) (P.standing pages.old) (P.standing pages.new) }
+    ensures call { PagesCall P.Pages pages.old pages.new result }
     ensures few { (P.standing pages.new).visits ≤ (P.standing pages.old).visits + 4 }
-    ensures ready { OnOk result (P.is_ready pages.new) }
-    ensures steady { P.is_steady pages.old → OnOk result (P.is_steady pages.new) }
 {
     take_page(pages, work)
 }
@@ -112,13 +111,11 @@ pub fn give<P: Pages>(pages: &mut P, work: &mut Work, page: u64) -> Result<(), S
     ensures room { OnOk result ((P.standing pages.new).room + 2 ≡ (P.standing pages.old).room) }
     ensures work { OnOk result (work.new ≡ work.old) }
     ensures sound { IsTrue (P.standing pages.old).told → FitsHeader (P.standing pages.old).count ((P.standing pages.old).current 0 0) → IfErr result IsFault }
-    ensures cause { HasCause (IsTreeDamage (P.standing pages.old).told (P.standing pages.old).count (P.standing pages.new).current work.new.page) (P.standing pages.old) (P.standing pages.new) result }
+    ensures cause { TreeCause P.Pages pages.old pages.new work.new.page result }
     ensures fails { IfErr result (Keeps (FailsTree (P.standing pages.old).count work.new.page)) }
     ensures not_full { IfErr result NotFull }
-    ensures continues { Continues (P.may_leave pages.old) (P.may_leave pages.new) (P.is_steady pages.old) (P.standing pages.old) (P.standing pages.new) }
+    ensures call { PagesCall P.Pages pages.old pages.new result }
     ensures few { (P.standing pages.new).visits ≤ (P.standing pages.old).visits + 4 }
-    ensures ready { OnOk result (P.is_ready pages.new) }
-    ensures steady { P.is_steady pages.old → OnOk result (P.is_steady pages.new) }
 {
     give_page(pages, work, page)
 }
@@ -137,17 +134,15 @@ pub fn write_new<P: Pages>(
     ensures room { OnOk result ((P.standing pages.old).room ≤ (P.standing pages.new).room + 64) }
     ensures sound { IfErr result IsFault }
     ensures cause { HasCause Never (P.standing pages.old) (P.standing pages.new) result }
-    ensures continues { Continues (P.may_leave pages.old) (P.may_leave pages.new) (P.is_steady pages.old) (P.standing pages.old) (P.standing pages.new) }
+    ensures call { PagesCall P.Pages pages.old pages.new result }
     ensures few { (P.standing pages.new).visits ≤ (P.standing pages.old).visits + 2 }
-    ensures ready { OnOk result (P.is_ready pages.new) }
-    ensures steady { P.is_steady pages.old → OnOk result (P.is_steady pages.new) }
 {
     copy_page(pages, page, spare)?;
     write_changes(pages, page, spare, bytes)
 }
 
 /// Writes a page that was cut, and takes a further page for its right part.
-#[tactic(auto, using(page_space::proofs::SoundLaws::sound_never, crate::proofs::FullLaws::never_not_full, crate::proofs::FullLaws::fault_not_full))]
+#[tactic(auto, using(page_alloc::proofs::SoundLaws::sound_never, crate::proofs::FullLaws::never_not_full, crate::proofs::FullLaws::fault_not_full))]
 fn store_cut<P: Pages>(pages: &mut P, page: u64, key: u64, work: &mut Work) -> Result<Outcome, Stop>
     requires ready { P.is_ready pages.old }
     requires page { page < (P.standing pages.old).count }
@@ -156,13 +151,11 @@ fn store_cut<P: Pages>(pages: &mut P, page: u64, key: u64, work: &mut Work) -> R
     ensures is { IfOk result (IsCutAt (P.standing pages.old).count key) }
     ensures room { OnOk result ((P.standing pages.old).room ≤ (P.standing pages.new).room + 129) }
     ensures sound { IsTrue (P.standing pages.old).told → work.old.spare ≡ bytes_of (P.standing pages.old).current page → (free : List ℕ) → IsFreeList (P.standing pages.old).current free → ArePart (P.standing pages.old).current (page ∷ free) → FitsHeader (P.standing pages.old).count ((P.standing pages.old).current 0 0) → IfErr result (IsShort (spare_pages (P.standing pages.old).count (P.standing pages.old).current free) 0) }
-    ensures cause { HasCause (IsTreeDamage (P.standing pages.old).told (P.standing pages.old).count (P.standing pages.new).current work.new.page) (P.standing pages.old) (P.standing pages.new) result }
+    ensures cause { TreeCause P.Pages pages.old pages.new work.new.page result }
     ensures fails { IfErr result (Keeps (FailsTree (P.standing pages.old).count work.new.page)) }
     ensures not_full { IfErr result NotFull }
-    ensures continues { Continues (P.may_leave pages.old) (P.may_leave pages.new) (P.is_steady pages.old) (P.standing pages.old) (P.standing pages.new) }
+    ensures call { PagesCall P.Pages pages.old pages.new result }
     ensures few { (P.standing pages.new).visits ≤ (P.standing pages.old).visits + 7 }
-    ensures ready { OnOk result (P.is_ready pages.new) }
-    ensures steady { P.is_steady pages.old → OnOk result (P.is_steady pages.new) }
 {
     write_changes(pages, page, &work.spare, &work.page)?;
     let right = take(pages, work)?;
@@ -172,7 +165,7 @@ fn store_cut<P: Pages>(pages: &mut P, page: u64, key: u64, work: &mut Work) -> R
 
 /// Writes a page whose old bytes stand in `spare` and its new ones in `page`, and takes a further page for those in `right`
 /// where it was cut.
-#[tactic(auto, using(page_space::proofs::SoundLaws::sound_never, crate::proofs::FullLaws::never_not_full))]
+#[tactic(auto, using(page_alloc::proofs::SoundLaws::sound_never, crate::proofs::FullLaws::never_not_full))]
 pub fn store<P: Pages>(pages: &mut P, page: u64, fit: Fit, work: &mut Work) -> Result<Outcome, Stop>
     requires ready { P.is_ready pages.old }
     requires page { page < (P.standing pages.old).count }
@@ -184,13 +177,11 @@ pub fn store<P: Pages>(pages: &mut P, page: u64, fit: Fit, work: &mut Work) -> R
     ensures plain { ((key : ℕ) → fit ≢ fits.Cut key) → IfErr result IsFault }
     ensures shows { IsTrue (P.standing pages.old).told → work.old.spare ≡ bytes_of (P.standing pages.old).current page → ((key : ℕ) → fit ≢ fits.Cut key) → OnOk result (bytes_of (P.standing pages.new).current page ≡ work.old.page) }
     ensures touches { ((key : ℕ) → fit ≢ fits.Cut key) → OnOk result (WritesOnly page (Differs work.old.spare work.old.page) (P.standing pages.old) (P.standing pages.new)) }
-    ensures cause { HasCause (IsTreeDamage (P.standing pages.old).told (P.standing pages.old).count (P.standing pages.new).current work.new.page) (P.standing pages.old) (P.standing pages.new) result }
+    ensures cause { TreeCause P.Pages pages.old pages.new work.new.page result }
     ensures fails { IfErr result (Keeps (FailsTree (P.standing pages.old).count work.new.page)) }
     ensures not_full { IfErr result NotFull }
-    ensures continues { Continues (P.may_leave pages.old) (P.may_leave pages.new) (P.is_steady pages.old) (P.standing pages.old) (P.standing pages.new) }
+    ensures call { PagesCall P.Pages pages.old pages.new result }
     ensures few { (P.standing pages.new).visits ≤ (P.standing pages.old).visits + 7 }
-    ensures ready { OnOk result (P.is_ready pages.new) }
-    ensures steady { P.is_steady pages.old → OnOk result (P.is_steady pages.new) }
 {
     match fit {
         Fit::Whole => {

@@ -1,35 +1,43 @@
 //! Changes of one page of a tree: of a leaf, and of the pages above one that was changed.
 ghost use Rattle.std.specs.Prelude.{◌≡◌, ◌≢◌, ◌+◌, ◌-◌, ◌*◌, ◌<◌, ◌≤◌, ◌==◌, ◌∷◌, ℕ, List, length, true, false, None, IsTrue, OnOk, IfOk, IfErr, Err};
 ghost use Rattle.std.specs.List.{list_all};
+ghost use Rattle.bplus_tree.specs.Causes.{TreeCause};
+ghost use Rattle.page_search.specs.Causes.{OnPage};
+ghost use Rattle.line_pages.specs.PagesCall.{PagesCall};
 ghost use Rattle.line_pages.specs.Bytes.{bytes_of};
-ghost use Rattle.line_pages.specs.Standing.{Continues, HasCause, IsCause};
-ghost use Rattle.slotted_page.specs.Rows.{row_put, row_delete};
-ghost use Rattle.slotted_page.specs.Node.{IsWellFormed, entry_count, is_printable, leaf_rows};
-ghost use Rattle.slotted_page.specs.Search.{is_root_span, Keeps};
-ghost use Rattle.page_space.specs.Space.{IsFreeList, FitsHeader};
-ghost use Rattle.page_space.specs.Moves.{ArePart};
-ghost use Rattle.bplus_tree.specs.Damage.{IsTreeDamage, FailsTree, IsFullRoot};
+ghost use Rattle.line_pages.specs.Standing.{IsCause};
+ghost use Rattle.rows.specs.Rows.{row_put, row_delete};
+ghost use Rattle.page_format.specs.Node.{IsWellFormed, entry_count, leaf_rows};
+ghost use Rattle.rows.specs.Value.{is_printable};
+ghost use Rattle.page_format.specs.Search.{is_root_span, Keeps, IsSpot, IsSafeSpot};
+ghost use Rattle.leaf_lines.specs.Put.{IsFound};
+ghost use Rattle.line_pages.specs.Touch.{begins};
+ghost use Rattle.page_alloc.specs.Space.{IsFreeList, FitsHeader};
+ghost use Rattle.page_alloc.specs.Moves.{ArePart};
+ghost use Rattle.bplus_tree.specs.Damage.{FailsTree, IsFullRoot};
 ghost use Rattle.bplus_tree.specs.Full.{NotFull, NamesFull, CutsFor, IsNeeded, IsOverfull};
-ghost use Rattle.page_space.specs.Stops.{IsFault, IsShort, StopsFor, spare_pages};
+ghost use Rattle.page_alloc.specs.Stops.{IsFault, IsShort, StopsFor, spare_pages};
 ghost use Rattle.bplus_tree.specs.Edit.{Edits, Mends, IsMendable, AddsChild, IsSafe, IsSpent, StaysBelow, Rewritten, after_fit};
 ghost use Rattle.node_edit.specs.Edit.{IsPair, IsCutIn};
 ghost use Rattle.bplus_tree.specs.Path.{IsFullAt};
 ghost use Rattle.node_edit.specs.Record.{FitsLeaf, HoldsLength};
 ghost use Rattle.bplus_tree.specs.LineChanges.{WritesChange};
 ghost use Rattle.bplus_tree.specs.Record.{WritesRecord};
-ghost use Rattle.page_space.specs.Written.{Rewrites, lines_changed};
+ghost use Rattle.page_alloc.specs.Written.{Rewrites, lines_changed};
 
-use crate::access::{give, load, store};
+use crate::access::{give, load, look, store};
 use crate::joining::join;
 use crate::outcome::Outcome;
-use line_pages::{Evidence, Pages, Stop, page_word};
+use damage::Evidence;
+use leaf_lines::put_by_lines;
+use line_pages::{Pages, Stop, page_word};
 use node_edit::{Fit, Pair, inner_put, leaf_delete, leaf_put, mend_divided, mend_joined, pair_of};
-use page_space::write_changes;
-use slotted_page::{Expect, Work};
+use page_alloc::write_changes;
+use page_format::{Expect, Spot, Work};
 use ssd_model::PageBuf;
 
-/// A put into a leaf.
-pub fn put_leaf<P: Pages>(
+/// A put into a leaf that is read whole.
+fn put_leaf<P: Pages>(
     pages: &mut P,
     page: u64,
     expect: &Expect,
@@ -56,21 +64,88 @@ pub fn put_leaf<P: Pages>(
     ensures fills { IsTrue (P.standing pages.old).told → FitsLeaf (expect.now.root ≡ true) (row_put key value.now (leaf_rows (bytes_of (P.standing pages.old).current page))) → IfOk result (λ outcome. outcome ≡ Outcome.Whole) }
     ensures room { IfOk result (IsSpent 0 (P.standing pages.old).room (P.standing pages.new).room) }
     ensures sound { IsTrue (P.standing pages.old).told → (free : List ℕ) → IsWellFormed (bytes_of (P.standing pages.old).current page) expect.now → IsFreeList (P.standing pages.old).current free → ArePart (P.standing pages.old).current (page ∷ free) → FitsHeader (P.standing pages.old).count ((P.standing pages.old).current 0 0) → IfErr result (IsShort (spare_pages (P.standing pages.old).count (P.standing pages.old).current free) 0) }
-    ensures cause { HasCause (IsTreeDamage (P.standing pages.old).told (P.standing pages.old).count (P.standing pages.new).current work.new.page) (P.standing pages.old) (P.standing pages.new) result }
+    ensures cause { TreeCause P.Pages pages.old pages.new work.new.page result }
     ensures fails { IfErr result (Keeps (FailsTree (P.standing pages.old).count work.new.page)) }
     ensures not_full { IfErr result NotFull }
     ensures cuts { IsTrue (P.standing pages.old).told → IfOk result (CutsFor (IsOverfull (row_put key value.now (leaf_rows (bytes_of (P.standing pages.old).current page))))) }
-    ensures needed { IsTrue (P.standing pages.old).told → IsWellFormed (bytes_of (P.standing pages.old).current page) expect.now → IfErr result (IsNeeded (IsOverfull (row_put key value.now (leaf_rows (bytes_of (P.standing pages.old).current page)))) ⊥) }
-    ensures continues { Continues (P.may_leave pages.old) (P.may_leave pages.new) (P.is_steady pages.old) (P.standing pages.old) (P.standing pages.new) }
+    ensures needed { OnPage P.Pages pages.old page expect.now (IfErr result (IsNeeded (IsOverfull (row_put key value.now (leaf_rows (bytes_of (P.standing pages.old).current page)))) ⊥)) }
+    ensures call { PagesCall P.Pages pages.old pages.new result }
+    ensures few_more { begins (P.standing pages.old).access page false ≡ false → (P.standing pages.new).visits ≤ (P.standing pages.old).visits + 7 }
     ensures few { (P.standing pages.new).visits ≤ (P.standing pages.old).visits + 8 }
-    ensures ready { OnOk result (P.is_ready pages.new) }
-    ensures steady { P.is_steady pages.old → OnOk result (P.is_steady pages.new) }
 {
     load(pages, page, expect, work)?;
     work.spare.copy_from(&work.page);
     let fit = leaf_put(&mut work.page, &mut work.right, expect, key, value);
     work.page.byte(0);
     store(pages, page, fit, work)
+}
+
+/// Where a search found a key in a leaf.
+#[derive(Clone, Copy)]
+pub(crate) struct Seen {
+    /// Whether a row has it.
+    pub found: bool,
+    /// The row, or where it would stand.
+    pub at: usize,
+}
+
+/// What a search in a leaf answered.
+fn seen_of(spot: Spot, expect: &Expect) -> Seen
+    requires { expect.now.level ≡ 0 }
+    ensures { (bytes : List ℕ) (key : ℕ) → IsSafeSpot expect.now key spot → IsSpot bytes expect.now key spot → IsFound bytes expect.now key result.found result.at }
+{
+    match spot {
+        Spot::Row(at) => Seen { found: true, at },
+        Spot::Gap(at) => Seen { found: false, at },
+        Spot::Child(at, _, _, _) => Seen { found: false, at },
+    }
+}
+
+/// A put into a leaf, by the lines that it needs where it fits between the slots and the heap, else with the leaf read whole. What a
+/// well-formed leaf is to be afterwards is said of such a leaf alone: one that is not read whole is not checked.
+#[tactic(auto, using(page_alloc::proofs::SoundLaws::sound_never, crate::proofs::FullLaws::never_not_full, crate::proofs::FullLaws::fault_not_full, crate::proofs::FullLaws::fault_needed))]
+pub fn put_at<P: Pages>(
+    pages: &mut P,
+    page: u64,
+    expect: &Expect,
+    key: u64,
+    value: &[u8],
+    work: &mut Work,
+) -> Result<Outcome, Stop>
+    requires ready { P.is_ready pages.old }
+    requires page { page < (P.standing pages.old).count }
+    requires pages { expect.now.pages ≡ (P.standing pages.old).count }
+    requires root { is_root_span expect.now.low expect.now.high ≡ true → expect.now.root ≡ true }
+    requires level { expect.now.level ≡ 0 }
+    requires above { expect.now.low ≤ key }
+    requires within { key ≤ expect.now.high }
+    requires size { length value.now ≤ 480 }
+    requires printable { list_all is_printable value.now ≡ true }
+    requires room { 129 ≤ (P.standing pages.old).room }
+    ensures safe { IfOk result (IsSafe (P.standing pages.old).count expect.now) }
+    ensures below { IfOk result (StaysBelow expect.now) }
+    ensures edits { IsTrue (P.standing pages.old).told → IfOk result (λ outcome. Edits (P.standing pages.old).current (P.standing pages.new).current page expect.now outcome (row_put key value.now)) }
+    ensures again { OnPage P.Pages pages.old page expect.now (HoldsLength key (length value.now) (leaf_rows (bytes_of (P.standing pages.old).current page)) → OnOk result (WritesRecord page key (P.standing pages.old) (P.standing pages.new))) }
+    ensures whole { OnPage P.Pages pages.old page expect.now (HoldsLength key (length value.now) (leaf_rows (bytes_of (P.standing pages.old).current page)) → IfOk result (λ outcome. outcome ≡ Outcome.Whole)) }
+    ensures lines { OnPage P.Pages pages.old page expect.now (FitsLeaf (expect.now.root ≡ true) (row_put key value.now (leaf_rows (bytes_of (P.standing pages.old).current page))) → OnOk result (WritesChange page (P.standing pages.old) (P.standing pages.new))) }
+    ensures fills { OnPage P.Pages pages.old page expect.now (FitsLeaf (expect.now.root ≡ true) (row_put key value.now (leaf_rows (bytes_of (P.standing pages.old).current page))) → IfOk result (λ outcome. outcome ≡ Outcome.Whole)) }
+    ensures room { IfOk result (IsSpent 0 (P.standing pages.old).room (P.standing pages.new).room) }
+    ensures sound { IsTrue (P.standing pages.old).told → (free : List ℕ) → IsWellFormed (bytes_of (P.standing pages.old).current page) expect.now → IsFreeList (P.standing pages.old).current free → ArePart (P.standing pages.old).current (page ∷ free) → FitsHeader (P.standing pages.old).count ((P.standing pages.old).current 0 0) → IfErr result (IsShort (spare_pages (P.standing pages.old).count (P.standing pages.old).current free) 0) }
+    ensures cause { TreeCause P.Pages pages.old pages.new work.new.page result }
+    ensures fails { IfErr result (Keeps (FailsTree (P.standing pages.old).count work.new.page)) }
+    ensures not_full { IfErr result NotFull }
+    ensures cuts { IsTrue (P.standing pages.old).told → IfOk result (CutsFor (IsOverfull (row_put key value.now (leaf_rows (bytes_of (P.standing pages.old).current page))))) }
+    ensures needed { OnPage P.Pages pages.old page expect.now (IfErr result (IsNeeded (IsOverfull (row_put key value.now (leaf_rows (bytes_of (P.standing pages.old).current page)))) ⊥)) }
+    ensures call { PagesCall P.Pages pages.old pages.new result }
+    ensures few { (P.standing pages.new).visits ≤ (P.standing pages.old).visits + 8 }
+{
+    let spot = look(pages, page, expect, key, work)?;
+    let seen = seen_of(spot, expect);
+    let done = put_by_lines(pages, page, expect, seen.found, seen.at, key, value, work)?;
+    if done {
+        return Ok(Outcome::Whole);
+    }
+    put_leaf(pages, page, expect, key, value, work)
 }
 
 /// A delete in a leaf.
@@ -91,14 +166,12 @@ pub fn delete_leaf<P: Pages>(
     ensures edits { IsTrue (P.standing pages.old).told → IfOk result (λ outcome. Edits (P.standing pages.old).current (P.standing pages.new).current page expect.now outcome (row_delete key)) }
     ensures uncut { IfOk result (λ outcome. (k r : ℕ) → outcome ≢ Outcome.Cut k r) }
     ensures room { IfOk result (IsSpent 0 (P.standing pages.old).room (P.standing pages.new).room) }
-    ensures sound { IsTrue (P.standing pages.old).told → IsWellFormed (bytes_of (P.standing pages.old).current page) expect.now → IfErr result IsFault }
-    ensures cause { HasCause (IsTreeDamage (P.standing pages.old).told (P.standing pages.old).count (P.standing pages.new).current work.new.page) (P.standing pages.old) (P.standing pages.new) result }
+    ensures sound { OnPage P.Pages pages.old page expect.now (IfErr result IsFault) }
+    ensures cause { TreeCause P.Pages pages.old pages.new work.new.page result }
     ensures fails { IfErr result (Keeps (FailsTree (P.standing pages.old).count work.new.page)) }
     ensures not_full { IfErr result NotFull }
-    ensures continues { Continues (P.may_leave pages.old) (P.may_leave pages.new) (P.is_steady pages.old) (P.standing pages.old) (P.standing pages.new) }
+    ensures call { PagesCall P.Pages pages.old pages.new result }
     ensures few { (P.standing pages.new).visits ≤ (P.standing pages.old).visits + 8 }
-    ensures ready { OnOk result (P.is_ready pages.new) }
-    ensures steady { P.is_steady pages.old → OnOk result (P.is_steady pages.new) }
 {
     load(pages, page, expect, work)?;
     work.spare.copy_from(&work.page);
@@ -142,15 +215,13 @@ pub fn add_child<P: Pages>(
     ensures long { IfOk result (λ outcome. outcome ≢ Outcome.Short) }
     ensures room { OnOk result ((P.standing pages.old).room ≤ (P.standing pages.new).room + 129) }
     ensures sound { IsTrue (P.standing pages.old).told → (free : List ℕ) → IsWellFormed (bytes_of (P.standing pages.old).current page) expect.now → IsFreeList (P.standing pages.old).current free → ArePart (P.standing pages.old).current (page ∷ free) → FitsHeader (P.standing pages.old).count ((P.standing pages.old).current 0 0) → IfErr result (StopsFor (spare_pages (P.standing pages.old).count (P.standing pages.old).current free ≤ 0) (IsFullAt (P.standing pages.old).current page expect.now)) }
-    ensures cause { HasCause (IsTreeDamage (P.standing pages.old).told (P.standing pages.old).count (P.standing pages.new).current work.new.page) (P.standing pages.old) (P.standing pages.new) result }
+    ensures cause { TreeCause P.Pages pages.old pages.new work.new.page result }
     ensures fails { IfErr result (Keeps (FailsTree (P.standing pages.old).count work.new.page)) }
     ensures at { IfErr result (NamesFull page (expect.now.level ≡ 3)) }
     ensures cuts { IsTrue (P.standing pages.old).told → IfOk result (CutsFor (entry_count (bytes_of (P.standing pages.old).current page) ≡ 240)) }
-    ensures needed { IsTrue (P.standing pages.old).told → IsWellFormed (bytes_of (P.standing pages.old).current page) expect.now → IfErr result (IsNeeded (entry_count (bytes_of (P.standing pages.old).current page) ≡ 240) (expect.now.level ≡ 3)) }
-    ensures continues { Continues (P.may_leave pages.old) (P.may_leave pages.new) (P.is_steady pages.old) (P.standing pages.old) (P.standing pages.new) }
+    ensures needed { OnPage P.Pages pages.old page expect.now (IfErr result (IsNeeded (entry_count (bytes_of (P.standing pages.old).current page) ≡ 240) (expect.now.level ≡ 3))) }
+    ensures call { PagesCall P.Pages pages.old pages.new result }
     ensures few { (P.standing pages.new).visits ≤ (P.standing pages.old).visits + 8 }
-    ensures ready { OnOk result (P.is_ready pages.new) }
-    ensures steady { P.is_steady pages.old → OnOk result (P.is_steady pages.new) }
 {
     load(pages, page, expect, work)?;
     if is_full_root(&work.page, expect) {
@@ -194,13 +265,11 @@ pub fn mend<P: Pages>(
     ensures uncut { IfOk result (λ outcome. (k r : ℕ) → outcome ≢ Outcome.Cut k r) }
     ensures room { OnOk result ((P.standing pages.old).room ≤ (P.standing pages.new).room + 189) }
     ensures sound { IsTrue (P.standing pages.old).told → (level : ℕ) (free : List ℕ) → IsMendable (P.standing pages.old).current page expect.now key level free → FitsHeader (P.standing pages.old).count ((P.standing pages.old).current 0 0) → IfErr result IsFault }
-    ensures cause { HasCause (IsTreeDamage (P.standing pages.old).told (P.standing pages.old).count (P.standing pages.new).current work.new.page) (P.standing pages.old) (P.standing pages.new) result }
+    ensures cause { TreeCause P.Pages pages.old pages.new work.new.page result }
     ensures fails { IfErr result (Keeps (FailsTree (P.standing pages.old).count work.new.page)) }
     ensures not_full { IfErr result NotFull }
-    ensures continues { Continues (P.may_leave pages.old) (P.may_leave pages.new) (P.is_steady pages.old) (P.standing pages.old) (P.standing pages.new) }
+    ensures call { PagesCall P.Pages pages.old pages.new result }
     ensures few { (P.standing pages.new).visits ≤ (P.standing pages.old).visits + 13 }
-    ensures ready { OnOk result (P.is_ready pages.new) }
-    ensures steady { P.is_steady pages.old → OnOk result (P.is_steady pages.new) }
 {
     load(pages, page, expect, work)?;
     let pair = pair_of(&work.page, expect, key);
@@ -230,14 +299,12 @@ fn rewrite<P: Pages>(
     ensures rewrites { IsTrue (P.standing pages.old).told → IfOk result (Rewritten (P.standing pages.old).count (P.standing pages.old).current (P.standing pages.new).current page expect.now pair.now cut) }
     ensures uncut { IfOk result (λ outcome. (k r : ℕ) → outcome ≢ Outcome.Cut k r) }
     ensures room { OnOk result ((P.standing pages.old).room ≤ (P.standing pages.new).room + 61) }
-    ensures sound { IsTrue (P.standing pages.old).told → IsWellFormed (bytes_of (P.standing pages.old).current page) expect.now → FitsHeader (P.standing pages.old).count ((P.standing pages.old).current 0 0) → IfErr result IsFault }
-    ensures cause { HasCause (IsTreeDamage (P.standing pages.old).told (P.standing pages.old).count (P.standing pages.new).current work.new.page) (P.standing pages.old) (P.standing pages.new) result }
+    ensures sound { OnPage P.Pages pages.old page expect.now (FitsHeader (P.standing pages.old).count ((P.standing pages.old).current 0 0) → IfErr result IsFault) }
+    ensures cause { TreeCause P.Pages pages.old pages.new work.new.page result }
     ensures fails { IfErr result (Keeps (FailsTree (P.standing pages.old).count work.new.page)) }
     ensures not_full { IfErr result NotFull }
-    ensures continues { Continues (P.may_leave pages.old) (P.may_leave pages.new) (P.is_steady pages.old) (P.standing pages.old) (P.standing pages.new) }
+    ensures call { PagesCall P.Pages pages.old pages.new result }
     ensures few { (P.standing pages.new).visits ≤ (P.standing pages.old).visits + 5 }
-    ensures ready { OnOk result (P.is_ready pages.new) }
-    ensures steady { P.is_steady pages.old → OnOk result (P.is_steady pages.new) }
 {
     load(pages, page, expect, work)?;
     work.spare.copy_from(&work.page);
@@ -271,7 +338,7 @@ fn outcome_of(fit: Fit) -> Outcome
 }
 
 /// Writes a page that was not cut.
-#[tactic(auto, using(page_space::proofs::SoundLaws::sound_never, crate::proofs::FullLaws::never_not_full))]
+#[tactic(auto, using(page_alloc::proofs::SoundLaws::sound_never, crate::proofs::FullLaws::never_not_full))]
 fn keep<P: Pages>(pages: &mut P, page: u64, fit: Fit, work: &mut Work) -> Result<Outcome, Stop>
     requires ready { P.is_ready pages.old }
     requires page { page < (P.standing pages.old).count }
@@ -282,13 +349,11 @@ fn keep<P: Pages>(pages: &mut P, page: u64, fit: Fit, work: &mut Work) -> Result
     ensures writes { IsTrue (P.standing pages.old).told → work.old.spare ≡ bytes_of (P.standing pages.old).current page → OnOk result (Rewrites page work.old.page (P.standing pages.old).current (P.standing pages.new).current) }
     ensures room { OnOk result ((P.standing pages.new).room + lines_changed work.old.spare work.old.page ≡ (P.standing pages.old).room) }
     ensures sound { IfErr result IsFault }
-    ensures cause { HasCause (IsTreeDamage (P.standing pages.old).told (P.standing pages.old).count (P.standing pages.new).current work.new.page) (P.standing pages.old) (P.standing pages.new) result }
+    ensures cause { TreeCause P.Pages pages.old pages.new work.new.page result }
     ensures fails { IfErr result (Keeps (FailsTree (P.standing pages.old).count work.new.page)) }
     ensures not_full { IfErr result NotFull }
-    ensures continues { Continues (P.may_leave pages.old) (P.may_leave pages.new) (P.is_steady pages.old) (P.standing pages.old) (P.standing pages.new) }
+    ensures call { PagesCall P.Pages pages.old pages.new result }
     ensures few { (P.standing pages.new).visits ≤ (P.standing pages.old).visits + 1 }
-    ensures ready { OnOk result (P.is_ready pages.new) }
-    ensures steady { P.is_steady pages.old → OnOk result (P.is_steady pages.new) }
 {
     write_changes(pages, page, &work.spare, &work.page)?;
     Ok(outcome_of(fit))

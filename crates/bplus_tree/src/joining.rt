@@ -1,23 +1,25 @@
 //! Two neighbours of a tree joined.
 ghost use Rattle.std.specs.Prelude.{◌≡◌, ◌≢◌, ◌+◌, ◌<◌, ◌≤◌, ◌⊎◌, ◌++◌, ℕ, List, length, Option, None, Some, IsTrue, OnOk, IfOk, IfErr};
+ghost use Rattle.bplus_tree.specs.Causes.{TreeCause};
+ghost use Rattle.line_pages.specs.PagesCall.{PagesCall};
 ghost use Rattle.line_pages.specs.Bytes.{bytes_of};
-ghost use Rattle.line_pages.specs.Standing.{Continues, HasCause, KeepsLines};
-ghost use Rattle.slotted_page.specs.Node.{IsWellFormed, leaf_rows as rows_of, children as children_of};
-ghost use Rattle.slotted_page.specs.Search.{Keeps};
-ghost use Rattle.bplus_tree.specs.Damage.{IsTreeDamage, FailsTree};
+ghost use Rattle.line_pages.specs.Standing.{KeepsLines};
+ghost use Rattle.page_format.specs.Node.{IsWellFormed, leaf_rows as rows_of, children as children_of};
+ghost use Rattle.page_format.specs.Search.{Keeps};
+ghost use Rattle.bplus_tree.specs.Damage.{FailsTree};
 ghost use Rattle.bplus_tree.specs.Full.{NotFull};
-ghost use Rattle.page_space.specs.Stops.{IsFault};
-ghost use Rattle.page_space.specs.Space.{FitsHeader};
-ghost use Rattle.page_space.specs.Moves.{Gives};
-ghost use Rattle.page_space.specs.Written.{Rewrites};
+ghost use Rattle.page_alloc.specs.Stops.{IsFault};
+ghost use Rattle.page_alloc.specs.Space.{FitsHeader};
+ghost use Rattle.page_alloc.specs.Moves.{Gives};
+ghost use Rattle.page_alloc.specs.Written.{Rewrites};
 ghost use Rattle.node_edit.specs.Edit.{left_of, right_of, whole_of, Merges, IsEnoughLeaf, IsEnoughInner, IsCutIn, IsPair};
 ghost use Rattle.bplus_tree.specs.Edit.{Joins, WritesJoined, WritesDivided};
 
 use crate::access::{give, load};
 use line_pages::{Pages, Stop};
 use node_edit::{Pair, left_expect, merge_inner, merge_leaves, right_expect};
-use page_space::write_changes;
-use slotted_page::Work;
+use page_alloc::write_changes;
+use page_format::Work;
 
 /// Reads two neighbours: the left one into `left` and `spare`, the right one into `right` and `page`.
 fn fetch<P: Pages>(
@@ -38,13 +40,11 @@ fn fetch<P: Pages>(
     ensures right_is { IsTrue (P.standing pages.old).told → OnOk result (work.new.right ≡ bytes_of (P.standing pages.old).current pair.now.right) }
     ensures keeps { OnOk result (KeepsLines (P.standing pages.old) (P.standing pages.new)) }
     ensures sound { IsTrue (P.standing pages.old).told → IsWellFormed (bytes_of (P.standing pages.old).current pair.now.left) (left_of count level pair.now) → IsWellFormed (bytes_of (P.standing pages.old).current pair.now.right) (right_of count level pair.now) → IfErr result IsFault }
-    ensures cause { HasCause (IsTreeDamage (P.standing pages.old).told (P.standing pages.old).count (P.standing pages.new).current work.new.page) (P.standing pages.old) (P.standing pages.new) result }
+    ensures cause { TreeCause P.Pages pages.old pages.new work.new.page result }
     ensures fails { IfErr result (Keeps (FailsTree (P.standing pages.old).count work.new.page)) }
     ensures not_full { IfErr result NotFull }
-    ensures continues { Continues (P.may_leave pages.old) (P.may_leave pages.new) (P.is_steady pages.old) (P.standing pages.old) (P.standing pages.new) }
+    ensures call { PagesCall P.Pages pages.old pages.new result }
     ensures few { (P.standing pages.new).visits ≤ (P.standing pages.old).visits + 2 }
-    ensures ready { OnOk result (P.is_ready pages.new) }
-    ensures steady { P.is_steady pages.old → OnOk result (P.is_steady pages.new) }
 {
     let one = left_expect(pair, level, count);
     load(pages, pair.left, &one, work)?;
@@ -74,7 +74,7 @@ fn merge(work: &mut Work, pair: &Pair, level: u8, count: u64) -> Option<u64>
 }
 
 /// Writes the left one, with the entries of both, and gives the right one back.
-#[tactic(auto, using(page_space::proofs::SoundLaws::sound_never, crate::proofs::FullLaws::never_not_full))]
+#[tactic(auto, using(page_alloc::proofs::SoundLaws::sound_never, crate::proofs::FullLaws::never_not_full))]
 fn write_joined<P: Pages>(
     pages: &mut P,
     pair: &Pair,
@@ -88,20 +88,18 @@ fn write_joined<P: Pages>(
     ensures writes { IsTrue (P.standing pages.old).told → work.old.spare ≡ bytes_of (P.standing pages.old).current pair.now.left → OnOk result (WritesJoined count (P.standing pages.old).current (P.standing pages.new).current pair.now work.old.left) }
     ensures room { OnOk result ((P.standing pages.old).room ≤ (P.standing pages.new).room + 128) }
     ensures sound { IsTrue (P.standing pages.old).told → work.old.spare ≡ bytes_of (P.standing pages.old).current pair.now.left → FitsHeader count ((P.standing pages.old).current 0 0) → IfErr result IsFault }
-    ensures cause { HasCause (IsTreeDamage (P.standing pages.old).told (P.standing pages.old).count (P.standing pages.new).current work.new.page) (P.standing pages.old) (P.standing pages.new) result }
+    ensures cause { TreeCause P.Pages pages.old pages.new work.new.page result }
     ensures fails { IfErr result (Keeps (FailsTree (P.standing pages.old).count work.new.page)) }
     ensures not_full { IfErr result NotFull }
-    ensures continues { Continues (P.may_leave pages.old) (P.may_leave pages.new) (P.is_steady pages.old) (P.standing pages.old) (P.standing pages.new) }
+    ensures call { PagesCall P.Pages pages.old pages.new result }
     ensures few { (P.standing pages.new).visits ≤ (P.standing pages.old).visits + 5 }
-    ensures ready { OnOk result (P.is_ready pages.new) }
-    ensures steady { P.is_steady pages.old → OnOk result (P.is_steady pages.new) }
 {
     write_changes(pages, pair.left, &work.spare, &work.left)?;
     give(pages, work, pair.right)
 }
 
 /// Writes both.
-#[tactic(auto, using(page_space::proofs::SoundLaws::sound_never, crate::proofs::FullLaws::never_not_full))]
+#[tactic(auto, using(page_alloc::proofs::SoundLaws::sound_never, crate::proofs::FullLaws::never_not_full))]
 fn write_divided<P: Pages>(
     pages: &mut P,
     pair: &Pair,
@@ -115,13 +113,11 @@ fn write_divided<P: Pages>(
     ensures writes { IsTrue (P.standing pages.old).told → work.old.spare ≡ bytes_of (P.standing pages.old).current pair.now.left → work.old.page ≡ bytes_of (P.standing pages.old).current pair.now.right → pair.now.left ≢ pair.now.right → OnOk result (WritesDivided (P.standing pages.old).current (P.standing pages.new).current pair.now work.old.left work.old.right) }
     ensures room { OnOk result ((P.standing pages.old).room ≤ (P.standing pages.new).room + 128) }
     ensures sound { IfErr result IsFault }
-    ensures cause { HasCause (IsTreeDamage (P.standing pages.old).told (P.standing pages.old).count (P.standing pages.new).current work.new.page) (P.standing pages.old) (P.standing pages.new) result }
+    ensures cause { TreeCause P.Pages pages.old pages.new work.new.page result }
     ensures fails { IfErr result (Keeps (FailsTree (P.standing pages.old).count work.new.page)) }
     ensures not_full { IfErr result NotFull }
-    ensures continues { Continues (P.may_leave pages.old) (P.may_leave pages.new) (P.is_steady pages.old) (P.standing pages.old) (P.standing pages.new) }
+    ensures call { PagesCall P.Pages pages.old pages.new result }
     ensures few { (P.standing pages.new).visits ≤ (P.standing pages.old).visits + 2 }
-    ensures ready { OnOk result (P.is_ready pages.new) }
-    ensures steady { P.is_steady pages.old → OnOk result (P.is_steady pages.new) }
 {
     write_changes(pages, pair.left, &work.spare, &work.left)?;
     write_changes(pages, pair.right, &work.page, &work.right)
@@ -143,13 +139,11 @@ pub fn join<P: Pages>(
     ensures joins { IsTrue (P.standing pages.old).told → IfOk result (Joins count (P.standing pages.old).current (P.standing pages.new).current level pair.now) }
     ensures room { OnOk result ((P.standing pages.old).room ≤ (P.standing pages.new).room + 128) }
     ensures sound { IsTrue (P.standing pages.old).told → IsWellFormed (bytes_of (P.standing pages.old).current pair.now.left) (left_of count level pair.now) → IsWellFormed (bytes_of (P.standing pages.old).current pair.now.right) (right_of count level pair.now) → FitsHeader count ((P.standing pages.old).current 0 0) → IfErr result IsFault }
-    ensures cause { HasCause (IsTreeDamage (P.standing pages.old).told (P.standing pages.old).count (P.standing pages.new).current work.new.page) (P.standing pages.old) (P.standing pages.new) result }
+    ensures cause { TreeCause P.Pages pages.old pages.new work.new.page result }
     ensures fails { IfErr result (Keeps (FailsTree (P.standing pages.old).count work.new.page)) }
     ensures not_full { IfErr result NotFull }
-    ensures continues { Continues (P.may_leave pages.old) (P.may_leave pages.new) (P.is_steady pages.old) (P.standing pages.old) (P.standing pages.new) }
+    ensures call { PagesCall P.Pages pages.old pages.new result }
     ensures few { (P.standing pages.new).visits ≤ (P.standing pages.old).visits + 7 }
-    ensures ready { OnOk result (P.is_ready pages.new) }
-    ensures steady { P.is_steady pages.old → OnOk result (P.is_steady pages.new) }
 {
     fetch(pages, pair, level, count, work)?;
     match merge(work, pair, level, count) {

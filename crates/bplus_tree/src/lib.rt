@@ -6,10 +6,8 @@ mod change;
 mod joining;
 mod outcome;
 mod path;
-#[cfg(test)]
-mod tests;
 mod tree;
 
-pub use page_space::{give_page, take_page};
+pub use page_alloc::{give_page, take_page};
 pub use tree::{delete, delete_row, put, put_row};
 pub use tree_search::{Root, get, next_from};

@@ -1,28 +1,31 @@
 //! Changes of a tree: down to the leaf of a key, and up again along the path.
 ghost use Rattle.std.specs.Prelude.{◌≡◌, ◌≢◌, ◌+◌, ◌*◌, ◌<◌, ◌≤◌, ℕ, List, [], length, true, IsTrue, OnOk, IfOk, IfErr};
 ghost use Rattle.std.specs.List.{list_all};
+ghost use Rattle.bplus_tree.specs.Causes.{TreeCause};
+ghost use Rattle.line_pages.specs.PagesCall.{PagesCall};
 ghost use Rattle.line_pages.specs.Bytes.{bytes_of};
-ghost use Rattle.line_pages.specs.Standing.{Continues, HasCause, KeepsLines};
-ghost use Rattle.slotted_page.specs.Rows.{row_put, row_delete};
-ghost use Rattle.slotted_page.specs.Node.{IsWellFormed, entry_count, is_printable};
-ghost use Rattle.slotted_page.specs.Search.{Keeps};
-ghost use Rattle.page_space.specs.Space.{FitsHeader};
+ghost use Rattle.line_pages.specs.Standing.{KeepsLines};
+ghost use Rattle.rows.specs.Rows.{row_put, row_delete};
+ghost use Rattle.page_format.specs.Node.{IsWellFormed, entry_count};
+ghost use Rattle.rows.specs.Value.{is_printable};
+ghost use Rattle.page_format.specs.Search.{Keeps};
+ghost use Rattle.page_alloc.specs.Space.{FitsHeader};
 ghost use Rattle.tree_search.specs.Tree.{tree_rows};
-ghost use Rattle.bplus_tree.specs.Damage.{IsTreeDamage, FailsTree};
+ghost use Rattle.bplus_tree.specs.Damage.{FailsTree};
 ghost use Rattle.bplus_tree.specs.Full.{NotFull, NamesFull, NamesAbove, CutsFor, NeededAbove, IsWayFull, MustCut};
-ghost use Rattle.page_space.specs.Stops.{IsFault, StopsFor, spare_pages};
+ghost use Rattle.page_alloc.specs.Stops.{IsFault, StopsFor, spare_pages};
 ghost use Rattle.bplus_tree.specs.Edit.{Edits, IsSafe, IsSpent, StaysBelow};
-ghost use Rattle.page_space.specs.Written.{WritesNothing};
+ghost use Rattle.page_alloc.specs.Written.{WritesNothing};
 ghost use Rattle.bplus_tree.specs.Record.{PutsAgain};
 ghost use Rattle.bplus_tree.specs.LineChanges.{PutsChange};
 ghost use Rattle.bplus_tree.specs.Path.{IsPlace, Leads, MayFollow, Settles, StandsAbove, StandsAt, StopsAbove, TakesFor, room_above, root_place};
 
 use crate::access::look;
-use crate::change::{add_child, delete_leaf, mend, put_leaf};
+use crate::change::{add_child, delete_leaf, mend, put_at};
 use crate::outcome::Outcome;
 use arrayvec::ArrayVec;
 use line_pages::{Pages, Stop};
-use slotted_page::{Expect, Spot, Work};
+use page_format::{Expect, Spot, Work};
 use tree_search::{Root, child_expect, root_expect};
 
 /// A page of a tree, and what is expected of it.
@@ -95,16 +98,17 @@ fn descend<P: Pages>(
     ensures keeps { OnOk result (KeepsLines (P.standing pages.old) (P.standing pages.new)) }
     ensures sound { IsTrue (P.standing pages.old).told → (free : List ℕ) → StandsAt (P.standing pages.old).current top.page top.expect free → IfErr result IsFault }
     ensures nothing { OnOk result (WritesNothing (P.standing pages.old) (P.standing pages.new)) }
-    ensures cause { HasCause (IsTreeDamage (P.standing pages.old).told (P.standing pages.old).count (P.standing pages.new).current work.new.page) (P.standing pages.old) (P.standing pages.new) result }
+    ensures cause { TreeCause P.Pages pages.old pages.new work.new.page result }
     ensures fails { IfErr result (Keeps (FailsTree (P.standing pages.old).count work.new.page)) }
     ensures not_full { IfErr result NotFull }
-    ensures continues { Continues (P.may_leave pages.old) (P.may_leave pages.new) (P.is_steady pages.old) (P.standing pages.old) (P.standing pages.new) }
+    ensures call { PagesCall P.Pages pages.old pages.new result }
     ensures few { (P.standing pages.new).visits ≤ (P.standing pages.old).visits + top.expect.level + 1 }
-    ensures ready { OnOk result (P.is_ready pages.new) }
-    ensures steady { P.is_steady pages.old → OnOk result (P.is_steady pages.new) }
 {
     let mut place = top;
     loop {
+        if place.expect.level == 0 {
+            return Ok(place);
+        }
         match look(pages, place.page, &place.expect, key, work)? {
             Spot::Child(_, child, low, high) => {
                 path.push(Passed { place, low });
@@ -138,15 +142,13 @@ fn settle<P: Pages>(
     ensures kept { child ≡ Outcome.Whole → P.standing pages.new ≡ P.standing pages.old }
     ensures room { OnOk result ((P.standing pages.old).room ≤ (P.standing pages.new).room + room_above child) }
     ensures sound { IsTrue (P.standing pages.old).told → (free : List ℕ) → StandsAbove (P.standing pages.old).current passed.now child free → FitsHeader (P.standing pages.old).count ((P.standing pages.old).current 0 0) → IfErr result (StopsAbove (P.standing pages.old).count (P.standing pages.old).current passed.now child free) }
-    ensures cause { HasCause (IsTreeDamage (P.standing pages.old).told (P.standing pages.old).count (P.standing pages.new).current work.new.page) (P.standing pages.old) (P.standing pages.new) result }
+    ensures cause { TreeCause P.Pages pages.old pages.new work.new.page result }
     ensures fails { IfErr result (Keeps (FailsTree (P.standing pages.old).count work.new.page)) }
     ensures at { IfErr result (NamesAbove passed.now child) }
     ensures cuts { IsTrue (P.standing pages.old).told → IfOk result (CutsFor (entry_count (bytes_of (P.standing pages.old).current passed.now.place.page) ≡ 240)) }
     ensures needed { IsTrue (P.standing pages.old).told → IsWellFormed (bytes_of (P.standing pages.old).current passed.now.place.page) passed.now.place.expect → IfErr result (NeededAbove (P.standing pages.old).current passed.now child) }
-    ensures continues { Continues (P.may_leave pages.old) (P.may_leave pages.new) (P.is_steady pages.old) (P.standing pages.old) (P.standing pages.new) }
+    ensures call { PagesCall P.Pages pages.old pages.new result }
     ensures few { (P.standing pages.new).visits ≤ (P.standing pages.old).visits + 13 }
-    ensures ready { OnOk result (P.is_ready pages.new) }
-    ensures steady { P.is_steady pages.old → OnOk result (P.is_steady pages.new) }
 {
     let place = &passed.place;
     match child {
@@ -184,19 +186,17 @@ pub fn put_in<P: Pages>(
     ensures room { IfOk result (IsSpent top.expect.level (P.standing pages.old).room (P.standing pages.new).room) }
     ensures takes { IsTrue (P.standing pages.old).told → IfOk result (TakesFor (P.standing pages.old).count (P.standing pages.old).current (P.standing pages.new).current top.page top.expect) }
     ensures sound { IsTrue (P.standing pages.old).told → (free : List ℕ) → StandsAt (P.standing pages.old).current top.page top.expect free → FitsHeader (P.standing pages.old).count ((P.standing pages.old).current 0 0) → IfErr result (StopsFor (spare_pages (P.standing pages.old).count (P.standing pages.old).current free ≤ top.expect.level) (1000000 < length (tree_rows (P.standing pages.old).current top.expect.level top.page))) }
-    ensures cause { HasCause (IsTreeDamage (P.standing pages.old).told (P.standing pages.old).count (P.standing pages.new).current work.new.page) (P.standing pages.old) (P.standing pages.new) result }
+    ensures cause { TreeCause P.Pages pages.old pages.new work.new.page result }
     ensures fails { IfErr result (Keeps (FailsTree (P.standing pages.old).count work.new.page)) }
     ensures at_top { IfErr result (NamesFull top.page (top.expect.level ≡ 3)) }
     ensures cuts { IsTrue (P.standing pages.old).told → (free : List ℕ) → StandsAt (P.standing pages.old).current top.page top.expect free → IfOk result (CutsFor (IsWayFull (P.standing pages.old).current top.expect.level top.page key value.now)) }
     ensures needed { IsTrue (P.standing pages.old).told → (free : List ℕ) → StandsAt (P.standing pages.old).current top.page top.expect free → FitsHeader (P.standing pages.old).count ((P.standing pages.old).current 0 0) → IfErr result (MustCut (P.standing pages.old).current top.expect.level top.page key value.now) }
-    ensures continues { Continues (P.may_leave pages.old) (P.may_leave pages.new) (P.is_steady pages.old) (P.standing pages.old) (P.standing pages.new) }
+    ensures call { PagesCall P.Pages pages.old pages.new result }
     ensures few { (P.standing pages.new).visits ≤ (P.standing pages.old).visits + 14 * top.expect.level + 10 }
-    ensures ready { OnOk result (P.is_ready pages.new) }
-    ensures steady { P.is_steady pages.old → OnOk result (P.is_steady pages.new) }
 {
     let mut path = ArrayVec::new();
     let leaf = descend(pages, top, key, &mut path, work)?;
-    let mut outcome = put_leaf(pages, leaf.page, &leaf.expect, key, value, work)?;
+    let mut outcome = put_at(pages, leaf.page, &leaf.expect, key, value, work)?;
     while let Some(passed) = path.pop() {
         outcome = settle(pages, &passed, outcome, work)?;
     }
@@ -221,13 +221,11 @@ pub fn delete_in<P: Pages>(
     ensures uncut { IfOk result (λ outcome. (k r : ℕ) → outcome ≢ Outcome.Cut k r) }
     ensures room { IfOk result (IsSpent top.expect.level (P.standing pages.old).room (P.standing pages.new).room) }
     ensures sound { IsTrue (P.standing pages.old).told → (free : List ℕ) → StandsAt (P.standing pages.old).current top.page top.expect free → FitsHeader (P.standing pages.old).count ((P.standing pages.old).current 0 0) → IfErr result IsFault }
-    ensures cause { HasCause (IsTreeDamage (P.standing pages.old).told (P.standing pages.old).count (P.standing pages.new).current work.new.page) (P.standing pages.old) (P.standing pages.new) result }
+    ensures cause { TreeCause P.Pages pages.old pages.new work.new.page result }
     ensures fails { IfErr result (Keeps (FailsTree (P.standing pages.old).count work.new.page)) }
     ensures not_full { IfErr result NotFull }
-    ensures continues { Continues (P.may_leave pages.old) (P.may_leave pages.new) (P.is_steady pages.old) (P.standing pages.old) (P.standing pages.new) }
+    ensures call { PagesCall P.Pages pages.old pages.new result }
     ensures few { (P.standing pages.new).visits ≤ (P.standing pages.old).visits + 14 * top.expect.level + 10 }
-    ensures ready { OnOk result (P.is_ready pages.new) }
-    ensures steady { P.is_steady pages.old → OnOk result (P.is_steady pages.new) }
 {
     let mut path = ArrayVec::new();
     let leaf = descend(pages, top, key, &mut path, work)?;

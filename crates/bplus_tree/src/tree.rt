@@ -1,16 +1,19 @@
 //! A key put into the tree of a root, and taken out of it.
 ghost use Rattle.std.specs.Prelude.{◌≡◌, ◌≢◌, ◌+◌, ◌-◌, ◌<◌, ◌≤◌, ℕ, List, length, not, is_some, true, IsTrue, OnOk, IfOk, IfErr};
 ghost use Rattle.std.specs.List.{list_all};
-ghost use Rattle.slotted_page.specs.Node.{is_printable};
-ghost use Rattle.slotted_page.specs.Search.{Keeps};
-ghost use Rattle.line_pages.specs.Standing.{Continues, HasCause, KeepsLines};
-ghost use Rattle.slotted_page.specs.Rows.{Row, row_get, row_put, row_delete};
+ghost use Rattle.rows.specs.Value.{is_printable};
+ghost use Rattle.page_format.specs.Search.{Keeps};
+ghost use Rattle.bplus_tree.specs.Causes.{TreeCause};
+ghost use Rattle.tree_search.specs.Where.{OnRooted};
+ghost use Rattle.line_pages.specs.PagesCall.{PagesCall};
+ghost use Rattle.line_pages.specs.Standing.{KeepsLines};
+ghost use Rattle.rows.specs.Rows.{Row, row_get, row_put, row_delete};
 ghost use Rattle.tree_search.specs.Tree.{IsRooted};
 ghost use Rattle.bplus_tree.specs.Changes.{ChangesRows};
-ghost use Rattle.bplus_tree.specs.Damage.{IsTreeDamage, FailsTree, IsLack, StandsIn};
+ghost use Rattle.bplus_tree.specs.Damage.{FailsTree, IsLack, StandsIn};
 ghost use Rattle.bplus_tree.specs.Full.{NotFull, NamesRoot, MustCut};
-ghost use Rattle.page_space.specs.Stops.{IsFault, pages_at_hand};
-ghost use Rattle.page_space.specs.Written.{WritesNothing};
+ghost use Rattle.page_alloc.specs.Stops.{IsFault, pages_at_hand};
+ghost use Rattle.page_alloc.specs.Written.{WritesNothing};
 ghost use Rattle.node_edit.specs.Record.{HoldsLength};
 ghost use Rattle.bplus_tree.specs.Record.{PutsRecord};
 ghost use Rattle.bplus_tree.specs.LineChanges.{PutsLines};
@@ -20,7 +23,8 @@ use crate::outcome::Outcome;
 use crate::path::{delete_in, put_in, top_of};
 use line_pages::{Pages, Stop};
 use node_edit::root_of;
-use slotted_page::{Value, Work};
+use page_format::Work;
+use rows::Value;
 use tree_search::{Root, get};
 
 /// Puts a value at a key, whether or not the key is there. Its callers know that already: it is `put` without the look-up.
@@ -53,15 +57,13 @@ pub fn put_row<P: Pages>(
     ensures some_levels { 1 ≤ root.new.levels }
     ensures few_levels { root.new.levels ≤ 4 }
     ensures sound { IsTrue (P.standing pages.old).told → (rows : List Row) (used free : List ℕ) → StandsIn (P.standing pages.old).count (P.standing pages.old).current root.old rows used free → IfErr result (IsLack (pages_at_hand (P.standing pages.old).count (P.standing pages.old).current used free) (length (row_put key value.now rows)) (length rows)) }
-    ensures cause { HasCause (IsTreeDamage (P.standing pages.old).told (P.standing pages.old).count (P.standing pages.new).current work.new.page) (P.standing pages.old) (P.standing pages.new) result }
+    ensures cause { TreeCause P.Pages pages.old pages.new work.new.page result }
     ensures fails { IfErr result (Keeps (FailsTree (P.standing pages.old).count work.new.page)) }
     ensures at_root { IfErr result (NamesRoot root.old) }
     ensures needed { IsTrue (P.standing pages.old).told → (rows : List Row) (used free : List ℕ) → StandsIn (P.standing pages.old).count (P.standing pages.old).current root.old rows used free → IfErr result (MustCut (P.standing pages.old).current (root.old.levels - 1) root.old.page key value.now) }
     // what stays
-    ensures continues { Continues (P.may_leave pages.old) (P.may_leave pages.new) (P.is_steady pages.old) (P.standing pages.old) (P.standing pages.new) }
+    ensures call { PagesCall P.Pages pages.old pages.new result }
     ensures few { (P.standing pages.new).visits ≤ (P.standing pages.old).visits + 58 }
-    ensures ready { OnOk result (P.is_ready pages.new) }
-    ensures steady { P.is_steady pages.old → OnOk result (P.is_steady pages.new) }
 {
     let count = pages.page_count();
     let top = top_of(root, count);
@@ -113,14 +115,12 @@ pub fn delete_row<P: Pages>(
     ensures some_levels { 1 ≤ root.new.levels }
     ensures few_levels { root.new.levels ≤ 4 }
     ensures sound { IsTrue (P.standing pages.old).told → (rows : List Row) (used free : List ℕ) → StandsIn (P.standing pages.old).count (P.standing pages.old).current root.old rows used free → IfErr result IsFault }
-    ensures cause { HasCause (IsTreeDamage (P.standing pages.old).told (P.standing pages.old).count (P.standing pages.new).current work.new.page) (P.standing pages.old) (P.standing pages.new) result }
+    ensures cause { TreeCause P.Pages pages.old pages.new work.new.page result }
     ensures fails { IfErr result (Keeps (FailsTree (P.standing pages.old).count work.new.page)) }
     ensures not_full { IfErr result NotFull }
     // what stays
-    ensures continues { Continues (P.may_leave pages.old) (P.may_leave pages.new) (P.is_steady pages.old) (P.standing pages.old) (P.standing pages.new) }
+    ensures call { PagesCall P.Pages pages.old pages.new result }
     ensures few { (P.standing pages.new).visits ≤ (P.standing pages.old).visits + 52 }
-    ensures ready { OnOk result (P.is_ready pages.new) }
-    ensures steady { P.is_steady pages.old → OnOk result (P.is_steady pages.new) }
 {
     let top = top_of(root, pages.page_count());
     match delete_in(pages, top, key, work)? {
@@ -142,17 +142,15 @@ fn has_key<P: Pages>(pages: &mut P, root: &Root, key: u64, work: &mut Work) -> R
     requires page { root.now.page < (P.standing pages.old).count }
     requires some_levels { 1 ≤ root.now.levels }
     requires few_levels { root.now.levels ≤ 4 }
-    ensures found { IsTrue (P.standing pages.old).told → (rows : List Row) (used : List ℕ) → IsRooted (P.standing pages.old).count (P.standing pages.old).current root.now rows used → IfOk result (λ found. found ≡ is_some (row_get key rows)) }
-    ensures sound { IsTrue (P.standing pages.old).told → (rows : List Row) (used : List ℕ) → IsRooted (P.standing pages.old).count (P.standing pages.old).current root.now rows used → IfErr result IsFault }
+    ensures found { OnRooted P.Pages pages.old root.now (λ rows used. IfOk result (λ found. found ≡ is_some (row_get key rows))) }
+    ensures sound { OnRooted P.Pages pages.old root.now (λ rows used. IfErr result IsFault) }
     ensures nothing { OnOk result (WritesNothing (P.standing pages.old) (P.standing pages.new)) }
-    ensures cause { HasCause (IsTreeDamage (P.standing pages.old).told (P.standing pages.old).count (P.standing pages.new).current work.new.page) (P.standing pages.old) (P.standing pages.new) result }
+    ensures cause { TreeCause P.Pages pages.old pages.new work.new.page result }
     ensures fails { IfErr result (Keeps (FailsTree (P.standing pages.old).count work.new.page)) }
     ensures not_full { IfErr result NotFull }
-    ensures continues { Continues (P.may_leave pages.old) (P.may_leave pages.new) (P.is_steady pages.old) (P.standing pages.old) (P.standing pages.new) }
+    ensures call { PagesCall P.Pages pages.old pages.new result }
     ensures keeps { OnOk result (KeepsLines (P.standing pages.old) (P.standing pages.new)) }
     ensures few { (P.standing pages.new).visits ≤ (P.standing pages.old).visits + 4 }
-    ensures ready { OnOk result (P.is_ready pages.new) }
-    ensures steady { P.is_steady pages.old → OnOk result (P.is_steady pages.new) }
 {
     match seek(pages, root, key, work)? {
         Some(_) => Ok(true),
@@ -172,17 +170,15 @@ fn seek<P: Pages>(
     requires page { root.now.page < (P.standing pages.old).count }
     requires some_levels { 1 ≤ root.now.levels }
     requires few_levels { root.now.levels ≤ 4 }
-    ensures value { IsTrue (P.standing pages.old).told → (rows : List Row) (used : List ℕ) → IsRooted (P.standing pages.old).count (P.standing pages.old).current root.now rows used → IfOk result (λ value. value ≡ row_get key rows) }
-    ensures sound { IsTrue (P.standing pages.old).told → (rows : List Row) (used : List ℕ) → IsRooted (P.standing pages.old).count (P.standing pages.old).current root.now rows used → IfErr result IsFault }
+    ensures value { OnRooted P.Pages pages.old root.now (λ rows used. IfOk result (λ value. value ≡ row_get key rows)) }
+    ensures sound { OnRooted P.Pages pages.old root.now (λ rows used. IfErr result IsFault) }
     ensures nothing { OnOk result (WritesNothing (P.standing pages.old) (P.standing pages.new)) }
-    ensures cause { HasCause (IsTreeDamage (P.standing pages.old).told (P.standing pages.old).count (P.standing pages.new).current work.new.page) (P.standing pages.old) (P.standing pages.new) result }
+    ensures cause { TreeCause P.Pages pages.old pages.new work.new.page result }
     ensures fails { IfErr result (Keeps (FailsTree (P.standing pages.old).count work.new.page)) }
     ensures not_full { IfErr result NotFull }
-    ensures continues { Continues (P.may_leave pages.old) (P.may_leave pages.new) (P.is_steady pages.old) (P.standing pages.old) (P.standing pages.new) }
+    ensures call { PagesCall P.Pages pages.old pages.new result }
     ensures keeps { OnOk result (KeepsLines (P.standing pages.old) (P.standing pages.new)) }
     ensures few { (P.standing pages.new).visits ≤ (P.standing pages.old).visits + 4 }
-    ensures ready { OnOk result (P.is_ready pages.new) }
-    ensures steady { P.is_steady pages.old → OnOk result (P.is_steady pages.new) }
 {
     get(pages, root, key, work)
 }
@@ -214,7 +210,7 @@ pub fn put<P: Pages>(
     ensures lines { IsTrue (P.standing pages.old).told → OnOk result (PutsLines root.old key value.now (P.standing pages.old) (P.standing pages.new)) }
     // why it stops
     ensures sound { IsTrue (P.standing pages.old).told → (rows : List Row) (used free : List ℕ) → StandsIn (P.standing pages.old).count (P.standing pages.old).current root.old rows used free → IfErr result (IsLack (pages_at_hand (P.standing pages.old).count (P.standing pages.old).current used free) (length (row_put key value.now rows)) (length rows)) }
-    ensures cause { HasCause (IsTreeDamage (P.standing pages.old).told (P.standing pages.old).count (P.standing pages.new).current work.new.page) (P.standing pages.old) (P.standing pages.new) result }
+    ensures cause { TreeCause P.Pages pages.old pages.new work.new.page result }
     ensures fails { IfErr result (Keeps (FailsTree (P.standing pages.old).count work.new.page)) }
     ensures at_root { IfErr result (NamesRoot root.old) }
     ensures needed { IsTrue (P.standing pages.old).told → (rows : List Row) (used free : List ℕ) → StandsIn (P.standing pages.old).count (P.standing pages.old).current root.old rows used free → IfErr result (MustCut (P.standing pages.old).current (root.old.levels - 1) root.old.page key value.now) }
@@ -223,10 +219,8 @@ pub fn put<P: Pages>(
     ensures page { OnOk result (root.new.page < (P.standing pages.old).count) }
     ensures some_levels { 1 ≤ root.new.levels }
     ensures few_levels { root.new.levels ≤ 4 }
-    ensures continues { Continues (P.may_leave pages.old) (P.may_leave pages.new) (P.is_steady pages.old) (P.standing pages.old) (P.standing pages.new) }
+    ensures call { PagesCall P.Pages pages.old pages.new result }
     ensures few { (P.standing pages.new).visits ≤ (P.standing pages.old).visits + 62 }
-    ensures ready { OnOk result (P.is_ready pages.new) }
-    ensures steady { P.is_steady pages.old → OnOk result (P.is_steady pages.new) }
 {
     let found = has_key(pages, root, key, work)?;
     put_row(pages, root, key, value.bytes(), work)?;
@@ -252,7 +246,7 @@ pub fn delete<P: Pages>(
     ensures found { IsTrue (P.standing pages.old).told → (rows : List Row) (used : List ℕ) → IsRooted (P.standing pages.old).count (P.standing pages.old).current root.old rows used → IfOk result (λ found. found ≡ is_some (row_get key rows)) }
     // why it stops
     ensures sound { IsTrue (P.standing pages.old).told → (rows : List Row) (used free : List ℕ) → StandsIn (P.standing pages.old).count (P.standing pages.old).current root.old rows used free → IfErr result IsFault }
-    ensures cause { HasCause (IsTreeDamage (P.standing pages.old).told (P.standing pages.old).count (P.standing pages.new).current work.new.page) (P.standing pages.old) (P.standing pages.new) result }
+    ensures cause { TreeCause P.Pages pages.old pages.new work.new.page result }
     ensures fails { IfErr result (Keeps (FailsTree (P.standing pages.old).count work.new.page)) }
     ensures not_full { IfErr result NotFull }
     // the root, and what stays
@@ -260,10 +254,8 @@ pub fn delete<P: Pages>(
     ensures page { OnOk result (root.new.page < (P.standing pages.old).count) }
     ensures some_levels { 1 ≤ root.new.levels }
     ensures few_levels { root.new.levels ≤ 4 }
-    ensures continues { Continues (P.may_leave pages.old) (P.may_leave pages.new) (P.is_steady pages.old) (P.standing pages.old) (P.standing pages.new) }
+    ensures call { PagesCall P.Pages pages.old pages.new result }
     ensures few { (P.standing pages.new).visits ≤ (P.standing pages.old).visits + 56 }
-    ensures ready { OnOk result (P.is_ready pages.new) }
-    ensures steady { P.is_steady pages.old → OnOk result (P.is_steady pages.new) }
 {
     let found = has_key(pages, root, key, work)?;
     delete_row(pages, root, key, work)?;

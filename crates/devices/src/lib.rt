@@ -13,8 +13,6 @@ mod past;
 mod replay;
 mod step;
 mod stream;
-#[cfg(test)]
-mod tests;
 mod traits;
 
 pub use faults::{Fault, FaultKind};

@@ -2,33 +2,31 @@
 use Rattle.std.proofs.Common.{◌≡◌, ℕ, ◌+◌, ◌<◌, ◌≤◌, Bool, true, false, cond, List, [], ◌∷◌, refl, sym, ap, subst, ◌∙◌, arith, Some, None, Option, IsTrue, Result, Ok, Err}
 use Rattle.std.specs.Prelude.{OnOk, IfOk, IfErr, IsErr, IsErrAnd, ◌==◌}
 use Rattle.std.proofs.lemmas.Bool.{ne_eqb}
-use Rattle.devices.specs.World.{Standing as Device, Goes, now}
+use Rattle.devices.specs.World.{Standing as Device, Goes}
 use Rattle.line_pages.specs.Lines.{Lines}
-use Rattle.line_pages.specs.Standing.{Standing as Shown, Continues, KeepsLines, HasCause, IsCause}
-use Rattle.line_pages.specs.declared.stop.Evidence.{Evidence}
+use Rattle.line_pages.specs.Standing.{Standing as Shown, KeepsLines, HasCause, IsCause}
+use Rattle.damage.specs.declared.evidence.Evidence.{Evidence}
 use Rattle.line_pages.specs.declared.stop.Stop.{Stop}
 use Rattle.line_pages.specs.declared.stop.Stop.TheVariants.{Nvm, Ssd, Damaged}
-use Rattle.slotted_page.specs.Search.{Keeps}
-use Rattle.page_space.specs.Stops.{IsFault as IsTreeFault}
+use Rattle.page_format.specs.Search.{Keeps}
+use Rattle.page_alloc.specs.Stops.{IsFault as IsTreeFault}
 use Rattle.table_catalog.specs.Stored.{IsStore}
-use Rattle.slotted_page.specs.declared.work.Work.{Work}
-use Rattle.store_meaning.specs.Layout.{Sizes, pages, ssd_blocks}
-use Rattle.store_laws.specs.ShownPages.{pages_in, committed_in}
-use Rattle.store_laws.specs.Steps.{MayLeave}
-use Rattle.nvm_layout.specs.Sizes.{sizes_of}
-use Rattle.nvm_layout.specs.declared.geometry.Geometry.{Geometry}
-use Rattle.table_catalog.specs.Catalog.{Table}
-use Rattle.transactions.specs.declared.book.Book.{Book}
-use Rattle.transactions.specs.StoreStanding.{standing_of, book_sizes, reach, IsReady, IsSteady}
-use Rattle.transactions.specs.StoreCalls.{NextWrite}
+use Rattle.page_format.specs.declared.work.Work.{Work}
+use Rattle.rows.specs.Tables.{Table}
+use Rattle.flat_transactions.specs.declared.book.Book.{Book}
+use Rattle.flat_transactions.specs.OpenStore.{account, current_lines, committed_lines, CallsPages, KeepsStore}
+use Rattle.flat_transactions.specs.Order.{Sizes, pages, ssd_blocks}
+use Rattle.flat_transactions.specs.StoreStanding.{standing_of, book_sizes, reach, IsReady, IsSteady}
+use Rattle.flat_transactions.specs.StoreCalls.{NextWrite}
+use Rattle.flat_transactions.proofs.OpenStoreLaws.{pages_keep, next_sizes, next_lines, next_tail}
 use Rattle.script.specs.Machine.{State, Open, current, written}
 use Rattle.script.specs.declared.command.Reply.{Reply}
 use Rattle.engine.specs.declared.engine.Engine.{Engine}
 use Rattle.engine.specs.Holds.{AreLimits, HoldsTables}
-use Rattle.engine.specs.Engine.{engine_sizes, StandsFor, Shows, IsTransaction, IsFault}
+use Rattle.engine.specs.Engine.{engine_sizes, engine_lines, has_open, writes_done, most_writes, log_end, StandsFor, Shows, IsTransaction, IsFault}
 use Rattle.engine.specs.Steps.{Does}
 use Rattle.engine.proofs.HoldsLaws.{holds_same, holds_with}
-use Rattle.engine.proofs.DoesLaws.{does_kept, pages_geometry, pages_goes, pages_during, pages_committed, pages_open, pages_accepted, pages_reach}
+use Rattle.engine.proofs.DoesLaws.{does_kept}
 
 -- the engine with another book and other buffers
 abbrev pub with_book : Engine → Book → Work → Engine
@@ -68,25 +66,25 @@ cause_fails {W} {T} {U} standing Fails Damage old new a w v book_name device_nam
 
 -- the same where the damage is of the pages at the stop
 pub cause_fails_at : {W T U : Type 0} (standing : W → Device) (Fails : Evidence → Type 0) (Damage : Lines → Evidence → Type 0) (old new : Book) (a : Device) (w v : W) (book_name device_name since book_name_after device_name_after since_after : ℕ) (r : Result U Stop) (why : Stop)
-    → w ≡ v → IsErr r × IsErrAnd r (λ found. found ≡ why) → Keeps Fails why → new.log.geometry ≡ old.log.geometry
-    → HasCause {T = T} (Damage (pages_in (book_sizes new) (now (standing v)))) (standing_of old a book_name device_name since) (standing_of new (standing v) book_name_after device_name_after since_after) (Err why)
-    → HasCause (λ e. Fails e × Damage (pages_in (book_sizes old) (now (standing w))) e) (standing_of old a 0 0 0) (standing_of new (standing w) 0 0 0) r
-cause_fails_at {W} {T} {U} standing Fails Damage old new a w v book_name device_name since book_name_after device_name_after since_after r why same is fails sizes cause =
+    → w ≡ v → IsErr r × IsErrAnd r (λ found. found ≡ why) → Keeps Fails why
+    → HasCause {T = T} (Damage (current_lines new (standing v))) (standing_of old a book_name device_name since) (standing_of new (standing v) book_name_after device_name_after since_after) (Err why)
+    → HasCause (λ e. Fails e × Damage (current_lines new (standing w)) e) (standing_of old a 0 0 0) (standing_of new (standing w) 0 0 0) r
+cause_fails_at {W} {T} {U} standing Fails Damage old new a w v book_name device_name since book_name_after device_name_after since_after r why same is fails cause =
     subst (λ (lines : Lines). HasCause (λ e. Fails e × Damage lines e) (standing_of old a 0 0 0) (standing_of new (standing w) 0 0 0) r)
-    (ap (λ (x : Geometry). pages_in (sizes_of x) (now (standing v))) sizes ∙ ap (λ (x : W). pages_in (book_sizes old) (now (standing x))) (sym same))
-    (cause_fails {T = T} standing Fails (Damage (pages_in (book_sizes new) (now (standing v)))) old new a w v book_name device_name since book_name_after device_name_after since_after r why same is fails cause)
+    (ap (λ (x : W). current_lines new (standing x)) (sym same))
+    (cause_fails {T = T} standing Fails (Damage (current_lines new (standing v))) old new a w v book_name device_name since book_name_after device_name_after since_after r why same is fails cause)
 
 -- the pages that an engine shows are a store of its limits
-pub store_shown : (old : Engine) (a : Device) (s : State) → StandsFor old a → Shows old a s → IsStore old.limits (pages (engine_sizes old)) (pages_in (engine_sizes old) (now a))
-store_shown old a s stands shows = holds_with (engine_sizes old) (pages_in (engine_sizes old) (now a)) (current s) old.limits stands.limits shows.seen
+pub store_shown : (old : Engine) (a : Device) (s : State) → StandsFor old a → Shows old a s → IsStore old.limits (pages (engine_sizes old)) (engine_lines old a)
+store_shown old a s stands shows = holds_with (engine_sizes old) (engine_lines old a) (current s) old.limits stands.limits shows.seen
 
 -- the open transaction by another book
-pub transaction_by : (old new : Book) (o : Option Open) → new.is_open ≡ old.is_open → new.accepted ≡ old.accepted → IsTransaction old o → IsTransaction new o
+pub transaction_by : (old new : Book) (o : Option Open) → (account new).is_open ≡ (account old).is_open → (account new).accepted ≡ (account old).accepted → IsTransaction old o → IsTransaction new o
 transaction_by old new None is_open accepted it = is_open ∙ it
 transaction_by old new (Some o) is_open accepted it = (is_open ∙ it.0, it.1 ∙ sym accepted)
 
 -- and with one write more
-transaction_next : (old new : Book) (s : State) (T : List Table) → old.is_open ≡ true → new.is_open ≡ true → new.accepted ≡ old.accepted + 1 → IsTransaction old s.transaction → IsTransaction new (written T s).transaction
+transaction_next : (old new : Book) (s : State) (T : List Table) → (account old).is_open ≡ true → (account new).is_open ≡ true → (account new).accepted ≡ (account old).accepted + 1 → IsTransaction old s.transaction → IsTransaction new (written T s).transaction
 transaction_next old new s T was is_open accepted it = next s.transaction it
   where
     next : (o : Option Open) → IsTransaction old o → IsTransaction new (Rattle.std.specs.Prelude.option_map (λ (o : Open). record { tables = T; writes = o.writes + 1 }) o)
@@ -94,7 +92,7 @@ transaction_next old new s T was is_open accepted it = next s.transaction it
     next (Some o) is = (is_open, omega (arith, accepted, is.1))
 
 -- what the command sees behind a write
-current_next : (old : Book) (s : State) (T : List Table) → old.is_open ≡ true → IsTransaction old s.transaction → current (written T s) ≡ T
+current_next : (old : Book) (s : State) (T : List Table) → (account old).is_open ≡ true → IsTransaction old s.transaction → current (written T s) ≡ T
 current_next old s T was it = next s.transaction it
   where
     next : (o : Option Open) → IsTransaction old o → Rattle.script.specs.Machine.tables_of_open s.tables (Rattle.std.specs.Prelude.option_map (λ (o : Open). record { tables = T; writes = o.writes + 1 }) o) ≡ T
@@ -102,126 +100,104 @@ current_next old s T was it = next s.transaction it
     next (Some o) is = refl
 
 module _ {book_name device_name since book_name_after device_name_after since_after : ℕ} (old : Engine) (a b : Device) (book : Book) (work : Work) (stands : StandsFor old a)
-    (call : Continues (MayLeave (book_sizes old.book) a) (MayLeave (book_sizes book) b) (IsSteady old.book a) (standing_of old.book a book_name device_name since) (standing_of book b book_name_after device_name_after since_after))
-    (begun : since ≡ a.clock) where
-  geometry : book.log.geometry ≡ old.book.log.geometry
-  geometry = pages_geometry old.book book a b book_name device_name since book_name_after device_name_after since_after call begun
-
-  goes : Goes a b
-  goes = pages_goes old.book book a b book_name device_name since book_name_after device_name_after since_after call begun
-
-  during : IsTrue a.told → IsSteady old.book a → (m : ℕ) → a.clock < m → m ≤ b.clock → (lines : Lines) → MayLeave (engine_sizes old) b m lines → lines ≡ committed_in (now a)
-  during = pages_during old.book book a b book_name device_name since book_name_after device_name_after since_after call begun
-
-  is_open : book.is_open ≡ old.book.is_open
-  is_open = pages_open old.book book a b book_name device_name since book_name_after device_name_after since_after call begun
-
-  accepted : book.accepted ≡ old.book.accepted
-  accepted = pages_accepted old.book book a b book_name device_name since book_name_after device_name_after since_after call begun
-
-  reaches : reach book ≡ reach old.book
-  reaches = pages_reach old.book book a b book_name device_name since book_name_after device_name_after since_after call begun
+    (call : CallsPages old.book a book_name device_name since book b book_name_after device_name_after since_after) (begun : since ≡ a.clock) where
+  keep : KeepsStore old.book a book b
+  keep = pages_keep old.book book a b call begun
 
   -- a call that stopped
   pub does_fails : {T : Type 0} (after : State → State) (r : Result T Stop) (why : Stop) → IsErr r × IsErrAnd r (λ found. found ≡ why) → (IsTrue a.told → (s : State) → Shows old a s → IsFault why) → Does after old a (with_book old book work) b r
   does_fails {T} after r why is sound =
       subst (λ (x : Result T Stop). Does after old a (with_book old book work) b x) (sym (handed_on r why is))
-      (does_kept after old a (with_book old book work) b (Err why) stands geometry goes during tt (λ steady. tt) tt sound (λ told s shows. tt))
-
-  sizes : engine_sizes (with_book old book work) ≡ engine_sizes old
-  sizes = ap (λ (x : Geometry). sizes_of x) geometry
+      (does_kept after old a (with_book old book work) b (Err why) stands keep.sizes keep.goes keep.during tt (λ steady. tt) tt sound (λ told s shows. tt))
 
   -- the committed tables stay
-  committed_stays : IsTrue a.told → (s : State) → Shows old a s → HoldsTables (book_sizes book) (committed_in (now b)) s.tables
+  committed_stays : IsTrue a.told → (s : State) → Shows old a s → HoldsTables (book_sizes book) (committed_lines b) s.tables
   committed_stays told s shows =
-      subst (λ (g : Sizes). HoldsTables g (committed_in (now b)) s.tables) (sym sizes)
-      (holds_same (engine_sizes old) (committed_in (now a)) (committed_in (now b)) s.tables (pages_committed old.book book a b book_name device_name since book_name_after device_name_after since_after call begun told) shows.committed)
+      subst (λ (g : Sizes). HoldsTables g (committed_lines b) s.tables) (sym keep.sizes)
+      (holds_same (engine_sizes old) (committed_lines a) (committed_lines b) s.tables (keep.committed told) shows.committed)
 
   -- ---- a call that changed no line
   module _ (ready : IsReady book b) (keeps : KeepsLines (standing_of old.book a book_name device_name since) (standing_of book b book_name_after device_name_after since_after)) where
     stands_kept : StandsFor (with_book old book work) b
     stands_kept =
-        let same_writes : book.accepted ≡ old.book.accepted = accepted in
-        let room : book.room ≡ old.book.room = keeps.room in
-        let same_reach : reach book ≡ reach old.book = reaches in
-        let few : old.book.is_open ≡ true → old.book.accepted ≤ old.writes = stands.few in
-        let enough : old.book.is_open ≡ true → old.book.accepted < old.writes → 640 ≤ old.book.room = stands.room in
-        let counted : old.commits ≤ old.book.log.tail = stands.counted in
+        let same_writes : (account book).accepted ≡ writes_done old = keep.accepted in
+        let room : (account book).room ≡ (account old.book).room = keeps.room in
+        let same_reach : reach book ≡ reach old.book = keep.reach_is in
+        let few : has_open old ≡ true → writes_done old ≤ most_writes old = stands.few in
+        let enough : has_open old ≡ true → writes_done old < most_writes old → 640 ≤ (account old.book).room = stands.room in
+        let counted : old.commits ≤ log_end old = stands.counted in
         record {
           ready = ready;
-          disk = subst (λ (x : Sizes). ssd_blocks x ≤ b.blocks) (sym sizes) (subst (λ n. ssd_blocks (engine_sizes old) ≤ n) (sym goes.blocks) stands.disk);
-          limits = subst (λ (x : Sizes). AreLimits x old.limits) (sym sizes) stands.limits;
-          writes = stands.writes ∙ ap (λ (x : Geometry). x.writes) (sym geometry);
-          few = λ still. let it : old.book.accepted ≤ old.writes = few (sym is_open ∙ still) in omega (arith, it, same_writes);
-          room = λ still more. let it : 640 ≤ old.book.room = enough (sym is_open ∙ still) (omega (arith, more, same_writes)) in omega (arith, it, room);
+          disk = subst (λ (x : Sizes). ssd_blocks x ≤ b.blocks) (sym keep.sizes) (subst (λ n. ssd_blocks (engine_sizes old) ≤ n) (sym keep.goes.blocks) stands.disk);
+          limits = subst (λ (x : Sizes). AreLimits x old.limits) (sym keep.sizes) stands.limits;
+          writes = stands.writes ∙ ap (λ (x : Sizes). x.writes) (sym keep.sizes);
+          few = λ still. let it : writes_done old ≤ most_writes old = few (sym keep.is_open ∙ still) in omega (arith, it, same_writes);
+          room = λ still more. let it : 640 ≤ (account old.book).room = enough (sym keep.is_open ∙ still) (omega (arith, more, same_writes)) in omega (arith, it, room);
           counted = omega (arith, counted, room, same_reach);
         }
 
     shows_kept : IsTrue a.told → (s : State) → Shows old a s → Shows (with_book old book work) b s
     shows_kept told s shows = record {
       committed = committed_stays told s shows;
-      seen = subst (λ (g : Sizes). HoldsTables g (pages_in (book_sizes book) (now b)) (current s)) (sym sizes)
-          (holds_same (engine_sizes old) (pages_in (engine_sizes old) (now a)) (pages_in (book_sizes book) (now b)) (current s) (keeps.current told) shows.seen);
-      transaction = transaction_by old.book book s.transaction is_open accepted shows.transaction;
+      seen = subst (λ (g : Sizes). HoldsTables g (current_lines book b) (current s)) (sym keep.sizes)
+          (holds_same (engine_sizes old) (engine_lines old a) (current_lines book b) (current s) (keeps.current told) shows.seen);
+      transaction = transaction_by old.book book s.transaction keep.is_open keep.accepted shows.transaction;
       commits = shows.commits;
     }
 
     pub does_stays : {T : Type 0} (after : State → State) (v : T) → (IsSteady old.book a → IsSteady book b) → (IsTrue a.told → (s : State) → Shows old a s → after s ≡ s)
         → Does after old a (with_book old book work) b (Ok v)
     does_stays after v steady same =
-        let same_reach : reach book ≡ reach old.book = reaches in
-        does_kept after old a (with_book old book work) b (Ok v) stands geometry goes during (omega (arith, same_reach)) steady stands_kept (λ told s shows. tt)
+        let same_reach : reach book ≡ reach old.book = keep.reach_is in
+        does_kept after old a (with_book old book work) b (Ok v) stands keep.sizes keep.goes keep.during (omega (arith, same_reach)) steady stands_kept (λ told s shows. tt)
         (λ told s shows. subst (λ (x : State). Shows (with_book old book work) b x) (sym (same told s shows)) (shows_kept told s shows))
 
   -- ---- a write of the open transaction
-  module _ (next : Book) (ready : IsReady book b) (was_open : old.book.is_open ≡ true) (more : old.book.accepted < old.writes) (nexts : NextWrite book next) (next_ready : IsReady next b) where
-    next_geometry : next.log.geometry ≡ old.book.log.geometry
-    next_geometry = ap (λ (x : Rattle.nvm_log.specs.declared.log.Log.Log). x.geometry) nexts.log ∙ geometry
-
-    next_sizes : book_sizes next ≡ engine_sizes old
-    next_sizes = ap (λ (x : Geometry). sizes_of x) next_geometry
+  module _ (next : Book) (ready : IsReady book b) (was_open : has_open old ≡ true) (more : writes_done old < most_writes old) (nexts : NextWrite book next) (next_ready : IsReady next b) where
+    sizes_next : book_sizes next ≡ engine_sizes old
+    sizes_next = next_sizes book next nexts ∙ keep.sizes
 
     room_next : (n m none some : ℕ) → n < m → cond (n == m) none some ≡ some
     room_next n m none some less = ap (λ (x : Bool). cond x none some) (ne_eqb n m (λ e. omega (arith, e, less)))
 
     stands_next : StandsFor (with_book old next work) b
     stands_next =
-        let same_writes : book.accepted ≡ old.book.accepted = accepted in
-        let one : next.accepted ≡ book.accepted + 1 = nexts.accepted in
-        let same_reach : reach book ≡ reach old.book = reaches in
-        let few : book.room ≤ 640 = ready.few in
-        let enough : 640 ≤ old.book.room = stands.room was_open more in
-        let tail : next.log.tail ≡ book.log.tail = ap (λ (x : Rattle.nvm_log.specs.declared.log.Log.Log). x.tail) nexts.log in
-        let counted : old.commits ≤ old.book.log.tail = stands.counted in
-        let writes : old.writes ≡ book.log.geometry.writes = stands.writes ∙ ap (λ (x : Geometry). x.writes) (sym geometry) in
+        let same_writes : (account book).accepted ≡ writes_done old = keep.accepted in
+        let one : (account next).accepted ≡ (account book).accepted + 1 = nexts.accepted in
+        let same_reach : reach book ≡ reach old.book = keep.reach_is in
+        let few : (account book).room ≤ 640 = ready.few in
+        let enough : 640 ≤ (account old.book).room = stands.room was_open more in
+        let tail : (account next).tail ≡ (account book).tail = next_tail book next nexts in
+        let counted : old.commits ≤ log_end old = stands.counted in
+        let writes : most_writes old ≡ (book_sizes book).writes = stands.writes ∙ ap (λ (x : Sizes). x.writes) (sym keep.sizes) in
         record {
           ready = next_ready;
-          disk = subst (λ (x : Sizes). ssd_blocks x ≤ b.blocks) (sym next_sizes) (subst (λ n. ssd_blocks (engine_sizes old) ≤ n) (sym goes.blocks) stands.disk);
-          limits = subst (λ (x : Sizes). AreLimits x old.limits) (sym next_sizes) stands.limits;
-          writes = stands.writes ∙ ap (λ (x : Geometry). x.writes) (sym next_geometry);
+          disk = subst (λ (x : Sizes). ssd_blocks x ≤ b.blocks) (sym sizes_next) (subst (λ n. ssd_blocks (engine_sizes old) ≤ n) (sym keep.goes.blocks) stands.disk);
+          limits = subst (λ (x : Sizes). AreLimits x old.limits) (sym sizes_next) stands.limits;
+          writes = stands.writes ∙ ap (λ (x : Sizes). x.writes) (sym sizes_next);
           few = λ still. omega (arith, same_writes, one, more);
           room = λ still left.
-              let six : next.room ≡ 640 = nexts.room ∙ room_next (book.accepted + 1) book.log.geometry.writes 0 640 (omega (arith, one, left, writes)) in
+              let six : (account next).room ≡ 640 = nexts.room ∙ room_next ((account book).accepted + 1) (book_sizes book).writes 0 640 (omega (arith, one, left, writes)) in
               omega (arith, six);
           counted = omega (arith, counted, same_reach, few, enough, tail);
         }
 
-    shows_next : IsTrue a.told → (s : State) → Shows old a s → (T : List Table) → HoldsTables (engine_sizes old) (pages_in (book_sizes book) (now b)) T → Shows (with_book old next work) b (written T s)
+    shows_next : IsTrue a.told → (s : State) → Shows old a s → (T : List Table) → HoldsTables (engine_sizes old) (current_lines book b) T → Shows (with_book old next work) b (written T s)
     shows_next told s shows T holds = record {
-      committed = subst (λ (g : Sizes). HoldsTables g (committed_in (now b)) s.tables) (sizes ∙ sym next_sizes) (committed_stays told s shows);
-      seen = subst (λ (tables : List Table). HoldsTables (book_sizes next) (pages_in (book_sizes next) (now b)) tables) (sym (current_next old.book s T was_open shows.transaction))
-          (subst (λ (g : Sizes). HoldsTables g (pages_in g (now b)) T) (sym next_sizes) (subst (λ (g : Sizes). HoldsTables (engine_sizes old) (pages_in g (now b)) T) sizes holds));
+      committed = subst (λ (g : Sizes). HoldsTables g (committed_lines b) s.tables) (keep.sizes ∙ sym sizes_next) (committed_stays told s shows);
+      seen = subst (λ (tables : List Table). HoldsTables (book_sizes next) (current_lines next b) tables) (sym (current_next old.book s T was_open shows.transaction))
+          (subst (λ (g : Sizes). HoldsTables g (current_lines next b) T) (sym sizes_next) (holds_same (engine_sizes old) (current_lines book b) (current_lines next b) T (next_lines book next b nexts) holds));
       transaction = transaction_next old.book next s T was_open nexts.is_open
-          (let one : next.accepted ≡ book.accepted + 1 = nexts.accepted in let same_writes : book.accepted ≡ old.book.accepted = accepted in omega (arith, one, same_writes)) shows.transaction;
+          (let one : (account next).accepted ≡ (account book).accepted + 1 = nexts.accepted in let same_writes : (account book).accepted ≡ writes_done old = keep.accepted in omega (arith, one, same_writes)) shows.transaction;
       commits = shows.commits;
     }
 
     pub does_writes : {T : Type 0} (after : State → State) (v : T) (tables_of : State → List Table) → (IsSteady old.book a → IsSteady next b) → (IsTrue a.told → (s : State) → Shows old a s → after s ≡ written (tables_of s) s)
-        → (IsTrue a.told → (s : State) → Shows old a s → HoldsTables (engine_sizes old) (pages_in (book_sizes book) (now b)) (tables_of s)) → Does after old a (with_book old next work) b (Ok v)
+        → (IsTrue a.told → (s : State) → Shows old a s → HoldsTables (engine_sizes old) (current_lines book b) (tables_of s)) → Does after old a (with_book old next work) b (Ok v)
     does_writes after v tables_of steady same holds =
-        let same_reach : reach book ≡ reach old.book = reaches in
+        let same_reach : reach book ≡ reach old.book = keep.reach_is in
         let rises : reach next ≤ reach book + 1921 = nexts.reach_rises in
-        does_kept after old a (with_book old next work) b (Ok v) stands next_geometry goes during (omega (arith, same_reach, rises)) steady stands_next (λ told s shows. tt)
+        does_kept after old a (with_book old next work) b (Ok v) stands sizes_next keep.goes keep.during (omega (arith, same_reach, rises)) steady stands_next (λ told s shows. tt)
         (λ told s shows. subst (λ (x : State). Shows (with_book old next work) b x) (sym (same told s shows)) (shows_next told s shows (tables_of s) (holds told s shows)))
 
 -- ---- what one call makes, said of another result

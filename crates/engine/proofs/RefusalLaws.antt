@@ -2,13 +2,14 @@
 use Rattle.std.proofs.Common.{◌≡◌, ℕ, refl, sym, subst, arith, Result, Ok, Err}
 use Rattle.std.specs.Prelude.{OnOk, IfOk}
 use Rattle.devices.specs.World.{Standing as Device}
-use Rattle.line_pages.specs.Standing.{Continues, KeepsLines}
+use Rattle.line_pages.specs.Standing.{KeepsLines}
 use Rattle.line_pages.specs.declared.stop.Stop.{Stop}
 use Rattle.line_pages.specs.declared.touches.Accesses.{Accesses}
-use Rattle.slotted_page.specs.declared.work.Work.{Work}
-use Rattle.store_laws.specs.Steps.{MayLeave}
-use Rattle.transactions.specs.declared.book.Book.{Book}
-use Rattle.transactions.specs.StoreStanding.{standing_of, book_sizes, reach, IsSteady}
+use Rattle.page_format.specs.declared.work.Work.{Work}
+use Rattle.flat_transactions.specs.declared.book.Book.{Book}
+use Rattle.flat_transactions.specs.OpenStore.{account, CallsPages, KeepsStore}
+use Rattle.flat_transactions.specs.StoreStanding.{standing_of, reach}
+use Rattle.flat_transactions.proofs.OpenStoreLaws.{pages_keep}
 use Rattle.script.specs.declared.command.Reply.{Reply}
 use Rattle.script.specs.declared.command.Reply.TheVariants.{Fine, Found, Absent, Row, Finish, Committed, Aborted, Refused}
 use Rattle.engine.specs.declared.engine.Engine.{Engine}
@@ -16,26 +17,26 @@ use Rattle.engine.specs.declared.scan.Step.{Step}
 use Rattle.engine.specs.declared.scan.Step.TheVariants.{Silent, Said, Scanning}
 use Rattle.engine.specs.Answers.{said_of}
 use Rattle.engine.specs.Refused.{Stays, StaysIfRefused, LineStaysIfRefused}
-use Rattle.engine.proofs.DoesLaws.{pages_open, pages_accepted, pages_start, pages_reach, pages_committed}
 use Rattle.engine.proofs.CommandLaws.{with_book}
 
 -- a call of pages that changed no line
 pub stays_kept : {W : Type 0} {book_name device_name since book_name_after device_name_after since_after : ℕ} (standing : W → Device) (old : Engine) (a : Device) (w v : W) (book : Book) (work : Work) → w ≡ v
-    → Continues (MayLeave (book_sizes old.book) a) (MayLeave (book_sizes book) (standing v)) (IsSteady old.book a) (standing_of old.book a book_name device_name since) (standing_of book (standing v) book_name_after device_name_after since_after)
+    → CallsPages old.book a book_name device_name since book (standing v) book_name_after device_name_after since_after
     → since ≡ a.clock → KeepsLines (standing_of old.book a book_name device_name since) (standing_of book (standing v) book_name_after device_name_after since_after)
     → Stays old a (with_book old book work) (standing w)
 stays_kept {book_name = book_name} {device_name = device_name} {since = since} {book_name_after = book_name_after} {device_name_after = device_name_after} {since_after = since_after} standing old a w v book work same call begun keeps =
-    let room : book.room ≡ old.book.room = keeps.room in
-    let same_reach : reach book ≡ reach old.book = pages_reach old.book book a (standing v) book_name device_name since book_name_after device_name_after since_after call begun in
+    let keep : KeepsStore old.book a book (standing v) = pages_keep old.book book a (standing v) call begun in
+    let room : (account book).room ≡ (account old.book).room = keeps.room in
+    let same_reach : reach book ≡ reach old.book = keep.reach_is in
     subst (λ x. Stays old a (with_book old book work) (standing x)) (sym same) (record {
-      is_open = pages_open old.book book a (standing v) book_name device_name since book_name_after device_name_after since_after call begun;
-      accepted = pages_accepted old.book book a (standing v) book_name device_name since book_name_after device_name_after since_after call begun;
+      is_open = keep.is_open;
+      accepted = keep.accepted;
       room = room;
       commits = refl;
-      start = pages_start old.book book a (standing v) book_name device_name since book_name_after device_name_after since_after call begun;
+      start = keep.start;
       tail = omega (arith, room, same_reach);
       current = keeps.current;
-      committed = pages_committed old.book book a (standing v) book_name device_name since book_name_after device_name_after since_after call begun;
+      committed = keep.committed;
     })
 
 pub stays_still : (old : Engine) (a : Device) → Stays old a old a

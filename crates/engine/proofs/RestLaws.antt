@@ -2,27 +2,26 @@
 use Rattle.std.proofs.Common.{◌≡◌, ◌∙◌, ℕ, List, [], ◌∷◌, refl, sym, ap, subst, inl, inr, true, false, Bool, IsTrue, Result, Ok, Err, Option, Some}
 use Rattle.std.specs.Prelude.{OnOk, IfErr, IsErr, IsErrAnd, ◌&&◌}
 use Rattle.std.specs.List.{list_all}
-use Rattle.devices.specs.World.{Standing as Device, now}
-use Rattle.line_pages.specs.declared.stop.Evidence.{Evidence}
-use Rattle.line_pages.specs.declared.stop.Evidence.TheVariants.{Super, Frames, Log, Page, Walk}
+use Rattle.devices.specs.World.{Standing as Device}
+use Rattle.damage.specs.declared.evidence.Evidence.{Evidence}
+use Rattle.damage.specs.declared.evidence.Evidence.TheVariants.{Super, Frames, Log, Page, Walk}
 use Rattle.line_pages.specs.declared.stop.Stop.{Stop}
 use Rattle.line_pages.specs.declared.stop.Stop.TheVariants.{Nvm, Ssd, Damaged}
 use Rattle.line_pages.specs.declared.touches.Accesses.{Accesses}
 use Rattle.line_pages.specs.Bytes.{bytes_of}
 use Rattle.line_pages.specs.Lines.{Lines}
-use Rattle.line_pages.specs.Standing.{Standing, Continues, HasCause, KeepsLines as AllStay}
-use Rattle.slotted_page.specs.Search.{Keeps, IsNodeDamage}
-use Rattle.slotted_page.specs.declared.work.Work.{Work}
-use Rattle.store_meaning.specs.Layout.{Sizes, pages}
-use Rattle.store_laws.specs.ShownPages.{pages_in}
-use Rattle.store_laws.specs.Steps.{MayLeave}
-use Rattle.table_catalog.specs.declared.limits.Limits.{Limits}
+use Rattle.line_pages.specs.Standing.{Standing, HasCause, KeepsLines as AllStay}
+use Rattle.page_format.specs.Search.{Keeps, IsNodeDamage}
+use Rattle.page_format.specs.declared.work.Work.{Work}
+use Rattle.rows.specs.declared.limits.Limits.{Limits}
 use Rattle.table_catalog.specs.Catalog.{IsCatalogDamage}
 use Rattle.texts.specs.Lines.{is_silent}
-use Rattle.transactions.specs.declared.book.Book.{Book}
-use Rattle.transactions.specs.StoreStanding.{standing_of, book_sizes, IsSteady}
-use Rattle.transactions.specs.StoreCalls.{IsFault, KeepsLines, CommitsLines, AbortsLines}
-use Rattle.transactions.specs.TakenBack.{StopsFor, IsDamage as IsLogDamage}
+use Rattle.flat_transactions.specs.declared.book.Book.{Book}
+use Rattle.flat_transactions.specs.OpenStore.{CallsPages, IsCounted, IsCountedOrDamage, IsLogDamage}
+use Rattle.flat_transactions.specs.Order.{pages}
+use Rattle.flat_transactions.specs.StoreStanding.{standing_of}
+use Rattle.flat_transactions.specs.StoreCalls.{KeepsLines, CommitsLines, AbortsLines}
+use Rattle.flat_transactions.proofs.OpenStoreLaws.{pages_keep}
 use Rattle.script.specs.Grammar.{command_in, command_of}
 use Rattle.script.specs.declared.command.Command.{Command}
 use Rattle.engine.specs.declared.engine.Engine.{Engine}
@@ -30,9 +29,8 @@ use Rattle.script.specs.declared.command.Reply.{Reply}
 use Rattle.engine.specs.Answers.{said_of}
 use Rattle.engine.specs.Causes.{IsNameDamage, IsRowDamage}
 use Rattle.engine.specs.Commands.{shown}
-use Rattle.engine.specs.Engine.{engine_sizes}
+use Rattle.engine.specs.Engine.{engine_sizes, engine_lines, evidence_bytes}
 use Rattle.engine.specs.Resting.{is_read, AreReads, Rests, IsPageOf, Reads}
-use Rattle.engine.proofs.DoesLaws.{pages_committed}
 use Rattle.engine.proofs.CommandLaws.{with_book}
 
 -- ---- answers
@@ -63,12 +61,12 @@ by_node count held lines buffer (Walk page kept found check) same it = tt
 
 module _ (lines : Lines) (old : Engine) (a : Device) (rests : Rests lines old a) (told : IsTrue a.told) (buffer : List ℕ) (e : Evidence) where
   name_page : IsNameDamage old a buffer e → IsPageOf lines buffer e
-  name_page it = by_catalog old.limits (pages (engine_sizes old)) (pages_in (engine_sizes old) (now a)) lines buffer e rests.current (it.1 told)
+  name_page it = by_catalog old.limits (pages (engine_sizes old)) (engine_lines old a) lines buffer e rests.current (it.1 told)
 
   row_page : IsRowDamage old a buffer e → IsPageOf lines buffer e
   row_page it = elim (it.1 told) [
-    | inl catalog ↦ by_catalog old.limits (pages (engine_sizes old)) (pages_in (engine_sizes old) (now a)) lines buffer e rests.current catalog
-    | inr node ↦ by_node (pages (engine_sizes old)) (pages_in (engine_sizes old) (now a)) lines buffer e rests.current node
+    | inl catalog ↦ by_catalog old.limits (pages (engine_sizes old)) (engine_lines old a) lines buffer e rests.current catalog
+    | inr node ↦ by_node (pages (engine_sizes old)) (engine_lines old a) lines buffer e rests.current node
   ]
 
 stop_page : {A T : Type 0} (P : Evidence → Type 0) (x y : Standing A) (lines : Lines) (buffer : List ℕ) (r : Result T Stop) → ((e : Evidence) → P e → IsPageOf lines buffer e) → HasCause P x y r → IfErr r (Keeps (IsPageOf lines buffer))
@@ -80,27 +78,27 @@ stop_page P x y lines buffer (Err (Damaged e)) page it = page e it.failed
 -- ---- calls on pages
 
 -- one that stopped
-pub reads_name : {T : Type 0} (old : Engine) (a : Device) (new : Engine) (b : Device) (r : Result T Stop) → IsErr r → HasCause (IsNameDamage old a new.work.page) (shown old a) (shown new b) r → Reads old a new b r
+pub reads_name : {T : Type 0} (old : Engine) (a : Device) (new : Engine) (b : Device) (r : Result T Stop) → IsErr r → HasCause (IsNameDamage old a (evidence_bytes new)) (shown old a) (shown new b) r → Reads old a new b r
 reads_name old a new b r is cause = record {
   stays = λ told lines rests. on_err _ r is;
-  shows = λ told lines rests. stop_page (IsNameDamage old a new.work.page) (shown old a) (shown new b) lines new.work.page r (λ e it. name_page lines old a rests told new.work.page e it) cause;
+  shows = λ told lines rests. stop_page (IsNameDamage old a (evidence_bytes new)) (shown old a) (shown new b) lines (evidence_bytes new) r (λ e it. name_page lines old a rests told (evidence_bytes new) e it) cause;
 }
 
-pub reads_row : {T : Type 0} (old : Engine) (a : Device) (new : Engine) (b : Device) (r : Result T Stop) → IsErr r → HasCause (IsRowDamage old a new.work.page) (shown old a) (shown new b) r → Reads old a new b r
+pub reads_row : {T : Type 0} (old : Engine) (a : Device) (new : Engine) (b : Device) (r : Result T Stop) → IsErr r → HasCause (IsRowDamage old a (evidence_bytes new)) (shown old a) (shown new b) r → Reads old a new b r
 reads_row old a new b r is cause = record {
   stays = λ told lines rests. on_err _ r is;
-  shows = λ told lines rests. stop_page (IsRowDamage old a new.work.page) (shown old a) (shown new b) lines new.work.page r (λ e it. row_page lines old a rests told new.work.page e it) cause;
+  shows = λ told lines rests. stop_page (IsRowDamage old a (evidence_bytes new)) (shown old a) (shown new b) lines (evidence_bytes new) r (λ e it. row_page lines old a rests told (evidence_bytes new) e it) cause;
 }
 
 -- and one that changed no line
 pub reads_stays : {W T : Type 0} {book_name device_name since book_name_after device_name_after since_after : ℕ} (standing : W → Device) (old : Engine) (a : Device) (w v : W) (book : Book) (work : Work) (value : T) → w ≡ v
-    → Continues (MayLeave (book_sizes old.book) a) (MayLeave (book_sizes book) (standing v)) (IsSteady old.book a) (standing_of old.book a book_name device_name since) (standing_of book (standing v) book_name_after device_name_after since_after)
+    → CallsPages old.book a book_name device_name since book (standing v) book_name_after device_name_after since_after
     → since ≡ a.clock → AllStay (standing_of old.book a book_name device_name since) (standing_of book (standing v) book_name_after device_name_after since_after)
     → Reads old a (with_book old book work) (standing w) (Ok value)
 reads_stays {book_name = book_name} {device_name = device_name} {since = since} {book_name_after = book_name_after} {device_name_after = device_name_after} {since_after = since_after} standing old a w v book work value same call begun keeps = record {
   stays = λ told lines rests. subst (λ x. Rests lines (with_book old book work) (standing x)) (sym same) (record {
     current = keeps.current told ∙ rests.current;
-    committed = pages_committed old.book book a (standing v) book_name device_name since book_name_after device_name_after since_after call begun told ∙ rests.committed;
+    committed = (pages_keep old.book book a (standing v) call begun).committed told ∙ rests.committed;
   });
   shows = λ told lines rests. tt;
 }
@@ -116,7 +114,7 @@ reads_ok old a new b v w it = record { stays = it.stays; shows = λ told lines r
 pub reads_err : {T U : Type 0} (old : Engine) (a : Device) (new : Engine) (b : Device) (r : Result U Stop) (why : Stop) → IsErr r × IsErrAnd r (λ found. found ≡ why) → Reads {T = T} old a new b (Err why) → Reads {T = U} old a new b r
 reads_err old a new b r why is it = record {
   stays = λ told lines rests. on_err _ r is.0;
-  shows = λ told lines rests. on_why (Keeps (IsPageOf lines new.work.page)) r why is (it.shows told lines rests);
+  shows = λ told lines rests. on_why (Keeps (IsPageOf lines (evidence_bytes new))) r why is (it.shows told lines rests);
 }
 
 pub reads_said : (old : Engine) (a : Device) (new : Engine) (b : Device) (r : Result Reply Stop) → Reads old a new b r → Reads old a new b (said_of r)
@@ -125,30 +123,30 @@ reads_said old a new b (Err why) it = record { stays = it.stays; shows = it.show
 
 -- ---- calls that open and end transactions
 
-fault_page : (a b : Device) (lines : Lines) (buffer : List ℕ) (why : Stop) → IsFault a b why → Keeps (IsPageOf lines buffer) why
+fault_page : (a b : Device) (lines : Lines) (buffer : List ℕ) (why : Stop) → IsCounted a b why → Keeps (IsPageOf lines buffer) why
 fault_page a b lines buffer Nvm is = tt
 fault_page a b lines buffer Ssd is = tt
 fault_page a b lines buffer (Damaged e) is = absurd is
 
-line_page : (g : Sizes) (start tail : ℕ) (a : Device) (lines : Lines) (buffer : List ℕ) (e : Evidence) → IsLogDamage g start tail a e → IsPageOf lines buffer e
-line_page g start tail a lines buffer e it = subst (λ (x : Evidence). IsPageOf lines buffer x) (sym it.keeps) tt
+line_page : (book : Book) (a : Device) (lines : Lines) (buffer : List ℕ) (e : Evidence) → IsLogDamage book a e → IsPageOf lines buffer e
+line_page book a lines buffer e it = subst (λ (x : Evidence). IsPageOf lines buffer x) (sym it.keeps) tt
 
-abort_page : (g : Sizes) (start tail : ℕ) (a b : Device) (lines : Lines) (buffer : List ℕ) (why : Stop) → StopsFor g start tail a b why → Keeps (IsPageOf lines buffer) why
-abort_page g start tail a b lines buffer Nvm is = tt
-abort_page g start tail a b lines buffer Ssd is = tt
-abort_page g start tail a b lines buffer (Damaged e) is = line_page g start tail a lines buffer e is
+abort_page : (book : Book) (a b : Device) (lines : Lines) (buffer : List ℕ) (why : Stop) → IsCountedOrDamage book a b why → Keeps (IsPageOf lines buffer) why
+abort_page book a b lines buffer Nvm is = tt
+abort_page book a b lines buffer Ssd is = tt
+abort_page book a b lines buffer (Damaged e) is = line_page book a lines buffer e is
 
 module _ (old : Engine) (a : Device) (new : Engine) (b : Device) where
-  pub reads_fault : {T : Type 0} (r : Result T Stop) (why : Stop) → IsErr r × IsErrAnd r (λ found. found ≡ why) → IsFault a b why → Reads old a new b r
+  pub reads_fault : {T : Type 0} (r : Result T Stop) (why : Stop) → IsErr r × IsErrAnd r (λ found. found ≡ why) → IsCounted a b why → Reads old a new b r
   reads_fault r why is fault = record {
     stays = λ told lines rests. on_err _ r is.0;
-    shows = λ told lines rests. on_why (Keeps (IsPageOf lines new.work.page)) r why is (fault_page a b lines new.work.page why fault);
+    shows = λ told lines rests. on_why (Keeps (IsPageOf lines (evidence_bytes new))) r why is (fault_page a b lines (evidence_bytes new) why fault);
   }
 
-  pub reads_abort : {T : Type 0} (g : Sizes) (start tail : ℕ) (r : Result T Stop) (why : Stop) → IsErr r × IsErrAnd r (λ found. found ≡ why) → StopsFor g start tail a b why → Reads old a new b r
-  reads_abort g start tail r why is stop = record {
+  pub reads_abort : {T : Type 0} (book : Book) (r : Result T Stop) (why : Stop) → IsErr r × IsErrAnd r (λ found. found ≡ why) → IsCountedOrDamage book a b why → Reads old a new b r
+  reads_abort book r why is stop = record {
     stays = λ told lines rests. on_err _ r is.0;
-    shows = λ told lines rests. on_why (Keeps (IsPageOf lines new.work.page)) r why is (abort_page g start tail a b lines new.work.page why stop);
+    shows = λ told lines rests. on_why (Keeps (IsPageOf lines (evidence_bytes new))) r why is (abort_page book a b lines (evidence_bytes new) why stop);
   }
 
   pub reads_kept : {T : Type 0} (value : T) → (IsTrue a.told → KeepsLines old.book a new.book b) → Reads old a new b (Ok value)
@@ -166,15 +164,6 @@ module _ (old : Engine) (a : Device) (new : Engine) (b : Device) where
   pub reads_aborted : {T : Type 0} (value : T) → (IsTrue a.told → AbortsLines old.book a new.book b) → Reads old a new b (Ok value)
   reads_aborted value aborts = record {
     stays = λ told lines rests. record { current = (aborts told).current ∙ rests.committed; committed = (aborts told).committed ∙ rests.committed };
-    shows = λ told lines rests. tt;
-  }
-
-  pub reads_nothing : {T : Type 0} (value : T) → new.book ≡ old.book → b ≡ a → Reads old a new b (Ok value)
-  reads_nothing value book device = record {
-    stays = λ told lines rests. subst (λ (d : Device). Rests lines new d) (sym device) (record {
-      current = ap (λ (x : Book). pages_in (book_sizes x) (now a)) book ∙ rests.current;
-      committed = rests.committed;
-    });
     shows = λ told lines rests. tt;
   }
 

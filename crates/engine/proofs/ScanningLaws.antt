@@ -8,15 +8,18 @@ use Rattle.line_pages.specs.Standing.{HasCause}
 use Rattle.line_pages.specs.declared.stop.Stop.{Stop}
 use Rattle.line_pages.specs.declared.stop.Stop.TheVariants.{Nvm, Ssd, Damaged}
 use Rattle.line_pages.specs.declared.touches.Accesses.{Accesses}
-use Rattle.slotted_page.specs.Rows.{Row, keys, row_next, Ascends, Each, last_key}
+use Rattle.rows.specs.Rows.{Row, keys, row_next, Ascends, Each, last_key}
 use Rattle.tree_search.proofs.OrderLaws.{tree_rows-ascend}
-use Rattle.table_catalog.specs.declared.limits.Limits.{Limits}
+use Rattle.rows.specs.declared.limits.Limits.{Limits}
 use Rattle.table_store.specs.declared.answer.Next.{Next}
 use Rattle.table_store.specs.declared.answer.Next.TheVariants as next
-use Rattle.table_catalog.specs.Catalog.{Table, entries, tables, table_of}
-use Rattle.table_catalog.specs.Stored.{IsStore, HasTree, rows_of}
+use Rattle.table_catalog.specs.Catalog.{entries, tables, table_of}
+use Rattle.rows.specs.Tables.{Table}
+use Rattle.table_catalog.specs.Stored.{IsStore, HasTree}
+use Rattle.rows.specs.Tables.{rows_of}
 use Rattle.engine.specs.Causes.{IsRowDamage}
 use Rattle.table_store.specs.Scanning.{next_of, row_up_to}
+use Rattle.flat_transactions.proofs.OpenStoreLaws.{rested_ready}
 use Rattle.script.specs.Tables.{row_range}
 use Rattle.script.specs.Machine.{State}
 use Rattle.script.specs.declared.command.Reply.{Reply}
@@ -157,18 +160,7 @@ rested engine accesses = record engine { book = record engine.book { accesses = 
 
 pub stands_rested : (engine : Engine) (accesses : Accesses) (d : Device) → StandsFor engine d → StandsFor (rested engine accesses) d
 stands_rested engine accesses d it = record {
-  ready = record {
-    fits = it.ready.fits;
-    allowed = it.ready.allowed;
-    sized = it.ready.sized;
-    room = it.ready.room;
-    below = it.ready.below;
-    few = it.ready.few;
-    begins = it.ready.begins;
-    within = it.ready.within;
-    closed = λ shut. record { room = (it.ready.closed shut).room; first = (it.ready.closed shut).first };
-    read = it.ready.read;
-  };
+  ready = rested_ready engine.book accesses d it.ready;
   disk = it.disk;
   limits = it.limits;
   writes = it.writes;

@@ -2,7 +2,7 @@
 use Rattle.std.proofs.Common.{◌≡◌, ℕ, List, refl, sym, ap, ◌∙◌, subst, true, false, not, Bool, IsTrue, Result, Ok, Err, Option, Some, None, [], ◌∷◌, ◌++◌, append-nil, is_some}
 use Rattle.std.specs.Prelude.{IfOk, IsErr, IsErrAnd}
 use Rattle.devices.specs.World.{Standing}
-use Rattle.line_pages.specs.declared.stop.Evidence.{Evidence}
+use Rattle.damage.specs.declared.evidence.Evidence.{Evidence}
 use Rattle.line_pages.specs.declared.stop.Stop.{Stop}
 use Rattle.line_pages.specs.declared.stop.Stop.TheVariants.{Nvm, Ssd, Damaged}
 use Rattle.texts.specs.Lines.{is_silent}
@@ -11,7 +11,9 @@ use Rattle.script.specs.Grammar.{command_in, command_of}
 use Rattle.script.specs.Script.{machine}
 use Rattle.line_pages.specs.declared.touches.Accesses.{Accesses}
 use Rattle.line_pages.specs.Standing.{HasCause, IsCause}
-use Rattle.transactions.specs.declared.book.Book.{Book}
+use Rattle.flat_transactions.specs.declared.book.Book.{Book}
+use Rattle.flat_transactions.specs.OpenStore.{account}
+use Rattle.flat_transactions.proofs.OpenStoreLaws.{rested_ready}
 use Rattle.script.specs.Machine.{Bounds, State, Open, current, step, transaction_wrong}
 use Rattle.script.specs.declared.command.Command.{Command}
 use Rattle.script.specs.declared.command.Command.TheVariants as command
@@ -22,9 +24,9 @@ use Rattle.engine.specs.declared.engine.Engine.{Engine}
 use Rattle.engine.specs.declared.scan.Step.{Step}
 use Rattle.engine.specs.declared.scan.Step.TheVariants.{Silent, Said}
 use Rattle.engine.specs.Holds.{bounds_in}
-use Rattle.engine.specs.Engine.{engine_sizes, StandsFor, IsTransaction, Shows, IsFault}
+use Rattle.engine.specs.Engine.{engine_sizes, has_open, evidence_bytes, StandsFor, IsTransaction, Shows, IsFault}
 use Rattle.engine.specs.Commands.{shown}
-use Rattle.engine.specs.Causes.{IsDamage, Stops}
+use Rattle.engine.specs.Causes.{IsDamage, IsUndoDamage, Stops, StopsUndoing}
 use Rattle.engine.specs.Steps.{Does, Replies, after_command, after_line, step_replies, IsBegun}
 use Rattle.engine.specs.Answers.{said_of, Answers, AnswersLine, Obeys, closed}
 use Rattle.engine.specs.Resting.{is_read, AreReads, Reads}
@@ -61,7 +63,7 @@ unread clash = absurd (cc)
 
 -- A command that gives one reply.
 pub obeys_said : (P : Evidence → Type 0) (c d : Command) (old : Engine) (a : Standing) (new : Engine) (b : Standing) (r : Result Reply Stop) (x : Result Step Stop) → c ≡ d → x ≡ said_of r
-    → Does (after_command old (Some d)) old a new b r → Replies old a (Some d) r → ((e : Evidence) → P e → IsDamage old a b new.work.page e) → HasCause P (shown old a) (shown new b) r → (IsTrue (is_read (Some d)) → Reads old a new b r) → IfOk r (StaysIfRefused old a new b) → Obeys (Some c) old a new b x
+    → Does (after_command old (Some d)) old a new b r → Replies old a (Some d) r → ((e : Evidence) → P e → IsDamage old a new b (evidence_bytes new) e) → HasCause P (shown old a) (shown new b) r → (IsTrue (is_read (Some d)) → Reads old a new b r) → IfOk r (StaysIfRefused old a new b) → Obeys (Some c) old a new b x
 obeys_said P c d old a new b r x same is does replies weaker cause reads refused =
     obeys_at c d old a new b x same
     (subst (λ (y : Result Step Stop). Obeys (Some d) old a new b y) (sym is)
@@ -70,13 +72,13 @@ obeys_said P c d old a new b r x same is does replies weaker cause reads refused
       replies = said_replies old a (Some d) r replies;
       begun = said_begun r;
       refused = refused_said old a new b r refused;
-      cause = said_cause old a new b r (causes_weaker P (IsDamage old a b new.work.page) (shown old a) (shown new b) r weaker cause);
+      cause = said_cause old a new b r (causes_weaker P (IsDamage old a new b (evidence_bytes new)) (shown old a) (shown new b) r weaker cause);
       reads = λ read. reads_said old a new b r (reads read);
     }))
 
 -- ---- whether a transaction is open
 
-pub is_open_is : (book : Book) (t : Option Open) → IsTransaction book t → is_some t ≡ book.is_open
+pub is_open_is : (book : Book) (t : Option Open) → IsTransaction book t → is_some t ≡ (account book).is_open
 is_open_is book None it = sym it
 is_open_is book (Some o) it = sym it.0
 
@@ -88,7 +90,7 @@ step_misplaced : (bounds : Bounds) (s : State) (c : Command) → transaction_wro
 step_misplaced bounds s c wrong = rw wrong refl
 
 -- A command that is refused as `transaction`.
-pub obeys_misplaced : (c : Command) (old : Engine) (a : Standing) → StandsFor old a → transaction_wrong c old.book.is_open ≡ true → Obeys (Some c) old a old a (Ok (Said (reply.Refused reason.Transaction)))
+pub obeys_misplaced : (c : Command) (old : Engine) (a : Standing) → StandsFor old a → transaction_wrong c (has_open old) ≡ true → Obeys (Some c) old a old a (Ok (Said (reply.Refused reason.Transaction)))
 obeys_misplaced c old a stands wrong = record {
   does = does_still (after_command old (Some c)) old a (Said (reply.Refused reason.Transaction)) stands (λ told s shows. sym (ap (λ x. x.0) (found s shows)));
   replies = λ told s shows. ap (λ x. x.1) (found s shows);
@@ -109,18 +111,7 @@ module _ (old : Engine) (touched : Accesses) where
 
   stands_rested : (a : Standing) → StandsFor old a → StandsFor rested a
   stands_rested a it = record {
-    ready = record {
-      fits = it.ready.fits;
-      allowed = it.ready.allowed;
-      sized = it.ready.sized;
-      room = it.ready.room;
-      below = it.ready.below;
-      few = it.ready.few;
-      begins = it.ready.begins;
-      within = it.ready.within;
-      closed = λ shut. record { room = (it.ready.closed shut).room; first = (it.ready.closed shut).first };
-      read = it.ready.read;
-    };
+    ready = rested_ready old.book touched a it.ready;
     disk = it.disk;
     limits = it.limits;
     writes = it.writes;
@@ -148,7 +139,7 @@ module _ (old : Engine) (touched : Accesses) where
     goes = it.goes;
   }
 
-  one_cause : (a : Standing) (new : Engine) (b : Standing) (why : Stop) → IsCause (IsDamage rested a b new.work.page) (shown rested a) (shown new b) why → IsCause (IsDamage old a b new.work.page) (shown old a) (shown new b) why
+  one_cause : (a : Standing) (new : Engine) (b : Standing) (why : Stop) → IsCause (IsDamage rested a new b (evidence_bytes new)) (shown rested a) (shown new b) why → IsCause (IsDamage old a new b (evidence_bytes new)) (shown old a) (shown new b) why
   one_cause a new b Nvm h = h
   one_cause a new b Ssd h = h
   one_cause a new b (Damaged e) h = h
@@ -156,6 +147,15 @@ module _ (old : Engine) (touched : Accesses) where
   cause_rested : {T : Type 0} (a : Standing) (new : Engine) (b : Standing) (r : Result T Stop) → Stops rested a new b r → Stops old a new b r
   cause_rested a new b (Ok v) it = record { failed = tt; kept = it.kept }
   cause_rested a new b (Err why) it = record { failed = one_cause a new b why it.failed; kept = tt }
+
+  one_undoing : (a : Standing) (new : Engine) (b : Standing) (why : Stop) → IsCause (IsUndoDamage rested a) (shown rested a) (shown new b) why → IsCause (IsUndoDamage old a) (shown old a) (shown new b) why
+  one_undoing a new b Nvm h = h
+  one_undoing a new b Ssd h = h
+  one_undoing a new b (Damaged e) h = h
+
+  undoing_rested : {T : Type 0} (a : Standing) (new : Engine) (b : Standing) (r : Result T Stop) → StopsUndoing rested a new b r → StopsUndoing old a new b r
+  undoing_rested a new b (Ok v) it = record { failed = tt; kept = it.kept }
+  undoing_rested a new b (Err why) it = record { failed = one_undoing a new b why it.failed; kept = tt }
 
 -- whatever the book is behind it
 module _ (old : Engine) (book : Book) (same : book ≡ record old.book { accesses = book.accesses }) where
@@ -165,8 +165,8 @@ module _ (old : Engine) (book : Book) (same : book ≡ record old.book { accesse
   pub does_after_rest : {T : Type 0} (after : State → State) (a : Standing) (new : Engine) (b : Standing) (r : Result T Stop) → Does after (record old { book = book }) a new b r → Does after old a new b r
   does_after_rest after a new b r it = does_rested old book.accesses after a new b r (subst (λ (x : Book). Does after (record old { book = x }) a new b r) same it)
 
-  pub cause_after_rest : {T : Type 0} (a : Standing) (new : Engine) (b : Standing) (r : Result T Stop) → Stops (record old { book = book }) a new b r → Stops old a new b r
-  cause_after_rest a new b r it = cause_rested old book.accesses a new b r (subst (λ (x : Book). Stops (record old { book = x }) a new b r) same it)
+  pub undoing_after_rest : {T : Type 0} (a : Standing) (new : Engine) (b : Standing) (r : Result T Stop) → StopsUndoing (record old { book = book }) a new b r → StopsUndoing old a new b r
+  undoing_after_rest a new b r it = undoing_rested old book.accesses a new b r (subst (λ (x : Book). StopsUndoing (record old { book = x }) a new b r) same it)
 
   pub shows_after_rest : (a : Standing) (s : State) → Shows old a s → Shows (record old { book = book }) a s
   shows_after_rest a s it = subst (λ (x : Book). Shows (record old { book = x }) a s) (sym same) (shows_rested old book.accesses a s it)
@@ -239,13 +239,13 @@ module _ (line : List ℕ) (old : Engine) (a : Standing) (stands : StandsFor old
 
 -- ---- the end of a run
 
-pub closed_still : (old : Engine) (a : Standing) → StandsFor old a → old.book.is_open ≡ false → Does {T = Unit {0}} closed old a old a (Ok tt)
+pub closed_still : (old : Engine) (a : Standing) → StandsFor old a → has_open old ≡ false → Does {T = Unit {0}} closed old a old a (Ok tt)
 closed_still old a stands shut = does_still closed old a tt stands (λ told s shows. same s (none_open old.book s.transaction shows.transaction shut))
   where
     same : (s : State) → s.transaction ≡ None → s ≡ closed s
     same s none = ap (λ (t : Option Open). record s { transaction = t }) none
 
-pub closed_aborted : (old : Engine) (a : Standing) (new : Engine) (b : Standing) {T : Type 0} (r : Result T Stop) → old.book.is_open ≡ true → Does (after_command old (Some command.Abort)) old a new b r → Does closed old a new b r
+pub closed_aborted : (old : Engine) (a : Standing) (new : Engine) (b : Standing) {T : Type 0} (r : Result T Stop) → has_open old ≡ true → Does (after_command old (Some command.Abort)) old a new b r → Does closed old a new b r
 closed_aborted old a new b r open_now it =
     does_same (after_command old (Some command.Abort)) closed old a new b r it
     (λ told s shows. let t = some_open old.book s.transaction shows.transaction open_now in ap (λ x. x.0) (step_abort (bounds_in (engine_sizes old)) s t.0 t.1))

@@ -2,10 +2,10 @@
 use Rattle.std.proofs.Common.{◌≡◌, ℕ, ◌+◌, ◌<◌, ◌≤◌, Bool, true, false, not, List, [], ◌∷◌, ◌++◌, map, zero-add, length, refl, sym, ap, ◌∙◌, arith, inl, inr, Some, None, Option, is_some, cond}
 use Rattle.std.specs.Prelude.{◌&&◌, ◌||◌, nat_le, nat_lt, bytes_eq, unwrap_or}
 use Rattle.std.proofs.lemmas.Bool.{cases_Bool, cases_lt, le-leb, lt-leb, lt-ltb, le-ltb}
-use Rattle.slotted_page.specs.Rows.{Row, row_get, row_put, row_delete}
-use Rattle.table_catalog.specs.declared.limits.Limits.{Limits}
-use Rattle.table_catalog.specs.Catalog.{Table}
-use Rattle.table_catalog.specs.Stored.{rows_of, is_known, with_rows}
+use Rattle.rows.specs.Rows.{Row, row_get, row_put, row_delete}
+use Rattle.rows.specs.declared.limits.Limits.{Limits}
+use Rattle.rows.specs.Tables.{Table}
+use Rattle.rows.specs.Tables.{rows_of, is_known, with_rows}
 use Rattle.table_store.specs.Getting.{got_of, found_value}
 use Rattle.table_store.specs.Putting.{stored_of}
 use Rattle.table_store.specs.Deleting.{deleted_of}

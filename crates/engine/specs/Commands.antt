@@ -4,7 +4,7 @@ use Rattle.devices.specs.World.{Standing as Device}
 use Rattle.line_pages.specs.Standing.{Standing}
 use Rattle.table_store.specs.declared.answer.Got.{Got}
 use Rattle.table_store.specs.declared.answer.Got.TheVariants as got
-use Rattle.transactions.specs.StoreStanding.{Apart, standing_of}
+use Rattle.flat_transactions.specs.StoreStanding.{Apart, standing_of}
 use Rattle.script.specs.declared.command.Reason.{Reason}
 use Rattle.script.specs.declared.command.Reason.TheVariants as reason
 use Rattle.script.specs.declared.command.Reply.{Reply}

@@ -2,13 +2,10 @@
 use Rattle.std.specs.Prelude.{◌≡◌, ◌⊎◌, ℕ, List}
 use Rattle.devices.specs.State.{State, Image, Leaves, current, fresh}
 use Rattle.line_pages.specs.Lines.{Lines}
-use Rattle.store_meaning.specs.Layout.{Sizes, pages}
-use Rattle.store_meaning.specs.Format.Format.{whole_lines}
-use Rattle.store_meaning.specs.Recovered.{super_of, recovered_pages}
-use Rattle.store_meaning.specs.InOrder.{Stands}
-use Rattle.store_laws.specs.Steps.{IsStoreOf}
-use Rattle.table_catalog.specs.declared.limits.Limits.{Limits}
-use Rattle.table_catalog.specs.Catalog.{Table, tables}
+use Rattle.flat_transactions.specs.Order.{Sizes, pages, recovered_lines, IsOrdered, IsStoreOf}
+use Rattle.rows.specs.declared.limits.Limits.{Limits}
+use Rattle.table_catalog.specs.Catalog.{tables}
+use Rattle.rows.specs.Tables.{Table}
 use Rattle.table_catalog.specs.Stored.{IsStore}
 use Rattle.script.specs.Machine.{Bounds}
 
@@ -40,9 +37,8 @@ Holds g T s = RecoversTo g T (current s)
 -- The devices are in order with these tables: they hold a store of these sizes, and whatever a crash leaves of it recovers
 -- to the tables.
 pub record InOrder (g : Sizes) (T : List Table) (lines blocks : ℕ) (s : State) : Type 0 where
-  pub stands : Stands whole_lines lines blocks s
-  pub sizes : (super_of (current s)).sizes ≡ g
-  pub recovers : (i : Image) → Leaves s i → HoldsTables g (recovered_pages whole_lines i) T
+  pub order : IsOrdered g lines blocks s
+  pub recovers : (i : Image) → Leaves s i → HoldsTables g (recovered_lines i) T
 
 -- each image that a crash leaves is in order with the first tables or with the second
 abbrev pub HasEither : Sizes → List Table → List Table → ℕ → ℕ → State → Type 0

@@ -1,15 +1,14 @@
 -- What the opening of an engine answers.
 use Rattle.std.specs.Prelude.{◌≡◌, ◌<◌, ◌≤◌, List, Result, Ok, Err, IfOk}
 use Rattle.devices.specs.World.{Standing, Moments}
-use Rattle.store_meaning.specs.Layout.{Sizes}
-use Rattle.nvm_layout.specs.Sizes.{sizes_of}
-use Rattle.table_catalog.specs.Catalog.{Table}
-use Rattle.transactions.specs.BookCalls.{IsNew}
-use Rattle.recovery.specs.Opening.{Answers, FindsInLog, IsComplete, ChangesNothing}
-use Rattle.recovery.specs.Causes.{OpenCause}
-use Rattle.recovery.specs.declared.opening.Parts.{Parts}
-use Rattle.recovery.specs.declared.errors.OpenError.{OpenError}
-use Rattle.recovery.specs.declared.errors.OpenError.TheVariants.{TooSmall}
+use Rattle.rows.specs.Tables.{Table}
+use Rattle.flat_transactions.specs.BookCalls.{IsNew}
+use Rattle.flat_transactions.specs.Order.{Sizes}
+use Rattle.flat_recovery.specs.Opening.{Answers, FindsInLog, IsComplete, ChangesNothing, parts_sizes}
+use Rattle.flat_recovery.specs.Causes.{OpenCause}
+use Rattle.flat_recovery.specs.declared.opening.Parts.{Parts}
+use Rattle.flat_recovery.specs.declared.errors.OpenError.{OpenError}
+use Rattle.flat_recovery.specs.declared.errors.OpenError.TheVariants.{TooSmall}
 use Rattle.script.specs.Machine.{opening}
 use Rattle.engine.specs.declared.engine.Engine.{Engine}
 use Rattle.engine.specs.Holds.{HasOnly}
@@ -17,7 +16,7 @@ use Rattle.engine.specs.Engine.{engine_sizes, IsSteadyFor, Shows}
 
 -- The answer is that of a recovery: an engine of the sizes that it found, or its refusal.
 abbrev pub Follows : Result Parts OpenError → Result Engine OpenError → Type 0
-Follows (Ok parts) (Ok engine) = engine_sizes engine ≡ sizes_of parts.geometry
+Follows (Ok parts) (Ok engine) = engine_sizes engine ≡ parts_sizes parts
 Follows (Ok parts) (Err why) = ⊥
 Follows (Err found) (Ok engine) = ⊥
 Follows (Err found) (Err why) = why ≡ found

@@ -1,26 +1,26 @@
 -- What a refused command leaves.
 use Rattle.std.specs.Prelude.{◌≡◌, IsTrue}
-use Rattle.devices.specs.World.{Standing, now}
-use Rattle.store_laws.specs.ShownPages.{pages_in, committed_in}
+use Rattle.devices.specs.World.{Standing}
+use Rattle.flat_transactions.specs.OpenStore.{account, committed_lines}
 use Rattle.script.specs.declared.command.Reply.{Reply}
 use Rattle.script.specs.declared.command.Reply.TheVariants.{Fine, Found, Absent, Row, Finish, Committed, Aborted, Refused}
 use Rattle.engine.specs.declared.engine.Engine.{Engine}
 use Rattle.engine.specs.declared.scan.Step.{Step}
 use Rattle.engine.specs.declared.scan.Step.TheVariants.{Silent, Said, Scanning}
-use Rattle.engine.specs.Engine.{engine_sizes}
+use Rattle.engine.specs.Engine.{engine_lines, has_open, writes_done, log_end}
 
 -- Neither the transaction nor the tables changed: it is open or not as it was, has had as many writes and may write as many lines;
 -- no commit was counted, and the log is as long as it was. On devices that are told the current and the committed lines are as they
 -- were, whatever they hold.
 pub record Stays (old : Engine) (a : Standing) (new : Engine) (b : Standing) : Type 0 where
-  pub is_open : new.book.is_open ≡ old.book.is_open
-  pub accepted : new.book.accepted ≡ old.book.accepted
-  pub room : new.book.room ≡ old.book.room
+  pub is_open : has_open new ≡ has_open old
+  pub accepted : writes_done new ≡ writes_done old
+  pub room : (account new.book).room ≡ (account old.book).room
   pub commits : new.commits ≡ old.commits
-  pub start : new.book.log.start ≡ old.book.log.start
-  pub tail : new.book.log.tail ≡ old.book.log.tail
-  pub current : IsTrue a.told → pages_in (engine_sizes new) (now b) ≡ pages_in (engine_sizes old) (now a)
-  pub committed : IsTrue a.told → committed_in (now b) ≡ committed_in (now a)
+  pub start : (account new.book).start ≡ (account old.book).start
+  pub tail : log_end new ≡ log_end old
+  pub current : IsTrue a.told → engine_lines new b ≡ engine_lines old a
+  pub committed : IsTrue a.told → committed_lines b ≡ committed_lines a
 
 -- if the reply is a refusal, nothing changed
 abbrev pub StaysIfRefused : Engine → Standing → Engine → Standing → Reply → Type 0

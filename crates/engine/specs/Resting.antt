@@ -1,18 +1,18 @@
 -- What commands that write nothing leave, and the page that they show where they stop for damage.
 use Rattle.std.specs.Prelude.{◌≡◌, ℕ, Bool, true, false, List, Option, None, Some, IsTrue, Result, OnOk, IfErr}
 use Rattle.std.specs.List.{list_all}
-use Rattle.devices.specs.World.{Standing, now}
-use Rattle.line_pages.specs.declared.stop.Evidence.{Evidence}
-use Rattle.line_pages.specs.declared.stop.Evidence.TheVariants.{Super, Frames, Log, Page, Walk}
+use Rattle.devices.specs.World.{Standing}
+use Rattle.damage.specs.declared.evidence.Evidence.{Evidence}
+use Rattle.damage.specs.declared.evidence.Evidence.TheVariants.{Super, Frames, Log, Page, Walk}
 use Rattle.line_pages.specs.declared.stop.Stop.{Stop}
 use Rattle.line_pages.specs.Bytes.{bytes_of}
 use Rattle.line_pages.specs.Lines.{Lines}
-use Rattle.slotted_page.specs.Search.{Keeps}
-use Rattle.store_laws.specs.ShownPages.{pages_in, committed_in}
+use Rattle.page_format.specs.Search.{Keeps}
+use Rattle.flat_transactions.specs.OpenStore.{committed_lines}
 use Rattle.script.specs.declared.command.Command.{Command}
 use Rattle.script.specs.declared.command.Command.TheVariants as command
 use Rattle.engine.specs.declared.engine.Engine.{Engine}
-use Rattle.engine.specs.Engine.{engine_sizes}
+use Rattle.engine.specs.Engine.{engine_lines, evidence_bytes}
 
 -- a command that makes no table and changes no row, or a line of no form
 abbrev pub is_read : Option Command → Bool
@@ -34,8 +34,8 @@ AreReads commands = IsTrue (list_all is_read commands)
 
 -- the current and the committed lines of an engine's store are both these
 pub record Rests (lines : Lines) (engine : Engine) (d : Standing) : Type 0 where
-  pub current : pages_in (engine_sizes engine) (now d) ≡ lines
-  pub committed : committed_in (now d) ≡ lines
+  pub current : engine_lines engine d ≡ lines
+  pub committed : committed_lines d ≡ lines
 
 -- if the evidence is of a page, the buffer has its bytes as it is among these lines
 abbrev pub IsPageOf : Lines → List ℕ → Evidence → Type 0
@@ -49,4 +49,4 @@ IsPageOf lines buffer (Walk page kept found check) = Unit {0}
 -- the evidence is one of theirs.
 pub record Reads {T : Type 0} (old : Engine) (a : Standing) (new : Engine) (b : Standing) (result : Result T Stop) : Type 0 where
   pub stays : IsTrue a.told → (lines : Lines) → Rests lines old a → OnOk result (Rests lines new b)
-  pub shows : IsTrue a.told → (lines : Lines) → Rests lines old a → IfErr result (Keeps (IsPageOf lines new.work.page))
+  pub shows : IsTrue a.told → (lines : Lines) → Rests lines old a → IfErr result (Keeps (IsPageOf lines (evidence_bytes new)))

@@ -1,10 +1,9 @@
 -- What a step of an engine answers, and what it leaves.
 use Rattle.std.specs.Prelude.{◌≡◌, ℕ, ◌+◌, ◌-◌, ◌≤◌, nat_le, false, List, [], ◌∷◌, ◌++◌, length, map, Option, if◌then◌else◌, IsTrue, Result, IfOk, IfErr, OnOk}
 use Rattle.devices.specs.World.{Standing, Goes, Moments}
-use Rattle.slotted_page.specs.Rows.{Row}
-use Rattle.table_catalog.specs.Catalog.{Table}
+use Rattle.rows.specs.Rows.{Row}
+use Rattle.rows.specs.Tables.{Table}
 use Rattle.line_pages.specs.declared.stop.Stop.{Stop}
-use Rattle.transactions.specs.StoreStanding.{reach}
 use Rattle.script.specs.Tables.{row_range, rows_or_none}
 use Rattle.script.specs.Machine.{State}
 use Rattle.script.specs.Script.{machine}
@@ -17,7 +16,7 @@ use Rattle.engine.specs.declared.scan.Scan.{Scan}
 use Rattle.engine.specs.declared.scan.Step.{Step}
 use Rattle.engine.specs.declared.scan.Step.TheVariants.{Silent, Said, Scanning}
 use Rattle.engine.specs.Holds.{bounds_in, HasEither}
-use Rattle.engine.specs.Engine.{engine_sizes, StandsFor, IsSteadyFor, Shows, IsFault}
+use Rattle.engine.specs.Engine.{engine_sizes, engine_reach, StandsFor, IsSteadyFor, Shows, IsFault}
 
 -- the rows that a scan has still to give, and its end
 abbrev pub rows_left : Scan → List Row → List Row
@@ -57,7 +56,7 @@ pub record Does {T : Type 0} (after : State → State) (old : Engine) (a : Stand
   pub ready : OnOk result (StandsFor new b)
   pub sizes : engine_sizes new ≡ engine_sizes old
   -- how far the log may come with the lines that may still be written
-  pub reach_rises : OnOk result (reach new.book ≤ reach old.book + 1921)
+  pub reach_rises : OnOk result (engine_reach new ≤ engine_reach old + 1921)
   pub goes : Goes a b
 
 -- the state after a command, and after a line

@@ -1,14 +1,14 @@
 //! What commands on tables do.
 ghost use Rattle.std.specs.Prelude.{◌≡◌, ◌<◌, ◌≤◌, true, Some, IsTrue, IfOk, OnOk};
 ghost use Rattle.line_pages.specs.Standing.{HasCause};
-ghost use Rattle.table_catalog.specs.Stored.{is_known};
+ghost use Rattle.rows.specs.Tables.{is_known};
 ghost use Rattle.script.specs.Machine.{State, current as seen_tables};
 ghost use Rattle.script.specs.Script.{machine};
 ghost use Rattle.script.specs.declared.command.Command.TheVariants.{Create, Put, Del, Get, Scan as ScanRows};
 ghost use Rattle.engine.specs.Commands.{shown, reply_of, reason_of};
 ghost use Rattle.engine.specs.Causes.{IsNameDamage, IsRowDamage, IsNewTableDamage, IsNewRowsDamage};
 ghost use Rattle.engine.specs.Holds.{bounds_in};
-ghost use Rattle.engine.specs.Engine.{engine_sizes, StandsFor, Shows};
+ghost use Rattle.engine.specs.Engine.{engine_sizes, has_open, writes_done, most_writes, evidence_bytes, StandsFor, Shows};
 ghost use Rattle.engine.specs.Steps.{Does, Replies, after_command, step_replies, IsBegun};
 ghost use Rattle.engine.specs.Resting.{Reads};
 ghost use Rattle.engine.specs.Refused.{Stays, StaysIfRefused, LineStaysIfRefused};
@@ -16,11 +16,11 @@ ghost use Rattle.engine.specs.Refused.{Stays, StaysIfRefused, LineStaysIfRefused
 use crate::engine::Engine;
 use crate::scan::{Scan, Step};
 use devices::{Devices, World};
+use flat_transactions::Store;
 use line_pages::Stop;
+use rows::Value;
 use script::{Reason, Reply};
-use slotted_page::Value;
 use table_store::{Created, Deleted, Got, Name, Stored, has_table};
-use transactions::Store;
 
 /// The reply to a look-up.
 fn reply_to(got: Got) -> Reply
@@ -50,7 +50,7 @@ impl Engine {
         ensures does { Does (λ s. s) self.old (W.Devices.standing world.old) self.new (W.Devices.standing world.new) result }
         ensures known { IsTrue (W.Devices.standing world.old).told → (s : State) → Shows self.old (W.Devices.standing world.old) s → IfOk result (λ known. known ≡ is_known name.now (seen_tables s)) }
         ensures stays { OnOk result (Stays self.old (W.Devices.standing world.old) self.new (W.Devices.standing world.new)) }
-        ensures cause { HasCause (IsNameDamage self.old (W.Devices.standing world.old) self.new.work.page) (shown self.old (W.Devices.standing world.old)) (shown self.new (W.Devices.standing world.new)) result }
+        ensures cause { HasCause (IsNameDamage self.old (W.Devices.standing world.old) (evidence_bytes self.new)) (shown self.old (W.Devices.standing world.old)) (shown self.new (W.Devices.standing world.new)) result }
         ensures reads { Reads self.old (W.Devices.standing world.old) self.new (W.Devices.standing world.new) result }
     {
         let mut store = Store::over(&mut self.book, world);
@@ -69,7 +69,7 @@ impl Engine {
         ensures does { Does (λ s. s) self.old (W.Devices.standing world.old) self.new (W.Devices.standing world.new) result }
         ensures refused { IsTrue (W.Devices.standing world.old).told → (s : State) → Shows self.old (W.Devices.standing world.old) s → IfOk result (λ reply. reply ≡ Reply.Refused (reason_of (is_known name.now (seen_tables s)) creates)) }
         ensures stays { OnOk result (Stays self.old (W.Devices.standing world.old) self.new (W.Devices.standing world.new)) }
-        ensures cause { HasCause (IsNameDamage self.old (W.Devices.standing world.old) self.new.work.page) (shown self.old (W.Devices.standing world.old)) (shown self.new (W.Devices.standing world.new)) result }
+        ensures cause { HasCause (IsNameDamage self.old (W.Devices.standing world.old) (evidence_bytes self.new)) (shown self.old (W.Devices.standing world.old)) (shown self.new (W.Devices.standing world.new)) result }
     {
         let known = self.knows(world, name)?;
         Ok(Reply::Refused(spent_reason(known, creates)))
@@ -86,7 +86,7 @@ impl Engine {
         ensures does { Does (after_command self.old (Some (Get name.now key))) self.old (W.Devices.standing world.old) self.new (W.Devices.standing world.new) result }
         ensures replies { Replies self.old (W.Devices.standing world.old) (Some (Get name.now key)) result }
         ensures refused { IfOk result (StaysIfRefused self.old (W.Devices.standing world.old) self.new (W.Devices.standing world.new)) }
-        ensures cause { HasCause (IsRowDamage self.old (W.Devices.standing world.old) self.new.work.page) (shown self.old (W.Devices.standing world.old)) (shown self.new (W.Devices.standing world.new)) result }
+        ensures cause { HasCause (IsRowDamage self.old (W.Devices.standing world.old) (evidence_bytes self.new)) (shown self.old (W.Devices.standing world.old)) (shown self.new (W.Devices.standing world.new)) result }
         ensures reads { Reads self.old (W.Devices.standing world.old) self.new (W.Devices.standing world.new) result }
     {
         let mut store = Store::over(&mut self.book, world);
@@ -107,7 +107,7 @@ impl Engine {
         ensures replies { IsTrue (W.Devices.standing world.old).told → (s : State) → Shows self.old (W.Devices.standing world.old) s → IfOk result (λ step. ((machine (bounds_in (engine_sizes self.old))).step s (Some (ScanRows name from to))).1 ≡ step_replies step (seen_tables s)) }
         ensures begun { IfOk result IsBegun }
         ensures refused { IfOk result (LineStaysIfRefused self.old (W.Devices.standing world.old) self.new (W.Devices.standing world.new)) }
-        ensures cause { HasCause (IsNameDamage self.old (W.Devices.standing world.old) self.new.work.page) (shown self.old (W.Devices.standing world.old)) (shown self.new (W.Devices.standing world.new)) result }
+        ensures cause { HasCause (IsNameDamage self.old (W.Devices.standing world.old) (evidence_bytes self.new)) (shown self.old (W.Devices.standing world.old)) (shown self.new (W.Devices.standing world.new)) result }
         ensures reads { Reads self.old (W.Devices.standing world.old) self.new (W.Devices.standing world.new) result }
     {
         if !self.knows(world, &name)? {
@@ -125,11 +125,11 @@ impl Engine {
     /// `create`: a table without rows, in an open transaction.
     pub(crate) fn create<W: World>(&mut self, world: &mut W, name: &Name) -> Result<Reply, Stop>
         requires stands { StandsFor self.old (W.Devices.standing world.old) }
-        requires is_open { self.old.book.is_open ≡ true }
+        requires is_open { has_open self.old ≡ true }
         ensures does { Does (after_command self.old (Some (Create name.now))) self.old (W.Devices.standing world.old) self.new (W.Devices.standing world.new) result }
         ensures replies { Replies self.old (W.Devices.standing world.old) (Some (Create name.now)) result }
         ensures refused { IfOk result (StaysIfRefused self.old (W.Devices.standing world.old) self.new (W.Devices.standing world.new)) }
-        ensures cause { HasCause (IsNewTableDamage self.old (W.Devices.standing world.old) self.new.work.page) (shown self.old (W.Devices.standing world.old)) (shown self.new (W.Devices.standing world.new)) result }
+        ensures cause { HasCause (IsNewTableDamage self.old (W.Devices.standing world.old) (evidence_bytes self.new)) (shown self.old (W.Devices.standing world.old)) (shown self.new (W.Devices.standing world.new)) result }
     {
         if self.book.accepted() >= self.writes {
             return self.refuse_write(world, name, true);
@@ -140,12 +140,12 @@ impl Engine {
     /// The same where the transaction may have one more write.
     fn create_table<W: World>(&mut self, world: &mut W, name: &Name) -> Result<Reply, Stop>
         requires stands { StandsFor self.old (W.Devices.standing world.old) }
-        requires is_open { self.old.book.is_open ≡ true }
-        requires more { self.old.book.accepted < self.old.writes }
+        requires is_open { has_open self.old ≡ true }
+        requires more { writes_done self.old < most_writes self.old }
         ensures does { Does (after_command self.old (Some (Create name.now))) self.old (W.Devices.standing world.old) self.new (W.Devices.standing world.new) result }
         ensures replies { Replies self.old (W.Devices.standing world.old) (Some (Create name.now)) result }
         ensures refused { IfOk result (StaysIfRefused self.old (W.Devices.standing world.old) self.new (W.Devices.standing world.new)) }
-        ensures cause { HasCause (IsNewTableDamage self.old (W.Devices.standing world.old) self.new.work.page) (shown self.old (W.Devices.standing world.old)) (shown self.new (W.Devices.standing world.new)) result }
+        ensures cause { HasCause (IsNewTableDamage self.old (W.Devices.standing world.old) (evidence_bytes self.new)) (shown self.old (W.Devices.standing world.old)) (shown self.new (W.Devices.standing world.new)) result }
     {
         let mut store = Store::over(&mut self.book, world);
         match table_store::create(&mut store, &self.limits, name, &mut self.work)? {
@@ -167,11 +167,11 @@ impl Engine {
         value: &Value,
     ) -> Result<Reply, Stop>
         requires stands { StandsFor self.old (W.Devices.standing world.old) }
-        requires is_open { self.old.book.is_open ≡ true }
+        requires is_open { has_open self.old ≡ true }
         ensures does { Does (after_command self.old (Some (Put name.now key value.now))) self.old (W.Devices.standing world.old) self.new (W.Devices.standing world.new) result }
         ensures replies { Replies self.old (W.Devices.standing world.old) (Some (Put name.now key value.now)) result }
         ensures refused { IfOk result (StaysIfRefused self.old (W.Devices.standing world.old) self.new (W.Devices.standing world.new)) }
-        ensures cause { HasCause (IsNewRowsDamage self.old (W.Devices.standing world.old) (W.Devices.standing world.new) self.new.work.page) (shown self.old (W.Devices.standing world.old)) (shown self.new (W.Devices.standing world.new)) result }
+        ensures cause { HasCause (IsNewRowsDamage self.old (W.Devices.standing world.old) self.new (W.Devices.standing world.new) (evidence_bytes self.new)) (shown self.old (W.Devices.standing world.old)) (shown self.new (W.Devices.standing world.new)) result }
     {
         if self.book.accepted() >= self.writes {
             return self.refuse_write(world, name, false);
@@ -188,12 +188,12 @@ impl Engine {
         value: &Value,
     ) -> Result<Reply, Stop>
         requires stands { StandsFor self.old (W.Devices.standing world.old) }
-        requires is_open { self.old.book.is_open ≡ true }
-        requires more { self.old.book.accepted < self.old.writes }
+        requires is_open { has_open self.old ≡ true }
+        requires more { writes_done self.old < most_writes self.old }
         ensures does { Does (after_command self.old (Some (Put name.now key value.now))) self.old (W.Devices.standing world.old) self.new (W.Devices.standing world.new) result }
         ensures replies { Replies self.old (W.Devices.standing world.old) (Some (Put name.now key value.now)) result }
         ensures refused { IfOk result (StaysIfRefused self.old (W.Devices.standing world.old) self.new (W.Devices.standing world.new)) }
-        ensures cause { HasCause (IsNewRowsDamage self.old (W.Devices.standing world.old) (W.Devices.standing world.new) self.new.work.page) (shown self.old (W.Devices.standing world.old)) (shown self.new (W.Devices.standing world.new)) result }
+        ensures cause { HasCause (IsNewRowsDamage self.old (W.Devices.standing world.old) self.new (W.Devices.standing world.new) (evidence_bytes self.new)) (shown self.old (W.Devices.standing world.old)) (shown self.new (W.Devices.standing world.new)) result }
     {
         let mut store = Store::over(&mut self.book, world);
         match table_store::put(&mut store, &self.limits, name, key, value, &mut self.work)? {
@@ -214,11 +214,11 @@ impl Engine {
         key: u64,
     ) -> Result<Reply, Stop>
         requires stands { StandsFor self.old (W.Devices.standing world.old) }
-        requires is_open { self.old.book.is_open ≡ true }
+        requires is_open { has_open self.old ≡ true }
         ensures does { Does (after_command self.old (Some (Del name.now key))) self.old (W.Devices.standing world.old) self.new (W.Devices.standing world.new) result }
         ensures replies { Replies self.old (W.Devices.standing world.old) (Some (Del name.now key)) result }
         ensures refused { IfOk result (StaysIfRefused self.old (W.Devices.standing world.old) self.new (W.Devices.standing world.new)) }
-        ensures cause { HasCause (IsNewRowsDamage self.old (W.Devices.standing world.old) (W.Devices.standing world.new) self.new.work.page) (shown self.old (W.Devices.standing world.old)) (shown self.new (W.Devices.standing world.new)) result }
+        ensures cause { HasCause (IsNewRowsDamage self.old (W.Devices.standing world.old) self.new (W.Devices.standing world.new) (evidence_bytes self.new)) (shown self.old (W.Devices.standing world.old)) (shown self.new (W.Devices.standing world.new)) result }
     {
         if self.book.accepted() >= self.writes {
             return self.refuse_write(world, name, false);
@@ -229,12 +229,12 @@ impl Engine {
     /// The same where the transaction may have one more write.
     fn del_row<W: World>(&mut self, world: &mut W, name: &Name, key: u64) -> Result<Reply, Stop>
         requires stands { StandsFor self.old (W.Devices.standing world.old) }
-        requires is_open { self.old.book.is_open ≡ true }
-        requires more { self.old.book.accepted < self.old.writes }
+        requires is_open { has_open self.old ≡ true }
+        requires more { writes_done self.old < most_writes self.old }
         ensures does { Does (after_command self.old (Some (Del name.now key))) self.old (W.Devices.standing world.old) self.new (W.Devices.standing world.new) result }
         ensures replies { Replies self.old (W.Devices.standing world.old) (Some (Del name.now key)) result }
         ensures refused { IfOk result (StaysIfRefused self.old (W.Devices.standing world.old) self.new (W.Devices.standing world.new)) }
-        ensures cause { HasCause (IsNewRowsDamage self.old (W.Devices.standing world.old) (W.Devices.standing world.new) self.new.work.page) (shown self.old (W.Devices.standing world.old)) (shown self.new (W.Devices.standing world.new)) result }
+        ensures cause { HasCause (IsNewRowsDamage self.old (W.Devices.standing world.old) self.new (W.Devices.standing world.new) (evidence_bytes self.new)) (shown self.old (W.Devices.standing world.old)) (shown self.new (W.Devices.standing world.new)) result }
     {
         let mut store = Store::over(&mut self.book, world);
         match table_store::delete(&mut store, &self.limits, name, key, &mut self.work)? {

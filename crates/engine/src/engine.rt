@@ -1,7 +1,7 @@
 //! An opened store of tables, and what a line of a script does to it.
-use slotted_page::Work;
+use flat_transactions::Book;
+use page_format::Work;
 use table_store::Limits;
-use transactions::Book;
 
 /// A store that stands open: its book, its limits, and how many commits of it were done.
 #[derive(Drop)]

@@ -11,5 +11,5 @@ mod storing;
 mod transaction;
 
 pub use engine::Engine;
-pub use recovery::OpenError;
+pub use flat_recovery::OpenError;
 pub use scan::{Scan, Step};

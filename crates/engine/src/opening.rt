@@ -1,26 +1,23 @@
 //! The opening of an engine: what a crash left is recovered.
 ghost use Rattle.std.specs.Prelude.{◌≡◌, ◌^◌, ◌≤◌, List, IsTrue, IfOk};
 ghost use Rattle.devices.specs.World.{Standing, Goes, now};
-ghost use Rattle.store_meaning.specs.Layout.{Sizes};
-ghost use Rattle.table_catalog.specs.Catalog.{Table};
-ghost use Rattle.transactions.specs.BookCalls.{IsNew};
-ghost use Rattle.transactions.specs.StoreStanding.{reach};
+ghost use Rattle.rows.specs.Tables.{Table};
+ghost use Rattle.flat_transactions.specs.OpenStore.{committed_lines};
+ghost use Rattle.flat_transactions.specs.Order.{Sizes};
 
 use crate::engine::Engine;
 use devices::{Devices, World};
-use recovery::{OpenError, Parts, recover};
-use slotted_page::Work;
+use flat_recovery::{OpenError, Parts, recover};
+use flat_transactions::Book;
+use page_format::Work;
 use std::alloc::Global;
 use table_store::Limits;
-use transactions::Book;
 
 impl Engine {
-    ghost use Rattle.engine.specs.Holds.{Holds, InOrder, AreLimits};
-    ghost use Rattle.nvm_layout.specs.Sizes.{sizes_of};
-    ghost use Rattle.engine.specs.Engine.{StandsFor, IsSteadyFor};
+    ghost use Rattle.engine.specs.Holds.{Holds, InOrder};
+    ghost use Rattle.engine.specs.Engine.{StandsFor, IsSteadyFor, engine_reach};
     ghost use Rattle.engine.specs.Opening.{Opens, ShowsHeld, KeepsOrder, IsOver};
     ghost use Rattle.engine.specs.Resting.{Rests};
-    ghost use Rattle.store_laws.specs.ShownPages.{committed_in};
 
     /// Opens the store that the devices hold, which is recovered first. All memory of the engine is taken here.
     ///
@@ -33,8 +30,8 @@ impl Engine {
         // What the engine stands for.
         ensures stands { IfOk result (λ engine. StandsFor engine (W.Devices.standing world.new)) }
         ensures steady { IfOk result (λ engine. IsSteadyFor engine (W.Devices.standing world.new)) }
-        ensures low { IfOk result (λ engine. reach engine.book ≤ 2 ^ 61) }
-        ensures rests { IsTrue (W.Devices.standing world.old).told → IfOk result (λ engine. Rests (committed_in (now (W.Devices.standing world.old))) engine (W.Devices.standing world.new)) }
+        ensures low { IfOk result (λ engine. engine_reach engine ≤ 2 ^ 61) }
+        ensures rests { IsTrue (W.Devices.standing world.old).told → IfOk result (λ engine. Rests (committed_lines (W.Devices.standing world.old)) engine (W.Devices.standing world.new)) }
         ensures shows { IsTrue (W.Devices.standing world.old).told → (g : Sizes) (T : List Table) → Holds g T (now (W.Devices.standing world.old)) → IfOk result (ShowsHeld g T (W.Devices.standing world.new)) }
 
         // What stays, whatever is answered, at each moment.

@@ -1,14 +1,13 @@
 //! The rows of a scan, one by one.
 ghost use Rattle.std.specs.Prelude.{◌≡◌, ◌∷◌, ◌<◌, ◌≤◌, false, IsTrue, IfOk, OnOk, OnErr};
 ghost use Rattle.line_pages.specs.Standing.{HasCause, last_count};
-ghost use Rattle.table_catalog.specs.Stored.{rows_of};
+ghost use Rattle.rows.specs.Tables.{rows_of};
 ghost use Rattle.table_store.specs.Scanning.{next_of};
-ghost use Rattle.transactions.specs.StoreStanding.{reach};
 ghost use Rattle.script.specs.Tables.{rows_or_none};
 ghost use Rattle.script.specs.Machine.{State, current as seen_tables};
 ghost use Rattle.engine.specs.Commands.{shown};
 ghost use Rattle.engine.specs.Causes.{IsRowDamage};
-ghost use Rattle.engine.specs.Engine.{StandsFor, Shows};
+ghost use Rattle.engine.specs.Engine.{engine_reach, evidence_bytes, StandsFor, Shows};
 ghost use Rattle.engine.specs.Scanning.{behind, ended, reply_by, scan_by, Gives};
 ghost use Rattle.engine.specs.Steps.{Does, scan_replies, calls_left};
 ghost use Rattle.engine.specs.Resting.{Reads};
@@ -16,11 +15,11 @@ ghost use Rattle.engine.specs.Resting.{Reads};
 use crate::engine::Engine;
 use crate::scan::Scan;
 use devices::{Devices, World};
+use flat_transactions::Store;
 use line_pages::Stop;
+use rows::Value;
 use script::Reply;
-use slotted_page::Value;
 use table_store::{Next, scan_next};
-use transactions::Store;
 
 impl Scan {
     /// The end of the scan.
@@ -81,12 +80,12 @@ impl Engine {
         ensures gives { IfOk result (λ reply. Gives scan.old reply scan.new) }
         ensures fewer { OnOk result (calls_left scan.new < calls_left scan.old) }
         // why it stops
-        ensures cause { HasCause (IsRowDamage self.old (W.Devices.standing world.old) self.new.work.page) (shown self.old (W.Devices.standing world.old)) (shown self.new (W.Devices.standing world.new)) result }
+        ensures cause { HasCause (IsRowDamage self.old (W.Devices.standing world.old) (evidence_bytes self.new)) (shown self.old (W.Devices.standing world.old)) (shown self.new (W.Devices.standing world.new)) result }
         ensures reads { Reads self.old (W.Devices.standing world.old) self.new (W.Devices.standing world.new) result }
         ensures same { OnErr result (scan.new ≡ scan.old) }
         // what it does
         ensures does { Does (λ s. s) self.old (W.Devices.standing world.old) self.new (W.Devices.standing world.new) result }
-        ensures same_reach { OnOk result (reach self.new.book ≡ reach self.old.book) }
+        ensures same_reach { OnOk result (engine_reach self.new ≡ engine_reach self.old) }
     {
         self.rest_after(scan.count);
         let next = self.seek(world, scan)?;
@@ -107,10 +106,10 @@ impl Engine {
         requires { StandsFor self.old (W.Devices.standing world.old) }
         ensures reply { IsTrue (W.Devices.standing world.old).told → (s : State) → Shows self.old (W.Devices.standing world.old) s → IfOk result (λ next. reply_by scan.now next ≡ reply_by scan.now (next_of scan.now.from scan.now.to (rows_of scan.now.name (seen_tables s)))) }
         ensures left { IsTrue (W.Devices.standing world.old).told → (s : State) → Shows self.old (W.Devices.standing world.old) s → IfOk result (λ next. scan_by scan.now next ≡ scan_by scan.now (next_of scan.now.from scan.now.to (rows_of scan.now.name (seen_tables s)))) }
-        ensures cause { HasCause (IsRowDamage self.old (W.Devices.standing world.old) self.new.work.page) (shown self.old (W.Devices.standing world.old)) (shown self.new (W.Devices.standing world.new)) result }
+        ensures cause { HasCause (IsRowDamage self.old (W.Devices.standing world.old) (evidence_bytes self.new)) (shown self.old (W.Devices.standing world.old)) (shown self.new (W.Devices.standing world.new)) result }
         ensures reads { Reads self.old (W.Devices.standing world.old) self.new (W.Devices.standing world.new) result }
         ensures does { Does (λ s. s) self.old (W.Devices.standing world.old) self.new (W.Devices.standing world.new) result }
-        ensures same_reach { OnOk result (reach self.new.book ≡ reach self.old.book) }
+        ensures same_reach { OnOk result (engine_reach self.new ≡ engine_reach self.old) }
     {
         if scan.from > scan.to {
             return Ok(Next::End);

@@ -38,8 +38,8 @@ fn said(reply: Result<Reply, Stop>) -> Result<Step, Stop>
 }
 
 impl Engine {
-    ghost use Rattle.engine.specs.Engine.{StandsFor};
-    ghost use Rattle.engine.specs.Causes.{Stops};
+    ghost use Rattle.engine.specs.Engine.{StandsFor, has_open, log_end, evidence_bytes};
+    ghost use Rattle.engine.specs.Causes.{Stops, StopsUndoing};
     ghost use Rattle.engine.specs.Steps.{Does, IsBegun, after_line};
     ghost use Rattle.engine.specs.Answers.{AnswersLine, Obeys, closed};
     ghost use Rattle.engine.specs.Resting.{AreReads, Reads};
@@ -52,7 +52,7 @@ impl Engine {
     /// pages in order.
     pub fn step<W: World>(&mut self, world: &mut W, line: &[u8]) -> Result<Step, Stop>
         requires ready { StandsFor self.old (W.Devices.standing world.old) }
-        requires low { self.old.book.log.tail ≤ 2 ^ 61 + 2 ^ 46 }
+        requires low { log_end self.old ≤ 2 ^ 61 + 2 ^ 46 }
         // what it does, and what is replied
         ensures does { Does (after_line self.old (command_in line.now)) self.old (W.Devices.standing world.old) self.new (W.Devices.standing world.new) result }
         ensures replies { AnswersLine self.old (W.Devices.standing world.old) (command_in line.now) result }
@@ -76,7 +76,7 @@ impl Engine {
     /// Does what a command asks, if a transaction is open where one must be and none where none may be.
     fn answer<W: World>(&mut self, world: &mut W, command: Command) -> Result<Step, Stop>
         requires ready { StandsFor self.old (W.Devices.standing world.old) }
-        requires low { self.old.book.log.tail ≤ 2 ^ 61 + 2 ^ 46 }
+        requires low { log_end self.old ≤ 2 ^ 61 + 2 ^ 46 }
         ensures { Obeys (Some command) self.old (W.Devices.standing world.old) self.new (W.Devices.standing world.new) result }
     {
         if is_misplaced(&command, self.book.is_open()) {
@@ -88,8 +88,8 @@ impl Engine {
     /// The same where it is so.
     fn obey<W: World>(&mut self, world: &mut W, command: Command) -> Result<Step, Stop>
         requires ready { StandsFor self.old (W.Devices.standing world.old) }
-        requires low { self.old.book.log.tail ≤ 2 ^ 61 + 2 ^ 46 }
-        requires placed { transaction_wrong command self.old.book.is_open ≡ false }
+        requires low { log_end self.old ≤ 2 ^ 61 + 2 ^ 46 }
+        requires placed { transaction_wrong command (has_open self.old) ≡ false }
         ensures { Obeys (Some command) self.old (W.Devices.standing world.old) self.new (W.Devices.standing world.new) result }
     {
         match command {
@@ -112,7 +112,7 @@ impl Engine {
     pub fn finish<W: World>(&mut self, world: &mut W) -> Result<(), Stop>
         requires ready { StandsFor self.old (W.Devices.standing world.old) }
         ensures does { Does closed self.old (W.Devices.standing world.old) self.new (W.Devices.standing world.new) result }
-        ensures cause { Stops self.old (W.Devices.standing world.old) self.new (W.Devices.standing world.new) result }
+        ensures cause { StopsUndoing self.old (W.Devices.standing world.old) self.new (W.Devices.standing world.new) result }
         ensures reads { Reads self.old (W.Devices.standing world.old) self.new (W.Devices.standing world.new) result }
     {
         self.book.rest();
@@ -123,7 +123,7 @@ impl Engine {
     fn close<W: World>(&mut self, world: &mut W) -> Result<(), Stop>
         requires ready { StandsFor self.old (W.Devices.standing world.old) }
         ensures does { Does closed self.old (W.Devices.standing world.old) self.new (W.Devices.standing world.new) result }
-        ensures cause { Stops self.old (W.Devices.standing world.old) self.new (W.Devices.standing world.new) result }
+        ensures cause { StopsUndoing self.old (W.Devices.standing world.old) self.new (W.Devices.standing world.new) result }
         ensures reads { Reads self.old (W.Devices.standing world.old) self.new (W.Devices.standing world.new) result }
     {
         if self.book.is_open() {
@@ -134,7 +134,7 @@ impl Engine {
 
     /// The page of the evidence with which a call stopped.
     pub fn evidence_page(&self) -> &PageBuf
-        ensures { result.now ≡ self.now.work.page }
+        ensures { result.now ≡ evidence_bytes self.now }
     {
         &self.work.page
     }

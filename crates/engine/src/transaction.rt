@@ -9,8 +9,8 @@ use line_pages::Stop;
 use script::Reply;
 
 impl Engine {
-    ghost use Rattle.engine.specs.Engine.{StandsFor};
-    ghost use Rattle.engine.specs.Causes.{Stops};
+    ghost use Rattle.engine.specs.Engine.{StandsFor, has_open, log_end};
+    ghost use Rattle.engine.specs.Causes.{Stops, StopsUndoing};
     ghost use Rattle.engine.specs.Steps.{Does, Replies, after_command};
     ghost use Rattle.engine.specs.Resting.{Reads};
     ghost use Rattle.engine.specs.Refused.{StaysIfRefused};
@@ -18,8 +18,8 @@ impl Engine {
     /// Opens a transaction.
     pub(crate) fn begin<W: World>(&mut self, world: &mut W) -> Result<Reply, Stop>
         requires ready { StandsFor self.old (W.Devices.standing world.old) }
-        requires closed { self.old.book.is_open ≡ false }
-        requires tail { self.old.book.log.tail ≤ 2 ^ 61 + 2 ^ 46 }
+        requires closed { has_open self.old ≡ false }
+        requires tail { log_end self.old ≤ 2 ^ 61 + 2 ^ 46 }
         ensures does { Does (after_command self.old (Some command.Begin)) self.old (W.Devices.standing world.old) self.new (W.Devices.standing world.new) result }
         ensures replies { Replies self.old (W.Devices.standing world.old) (Some command.Begin) result }
         ensures refused { IfOk result (StaysIfRefused self.old (W.Devices.standing world.old) self.new (W.Devices.standing world.new)) }
@@ -33,7 +33,7 @@ impl Engine {
     /// Ends the open transaction: its writes stand, and are counted as one commit.
     pub(crate) fn commit<W: World>(&mut self, world: &mut W) -> Result<Reply, Stop>
         requires ready { StandsFor self.old (W.Devices.standing world.old) }
-        requires is_open { self.old.book.is_open ≡ true }
+        requires is_open { has_open self.old ≡ true }
         ensures does { Does (after_command self.old (Some command.Commit)) self.old (W.Devices.standing world.old) self.new (W.Devices.standing world.new) result }
         ensures replies { Replies self.old (W.Devices.standing world.old) (Some command.Commit) result }
         ensures refused { IfOk result (StaysIfRefused self.old (W.Devices.standing world.old) self.new (W.Devices.standing world.new)) }
@@ -48,11 +48,11 @@ impl Engine {
     /// Ends the open transaction: its writes are dropped.
     pub(crate) fn abort<W: World>(&mut self, world: &mut W) -> Result<Reply, Stop>
         requires ready { StandsFor self.old (W.Devices.standing world.old) }
-        requires is_open { self.old.book.is_open ≡ true }
+        requires is_open { has_open self.old ≡ true }
         ensures does { Does (after_command self.old (Some command.Abort)) self.old (W.Devices.standing world.old) self.new (W.Devices.standing world.new) result }
         ensures replies { Replies self.old (W.Devices.standing world.old) (Some command.Abort) result }
         ensures refused { IfOk result (StaysIfRefused self.old (W.Devices.standing world.old) self.new (W.Devices.standing world.new)) }
-        ensures cause { Stops self.old (W.Devices.standing world.old) self.new (W.Devices.standing world.new) result }
+        ensures cause { StopsUndoing self.old (W.Devices.standing world.old) self.new (W.Devices.standing world.new) result }
         ensures reads { Reads self.old (W.Devices.standing world.old) self.new (W.Devices.standing world.new) result }
     {
         storing::abort(&mut self.book, world)?;
@@ -62,7 +62,7 @@ impl Engine {
     /// Empties the log. No table changes.
     pub(crate) fn checkpoint<W: World>(&mut self, world: &mut W) -> Result<Reply, Stop>
         requires ready { StandsFor self.old (W.Devices.standing world.old) }
-        requires closed { self.old.book.is_open ≡ false }
+        requires closed { has_open self.old ≡ false }
         ensures does { Does (after_command self.old (Some command.Checkpoint)) self.old (W.Devices.standing world.old) self.new (W.Devices.standing world.new) result }
         ensures replies { Replies self.old (W.Devices.standing world.old) (Some command.Checkpoint) result }
         ensures refused { IfOk result (StaysIfRefused self.old (W.Devices.standing world.old) self.new (W.Devices.standing world.new)) }

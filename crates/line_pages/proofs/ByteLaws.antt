@@ -6,39 +6,11 @@ use Rattle.std.proofs.lemmas.Bool.{cases_lt, eq-eqb, ne_eqb, and_right}
 use Rattle.byteorder.specs.Endian.{little_bytes}
 use Rattle.byteorder.specs.Numbers.{little_number-reads_back}
 use Rattle.nvm_model.specs.declared.line.Line.{Line}
+use Rattle.nvm_model.proofs.PieceLaws.{length-pieces, get_or-pieces, pieces-more, pieces-same}
 use Rattle.line_pages.specs.Lines.{Lines, with_line, IsLine}
-use Rattle.line_pages.specs.Bytes.{u16_at, u64_at, pieces, bytes_of_half, bytes_of_word, word_bytes, line_bytes, page_bytes, bytes_of, line_at, overwritten, with_line_bytes, word_pair}
+use Rattle.line_pages.specs.Bytes.{u16_at, u64_at, bytes_of_half, page_bytes, bytes_of, line_at, overwritten, with_line_bytes, word_pair}
+use Rattle.nvm_model.specs.LineBytes.{pieces, bytes_of_word, word_bytes, line_bytes}
 use Rattle.line_pages.proofs.NumberLaws.{little_from-same, length-overwritten, Wrote, wrote, u64_at-same}
-
-pub length-pieces : (s : ℕ) (f : ℕ → List ℕ) → ((i : ℕ) → length (f i) ≡ s) → (i n : ℕ) → length (pieces f i n) ≡ s * n
-length-pieces s f each i zero = sym (mul-zero s)
-length-pieces s f each i (suc n) = length-append (f i) (pieces f (suc i) n) ∙ omega (arith, each i, length-pieces s f each (suc i) n, mul-suc s n)
-
--- a byte of a row of pieces of one length is a byte of one of them
-pub get_or-pieces : (s : ℕ) (f : ℕ → List ℕ) → ((i : ℕ) → length (f i) ≡ s) → (i n k j : ℕ) → k < n → j < s
-    → get_or (pieces f i n) (s * k + j) 0 ≡ get_or (f (i + k)) j 0
-get_or-pieces s f each i zero k j in_row in_piece = absurd (omega arith)
-get_or-pieces s f each i (suc n) zero j in_row in_piece =
-    ap (λ (at : ℕ). get_or (f i ++ pieces f (suc i) n) at 0) (omega (arith, mul-zero s))
-    ∙ get_or_append_left (f i) (pieces f (suc i) n) 0 j (omega (arith, each i))
-    ∙ ap (λ (at : ℕ). get_or (f at) j 0) (omega arith)
-get_or-pieces s f each i (suc n) (suc k) j in_row in_piece =
-    ap (λ (at : ℕ). get_or (f i ++ pieces f (suc i) n) at 0) (omega (arith, mul-suc s k, each i))
-    ∙ get_or-append-add (f i) (pieces f (suc i) n) (s * k + j) 0
-    ∙ get_or-pieces s f each (suc i) n k j (omega arith) in_piece
-    ∙ ap (λ (at : ℕ). get_or (f at) j 0) (omega arith)
-
--- one piece more at the end
-pub pieces-more : (f : ℕ → List ℕ) (i n : ℕ) → pieces f i (suc n) ≡ pieces f i n ++ f (i + n)
-pieces-more f i zero = append-nil (f i) ∙ ap f (omega arith)
-pieces-more f i (suc n) =
-    ap (λ r. f i ++ r) (pieces-more f (suc i) n)
-    ∙ sym (append_assoc (f i) (pieces f (suc i) n) (f (suc i + n)))
-    ∙ ap (λ (at : ℕ). (f i ++ pieces f (suc i) n) ++ f at) (omega arith)
-
-pub pieces-same : (f g : ℕ → List ℕ) (i n : ℕ) → ((k : ℕ) → i ≤ k → k < i + n → f k ≡ g k) → pieces f i n ≡ pieces g i n
-pieces-same f g i zero same = refl
-pieces-same f g i (suc n) same = rw (same i (omega arith) (omega arith), pieces-same f g (suc i) n (λ k low high. same k (omega arith) (omega arith))) refl
 
 pub length-word_bytes : (words : List ℕ) (w : ℕ) → length (word_bytes words w) ≡ 8
 unfolding bytes_of_word

@@ -1,9 +1,9 @@
 -- Causes of calls in a row.
-use Rattle.std.proofs.Common.{◌∙◌, arith, Result, Ok, Err}
-use Rattle.line_pages.specs.declared.stop.Evidence.{Evidence}
+use Rattle.std.proofs.Common.{◌≡◌, ◌∙◌, sym, subst, arith, true, false, Result, Ok, Err, IsErr, IsErrAnd}
+use Rattle.damage.specs.declared.evidence.Evidence.{Evidence}
 use Rattle.line_pages.specs.declared.stop.Stop.{Stop}
 use Rattle.line_pages.specs.declared.stop.Stop.TheVariants.{Nvm, Ssd, Damaged}
-use Rattle.line_pages.specs.Standing.{Standing, HasCause, Never}
+use Rattle.line_pages.specs.Standing.{Standing, HasCause, IsCause, Never, UnlessStop, UnlessFault}
 
 -- a cause under which more damage is answered
 pub wider_cause : {A T : Type 0} {Damage More : Evidence → Type 0} {old new : Standing A} → ((e : Evidence) → Damage e → More e) → (result : Result T Stop)
@@ -28,3 +28,14 @@ cause_after found first (Err (Damaged e)) second = record { failed = second.fail
 -- a stop that is handed on
 pub cause_on : {A T U : Type 0} {Damage : Evidence → Type 0} {old new : Standing A} (stop : Stop) → HasCause {T = T} Damage old new (Err stop) → HasCause {T = U} Damage old new (Err stop)
 cause_on stop cause = record { failed = cause.failed; kept = tt }
+
+-- facts unless a fault stopped: a stop that was none for damage, and one that is handed on
+pub unless_never : {A T : Type 0} (Fact : Type 0) (old new : Standing A) (r : Result T Stop) (why : Stop) → IsErr r × IsErrAnd r (λ found. found ≡ why) → IsCause Never old new why → UnlessFault r Fact
+unless_never Fact old new (Ok value) why is cause = let bad : false ≡ true = is.0 in absurd (cc)
+unless_never Fact old new (Err Nvm) why is cause = tt
+unless_never Fact old new (Err Ssd) why is cause = tt
+unless_never Fact old new (Err (Damaged e)) why is cause = absurd (subst (IsCause Never old new) (sym is.1) cause)
+
+pub unless_on : {T : Type 0} (Fact : Type 0) (r : Result T Stop) (why : Stop) → IsErr r × IsErrAnd r (λ found. found ≡ why) → UnlessStop why Fact → UnlessFault r Fact
+unless_on Fact (Ok value) why is fact = let bad : false ≡ true = is.0 in absurd (cc)
+unless_on Fact (Err stop) why is fact = subst (λ (s : Stop). UnlessStop s Fact) (sym is.1) fact

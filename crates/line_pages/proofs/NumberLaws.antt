@@ -11,7 +11,8 @@ use borrow.Rule.Slice.PartMut.{put_mid, mid_of}
 use Rattle.byteorder.specs.Endian.{little_from, little_bytes}
 use Rattle.byteorder.specs.Numbers.{little_number-reads_back}
 use Rattle.ssd_model.specs.Page.{Same, Moved}
-use Rattle.line_pages.specs.Bytes.{u16_at, u64_at, bytes_of_half, bytes_of_word, overwritten}
+use Rattle.line_pages.specs.Bytes.{u16_at, u64_at, bytes_of_half, overwritten}
+use Rattle.nvm_model.specs.LineBytes.{bytes_of_word}
 
 pub little_from-same : (i k n : ℕ) (xs ys : List ℕ) → ((j : ℕ) → j < n → get_or xs (i + j) 0 ≡ get_or ys (k + j) 0) → little_from i n xs ≡ little_from k n ys
 little_from-same i k zero xs ys same = refl

@@ -1,10 +1,11 @@
 -- Calls in a row.
-use Rattle.std.proofs.Common.{◌≡◌, ℕ, ◌+◌, ◌≤◌, inl, inr, false, cond, IsTrue, [], ◌∷◌, ◌++◌, refl, sym, ap, subst, ◌∙◌, arith, append_assoc, append-nil, Ok, true, length, length-append, Some, List, None}
+use Rattle.std.proofs.Common.{◌≡◌, ℕ, ◌+◌, ◌≤◌, inl, inr, false, cond, IsTrue, [], ◌∷◌, ◌++◌, refl, sym, ap, subst, ◌∙◌, arith, append_assoc, append-nil, Result, Ok, Err, IsErr, true, length, length-append, Some, List, None}
 use Rattle.std.proofs.lemmas.Bool.{cases_lt, cases_Bool}
 use Rattle.nvm_model.specs.declared.line.Line.{Line}
+use Rattle.line_pages.specs.declared.stop.Stop.{Stop}
 use Rattle.line_pages.specs.Lines.{Lines}
 use Rattle.line_pages.specs.Touch.{Access, accesses, begins, touch_of, accesses_from, access_after, begun_from, last_from}
-use Rattle.line_pages.specs.Standing.{Standing, Continues, Reads, Writes, ReadsPage, WritesPage, KeepsLines, AddsReads}
+use Rattle.line_pages.specs.Standing.{Standing, Continues, KeepsPages, Reads, Writes, ReadsPage, WritesPage, KeepsLines, AddsReads}
 use Rattle.line_pages.proofs.LineLaws.{with_line-other_page}
 use Rattle.line_pages.proofs.TouchLaws.{accesses-append, writes-append, goes_on, goes_on_writing, accesses_from-append, access_after-append, accesses_from-begun, access_after-last, alone-append, alone_reads, run_alone, run_open}
 
@@ -40,6 +41,36 @@ Continues-trans {a = a} {b = b} {c = c} first again second = record {
     | inr early ↦ first.during told steady m low early lines (second.earlier m lines early h)
   ];
 }
+
+-- a call after one that answered ok
+pub KeepsPages-trans : {A T U : Type 0} {p q r : ℕ → Lines → Type 0} {steady steady_between steady_after ready_between ready_after : Type 0} {a b c : Standing A} {found : U} {result : Result T Stop}
+    → KeepsPages p q steady steady_between ready_between a b (Ok found) → KeepsPages q r steady_between steady_after ready_after b c result
+    → KeepsPages p r steady steady_after ready_after a c result
+KeepsPages-trans first second = record {
+  continues = Continues-trans first.continues first.steady second.continues;
+  ready = second.ready;
+  steady = λ s. second.steady (first.steady s);
+}
+
+-- a value that is made of what the last call gave
+pub KeepsPages-gives : {A T U : Type 0} {p q : ℕ → Lines → Type 0} {steady steady_after ready_after : Type 0} {a b : Standing A} {found : T} {made : U}
+    → KeepsPages p q steady steady_after ready_after a b (Ok found) → KeepsPages p q steady steady_after ready_after a b (Ok made)
+KeepsPages-gives call = record { continues = call.continues; ready = call.ready; steady = call.steady }
+
+pub KeepsPages-then : {A T U V : Type 0} {p q r : ℕ → Lines → Type 0} {steady steady_between steady_after ready_between ready_after : Type 0} {a b c : Standing A} {found : U} {next : V} {made : T}
+    → KeepsPages p q steady steady_between ready_between a b (Ok found) → KeepsPages q r steady_between steady_after ready_after b c (Ok next)
+    → KeepsPages p r steady steady_after ready_after a c (Ok made)
+KeepsPages-then first second = KeepsPages-gives (KeepsPages-trans first second)
+
+-- a stop that is handed on
+pub KeepsPages-stops : {A T U : Type 0} {p q : ℕ → Lines → Type 0} {steady steady_after ready_after : Type 0} {a b : Standing A} {stop : Stop} (result : Result U Stop)
+    → IsErr result → KeepsPages {T = T} p q steady steady_after ready_after a b (Err stop) → KeepsPages p q steady steady_after ready_after a b result
+KeepsPages-stops (Ok value) is call = let bad : false ≡ true = is in absurd (cc)
+KeepsPages-stops (Err handed) is call = record { continues = call.continues; ready = tt; steady = λ s. tt }
+
+-- no call yet
+pub KeepsPages-refl : {A T : Type 0} {leave : ℕ → Lines → Type 0} {steady ready : Type 0} {s : Standing A} {value : T} → ready → KeepsPages leave leave steady steady ready s s (Ok value)
+KeepsPages-refl {leave = leave} {steady = steady} {s = s} is_ready = record { continues = Continues-refl leave steady s; ready = is_ready; steady = λ h. h }
 
 -- more reads of the same page
 pub ReadsPage-trans : {A : Type 0} {page : ℕ} {a b c : Standing A} → ReadsPage page a b → ReadsPage page b c → ReadsPage page a c

@@ -2,6 +2,7 @@
 use Rattle.std.specs.Prelude.{ℕ, zero, suc, ◌+◌, ◌*◌, List, [], ◌∷◌, ◌++◌, length, take, drop, slice_index}
 use Rattle.byteorder.specs.Endian.{little_from, little_bytes}
 use Rattle.nvm_model.specs.declared.line.Line.{Line}
+use Rattle.nvm_model.specs.LineBytes.{bytes_of_word, pieces, line_bytes}
 use Rattle.line_pages.specs.Lines.{Lines}
 
 -- the numbers of two and of eight bytes at a place, the lowest byte first
@@ -11,29 +12,13 @@ u16_at bytes at = little_from at 2 bytes
 unfoldable pub u64_at : List ℕ → ℕ → ℕ
 u64_at bytes at = little_from at 8 bytes
 
--- the two bytes of a half word and the eight of a word, the lowest first
+-- the two bytes of a half word, the lowest first
 unfoldable pub bytes_of_half : ℕ → List ℕ
 bytes_of_half x = little_bytes 2 x
-
-unfoldable pub bytes_of_word : ℕ → List ℕ
-bytes_of_word x = little_bytes 8 x
 
 -- the bytes with other ones in their place from `at` on
 abbrev pub overwritten : List ℕ → ℕ → List ℕ → List ℕ
 overwritten bytes at new = take at bytes ++ (new ++ drop (at + length new) bytes)
-
--- n pieces in a row, from piece i on
-abbrev pub pieces : (ℕ → List ℕ) → ℕ → ℕ → List ℕ
-pieces f i zero = []
-pieces f i (suc n) = f i ++ pieces f (suc i) n
-
--- the bytes of one word of a line
-abbrev pub word_bytes : List ℕ → ℕ → List ℕ
-word_bytes words w = bytes_of_word (slice_index words w)
-
--- the 64 bytes of a line: its eight words in order
-unfoldable pub line_bytes : Line → List ℕ
-line_bytes line = pieces (word_bytes line.words) 0 8
 
 -- the 4,096 bytes of a page: its 64 lines in order
 unfoldable pub page_bytes : (ℕ → Line) → List ℕ

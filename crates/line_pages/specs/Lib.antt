@@ -2,6 +2,7 @@ pub mod Bytes
 pub mod Cost
 pub mod LineSets
 pub mod Lines
+pub mod PagesCall
 pub mod Pairs
 pub mod Standing
 pub mod Stored

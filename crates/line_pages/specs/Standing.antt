@@ -1,7 +1,7 @@
 -- What a store of pages shows to the layers above it, and what its calls do to that.
-use Rattle.std.specs.Prelude.{◌≡◌, ◌≢◌, ℕ, ◌+◌, ◌<◌, ◌≤◌, min, Bool, true, false, List, [], ◌∷◌, ◌++◌, filter, length, Option, Some, None, if◌then◌else◌, IsTrue, Result, OnOk, IfErr}
+use Rattle.std.specs.Prelude.{◌≡◌, ◌≢◌, ℕ, ◌+◌, ◌<◌, ◌≤◌, min, Bool, true, false, List, [], ◌∷◌, ◌++◌, filter, length, Option, Some, None, if◌then◌else◌, IsTrue, Result, Ok, Err, OnOk, IfErr}
 use Rattle.nvm_model.specs.declared.line.Line.{Line}
-use Rattle.line_pages.specs.declared.stop.Evidence.{Evidence}
+use Rattle.damage.specs.declared.evidence.Evidence.{Evidence}
 use Rattle.line_pages.specs.declared.stop.Stop.{Stop}
 use Rattle.line_pages.specs.declared.stop.Stop.TheVariants.{Nvm, Ssd, Damaged}
 use Rattle.line_pages.specs.Lines.{Lines, with_line}
@@ -49,6 +49,13 @@ pub record Continues {A : Type 0} (before after : ℕ → Lines → Type 0) (ste
   pub earlier : (m : ℕ) (lines : Lines) → m ≤ old.clock → after m lines → before m lines
   pub during : IsTrue old.told → steady → (m : ℕ) → old.clock < m → m ≤ new.clock → (lines : Lines) → after m lines → lines ≡ old.committed
 
+-- What every call on pages keeps: it goes on from what it found, and after ok the pages are ready for the next call, and steady
+-- where they were.
+pub record KeepsPages {A T : Type 0} (before after : ℕ → Lines → Type 0) (was_steady is_steady is_ready : Type 0) (old new : Standing A) (result : Result T Stop) : Type 0 where
+  pub continues : Continues before after was_steady old new
+  pub ready : OnOk result is_ready
+  pub steady : was_steady → OnOk result is_steady
+
 -- A call on one line, whatever it answers: the access is that of its page and kind. One that succeeds puts its touch last.
 pub record IsTouch {A : Type 0} {T E : Type 0} (page line : ℕ) (writes : Bool) (old new : Standing A) (result : Result T E) : Type 0 where
   pub access : new.access ≡ Some (page, writes)
@@ -90,6 +97,16 @@ pub record WritesPage {A : Type 0} (page : ℕ) (old new : Standing A) : Type 0 
   pub begun : accesses added ≡ (if begins old.access page true then (page, true) ∷ [] else [])
   pub alone : accesses_from (Some (page, true)) added ≡ []
   pub room : new.room + length added ≡ old.room
+
+-- A fact that holds unless a fault stopped the call: after ok, and also where it answers damage.
+abbrev pub UnlessStop : Stop → Type 0 → Type 0
+UnlessStop Nvm Fact = Unit {0}
+UnlessStop Ssd Fact = Unit {0}
+UnlessStop (Damaged evidence) Fact = Fact
+
+abbrev pub UnlessFault : {T : Type 0} → Result T Stop → Type 0 → Type 0
+UnlessFault (Ok value) Fact = Fact
+UnlessFault (Err stop) Fact = UnlessStop stop Fact
 
 -- no line changes, and the room stays
 pub record KeepsLines {A : Type 0} (old new : Standing A) : Type 0 where

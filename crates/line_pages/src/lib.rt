@@ -9,8 +9,6 @@ mod page;
 mod pages;
 mod reads;
 mod stop;
-#[cfg(test)]
-mod tests;
 mod touches;
 mod vec_pages;
 
@@ -20,6 +18,6 @@ pub use number::{get_half, get_word, put_half, put_word};
 pub use page::{page_half, page_line, page_word, set_page_half, set_page_line, set_page_word};
 pub use pages::Pages;
 pub use reads::{copy_page, read_half, read_word};
-pub use stop::{Evidence, Stop};
+pub use stop::Stop;
 pub use touches::{Accesses, Touches};
 pub use vec_pages::VecPages;

@@ -1,7 +1,8 @@
 //! Numbers of two and of eight bytes at a place of bytes, the lowest byte first.
 ghost use Rattle.std.specs.Prelude.{◌≡◌, ◌+◌, ◌≤◌, length, slice_range};
 ghost use Rattle.ssd_model.specs.Page.{Same};
-ghost use Rattle.line_pages.specs.Bytes.{u16_at, u64_at, bytes_of_half, bytes_of_word, overwritten};
+ghost use Rattle.line_pages.specs.Bytes.{u16_at, u64_at, bytes_of_half, overwritten};
+ghost use Rattle.nvm_model.specs.LineBytes.{bytes_of_word};
 
 use byteorder::{ByteOrder, LittleEndian};
 

@@ -2,7 +2,8 @@
 ghost use Rattle.std.specs.Prelude.{◌≡◌, ◌+◌, ◌*◌, ◌<◌, ◌≤◌, length, slice_range};
 ghost use Rattle.ssd_model.specs.Page.{Same};
 ghost use Rattle.line_pages.specs.Lines.{IsLine};
-ghost use Rattle.line_pages.specs.Bytes.{u16_at, u64_at, bytes_of_half, bytes_of_word, overwritten, line_bytes, line_at, with_line_bytes};
+ghost use Rattle.line_pages.specs.Bytes.{u16_at, u64_at, bytes_of_half, overwritten, line_at, with_line_bytes};
+ghost use Rattle.nvm_model.specs.LineBytes.{bytes_of_word, line_bytes};
 
 use crate::number::{get_half, get_word, put_half, put_word};
 use nvm_model::Line;

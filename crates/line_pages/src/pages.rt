@@ -1,7 +1,7 @@
 //! The trait through which every layer above reads and writes pages.
-ghost use Rattle.std.specs.Prelude.{◌≡◌, ◌<◌, ◌≤◌, ℕ, IsTrue, IfOk, OnOk, OnErr};
+ghost use Rattle.std.specs.Prelude.{◌≡◌, ◌<◌, ◌≤◌, ℕ, IsTrue, IfOk, Ok};
 ghost use Rattle.line_pages.specs.Lines.{Lines, IsLine};
-ghost use Rattle.line_pages.specs.Standing.{Standing, Continues, Reads, Writes, Rests, HasCause, Never};
+ghost use Rattle.line_pages.specs.Standing.{Standing, KeepsPages, Reads, Writes, Rests, HasCause, Never};
 
 use crate::stop::Stop;
 use nvm_model::Line;
@@ -36,13 +36,13 @@ pub trait Pages {
         requires ready { is_ready self.old }
         requires page { page < (standing self.old).count }
         requires line { line < 64 }
-        ensures continues { Continues (may_leave self.old) (may_leave self.new) (is_steady self.old) (standing self.old) (standing self.new) }
+        ensures call { KeepsPages (may_leave self.old) (may_leave self.new)
+            (is_steady self.old) (is_steady self.new) (is_ready self.new)
+            (standing self.old) (standing self.new) result }
         ensures reads { Reads page line (standing self.old) (standing self.new) result }
         ensures cause { HasCause Never (standing self.old) (standing self.new) result }
         ensures value { IsTrue (standing self.old).told → IfOk result (λ found. found ≡ (standing self.old).current page line) }
-        ensures is_line { IfOk result IsLine }
-        ensures ready { OnOk result (is_ready self.new) }
-        ensures steady { is_steady self.old → OnOk result (is_steady self.new) };
+        ensures is_line { IfOk result IsLine };
 
     /// Changes that one line, and lowers the room by one.
     fn write_line(&mut self, page: u64, line: usize, value: &Line) -> Result<(), Stop>
@@ -50,17 +50,17 @@ pub trait Pages {
         requires page { page < (standing self.old).count }
         requires line { line < 64 }
         requires room { 1 ≤ (standing self.old).room }
-        ensures continues { Continues (may_leave self.old) (may_leave self.new) (is_steady self.old) (standing self.old) (standing self.new) }
+        ensures call { KeepsPages (may_leave self.old) (may_leave self.new)
+            (is_steady self.old) (is_steady self.new) (is_ready self.new)
+            (standing self.old) (standing self.new) result }
         ensures writes { Writes page line value.now (standing self.old) (standing self.new) result }
-        ensures cause { HasCause Never (standing self.old) (standing self.new) result }
-        ensures ready { OnOk result (is_ready self.new) }
-        ensures steady { is_steady self.old → OnOk result (is_steady self.new) };
+        ensures cause { HasCause Never (standing self.old) (standing self.new) result };
 
     /// Ends the open access.
     fn rest(&mut self)
         requires { is_ready self.old }
-        ensures continues { Continues (may_leave self.old) (may_leave self.new) (is_steady self.old) (standing self.old) (standing self.new) }
-        ensures rests { Rests (standing self.old) (standing self.new) }
-        ensures ready { is_ready self.new }
-        ensures steady { is_steady self.old → is_steady self.new };
+        ensures call { KeepsPages (may_leave self.old) (may_leave self.new)
+            (is_steady self.old) (is_steady self.new) (is_ready self.new)
+            (standing self.old) (standing self.new) (Ok (tt {0})) }
+        ensures rests { Rests (standing self.old) (standing self.new) };
 }

@@ -1,9 +1,11 @@
 //! Reads of the bytes of one page through its lines, each as one access at most.
 ghost use Rattle.std.specs.Prelude.{◌≡◌, ◌+◌, ◌%◌, ◌<◌, ◌≤◌, false, length, IsTrue, OnOk, IfOk};
-ghost use Rattle.line_pages.specs.Bytes.{u16_at, u64_at, bytes_of, bytes_of_word, word_pair};
+ghost use Rattle.line_pages.specs.PagesCall.{PagesCall};
+ghost use Rattle.line_pages.specs.Bytes.{u16_at, u64_at, bytes_of, word_pair};
+ghost use Rattle.nvm_model.specs.LineBytes.{bytes_of_word};
 ghost use Rattle.line_pages.specs.Touch.{begins};
 ghost use Rattle.line_pages.specs.Cost.{lines_from, lines_of, AddsLines};
-ghost use Rattle.line_pages.specs.Standing.{Continues, HasCause, Never, ReadsPage};
+ghost use Rattle.line_pages.specs.Standing.{HasCause, Never, ReadsPage};
 
 use crate::number::{get_half, get_word, put_word};
 use crate::page::set_page_line;
@@ -15,15 +17,13 @@ use ssd_model::PageBuf;
 pub fn copy_page<P: Pages>(pages: &mut P, page: u64, into: &mut PageBuf) -> Result<(), Stop>
     requires ready { P.is_ready pages.old }
     requires page { page < (P.standing pages.old).count }
-    ensures continues { Continues (P.may_leave pages.old) (P.may_leave pages.new) (P.is_steady pages.old) (P.standing pages.old) (P.standing pages.new) }
+    ensures call { PagesCall P.Pages pages.old pages.new result }
     ensures bytes { IsTrue (P.standing pages.old).told → OnOk result (into.new ≡ bytes_of (P.standing pages.old).current page) }
     ensures reads { OnOk result (ReadsPage page (P.standing pages.old) (P.standing pages.new)) }
     ensures lines { OnOk result (AddsLines (λ lines. lines ≡ lines_from 0 64) (P.standing pages.old) (P.standing pages.new)) }
     ensures again { begins (P.standing pages.old).access page false ≡ false → (P.standing pages.new).visits ≤ (P.standing pages.old).visits }
     ensures few { (P.standing pages.new).visits ≤ (P.standing pages.old).visits + 1 }
     ensures cause { HasCause Never (P.standing pages.old) (P.standing pages.new) result }
-    ensures ready { OnOk result (P.is_ready pages.new) }
-    ensures steady { P.is_steady pages.old → OnOk result (P.is_steady pages.new) }
 {
     let header = pages.read_line(page, 0)?;
     set_page_line(into, 0, &header);
@@ -40,15 +40,13 @@ pub fn read_word<P: Pages>(pages: &mut P, page: u64, place: usize) -> Result<u64
     requires ready { P.is_ready pages.old }
     requires page { page < (P.standing pages.old).count }
     requires place { place + 8 ≤ 4096 }
-    ensures continues { Continues (P.may_leave pages.old) (P.may_leave pages.new) (P.is_steady pages.old) (P.standing pages.old) (P.standing pages.new) }
+    ensures call { PagesCall P.Pages pages.old pages.new result }
     ensures value { IsTrue (P.standing pages.old).told → IfOk result (λ number. number ≡ u64_at (bytes_of (P.standing pages.old).current page) place) }
     ensures reads { OnOk result (ReadsPage page (P.standing pages.old) (P.standing pages.new)) }
     ensures lines { OnOk result (AddsLines (λ lines. lines ≡ lines_of place 8) (P.standing pages.old) (P.standing pages.new)) }
     ensures again { begins (P.standing pages.old).access page false ≡ false → (P.standing pages.new).visits ≤ (P.standing pages.old).visits }
     ensures few { (P.standing pages.new).visits ≤ (P.standing pages.old).visits + 1 }
     ensures cause { HasCause Never (P.standing pages.old) (P.standing pages.new) result }
-    ensures ready { OnOk result (P.is_ready pages.new) }
-    ensures steady { P.is_steady pages.old → OnOk result (P.is_steady pages.new) }
 {
     let line = place / 64;
     let word = place % 64 / 8;
@@ -70,15 +68,13 @@ pub fn read_half<P: Pages>(pages: &mut P, page: u64, place: usize) -> Result<u16
     requires page { page < (P.standing pages.old).count }
     requires place { place < 4096 }
     requires in_word { place % 8 ≤ 6 }
-    ensures continues { Continues (P.may_leave pages.old) (P.may_leave pages.new) (P.is_steady pages.old) (P.standing pages.old) (P.standing pages.new) }
+    ensures call { PagesCall P.Pages pages.old pages.new result }
     ensures value { IsTrue (P.standing pages.old).told → IfOk result (λ number. number ≡ u16_at (bytes_of (P.standing pages.old).current page) place) }
     ensures reads { OnOk result (ReadsPage page (P.standing pages.old) (P.standing pages.new)) }
     ensures lines { OnOk result (AddsLines (λ lines. lines ≡ lines_of place 2) (P.standing pages.old) (P.standing pages.new)) }
     ensures again { begins (P.standing pages.old).access page false ≡ false → (P.standing pages.new).visits ≤ (P.standing pages.old).visits }
     ensures few { (P.standing pages.new).visits ≤ (P.standing pages.old).visits + 1 }
     ensures cause { HasCause Never (P.standing pages.old) (P.standing pages.new) result }
-    ensures ready { OnOk result (P.is_ready pages.new) }
-    ensures steady { P.is_steady pages.old → OnOk result (P.is_steady pages.new) }
 {
     let here = pages.read_line(page, place / 64)?;
     Ok(half_of(here.words[place % 64 / 8], place % 8))

@@ -3,19 +3,19 @@ use Rattle.std.proofs.Common.{◌≡◌, ℕ, zero, suc, Some, ◌+◌, ◌-◌,
 use Rattle.std.specs.List.{insert, remove, list_all}
 use Rattle.std.proofs.lemmas.List.{length-take-le}
 use Rattle.std.proofs.lemmas.Bool.{lt-ltb, le-ltb, le-leb, ltb-true, eqb-true, eq-eqb, ne_eqb, cases_lt, cases_eq, and_parts, and_from, leb-true}
-use Rattle.slotted_page.specs.declared.root.Expect.{Expect}
-use Rattle.slotted_page.specs.Rows.{Ascends, Each}
+use Rattle.page_format.specs.declared.root.Expect.{Expect}
+use Rattle.rows.specs.Rows.{Ascends, Each}
 use Rattle.page_edit.specs.Cut.{children_left}
-use Rattle.slotted_page.specs.Node.{Child, children, first_keys, begins_at, is_page_below, page_level, IsWellFormed}
-use Rattle.slotted_page.specs.Inner.{IsBranch}
-use Rattle.slotted_page.proofs.PageFacts.{inner_facts}
-use Rattle.slotted_page.proofs.BranchLemmas.{branch_to}
-use Rattle.slotted_page.proofs.InnerLemmas.{length_children}
+use Rattle.page_format.specs.Node.{Child, children, first_keys, begins_at, is_page_below, page_level, IsWellFormed}
+use Rattle.page_format.specs.Inner.{IsBranch}
+use Rattle.page_format.proofs.PageFacts.{inner_facts}
+use Rattle.page_format.proofs.BranchLemmas.{branch_to}
+use Rattle.page_format.proofs.InnerLemmas.{length_children}
 use Rattle.node_edit.specs.Edit.{part, Divides, child_put, place_of, has_key, AreChildren, both, joined, IsCutIn, Holds}
 use Rattle.node_edit.specs.declared.pair.Pair.{Pair}
 use Rattle.node_edit.proofs.KeyPlaceLaws.{child_puts, put_new}
-use Rattle.slotted_page.specs.Spans.{reach}
-use Rattle.page_space.specs.Moves.{below}
+use Rattle.page_format.specs.Spans.{reach}
+use Rattle.page_alloc.specs.Moves.{below}
 
 -- a child put behind another one, up to where that one reached
 pub child_put-behind : (key page : ℕ) (xs zs : List Child) → Each (λ (c : Child). c.0 < key) xs → child_put key page (xs ++ zs) ≡ xs ++ child_put key page zs

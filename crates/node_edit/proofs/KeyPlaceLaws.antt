@@ -2,9 +2,9 @@
 use Rattle.std.proofs.Common.{◌≡◌, ℕ, zero, suc, ◌+◌, ◌*◌, ◌<◌, ◌≤◌, inl, inr, true, false, if◌then◌else◌, List, [], ◌∷◌, length, get_or, refl, sym, ap, arith, nat_lt, nat_eq, slice_set}
 use Rattle.std.specs.List.{insert, remove}
 use Rattle.std.proofs.lemmas.Bool.{lt-ltb, le-ltb, eqb-true, eq-eqb, ne_eqb, cases_lt, cases_eq}
-use Rattle.slotted_page.specs.Rows.{Row, keys, row_put, row_delete, Ascends}
-use Rattle.slotted_page.specs.Sound.{row_bytes}
-use Rattle.slotted_page.proofs.RowLemmas.{row_bytes-cons}
+use Rattle.rows.specs.Rows.{Row, keys, row_put, row_delete, Ascends}
+use Rattle.page_format.specs.Sound.{row_bytes}
+use Rattle.page_format.proofs.RowLemmas.{row_bytes-cons}
 use Rattle.node_edit.specs.Edit.{place_of, has_key, child_put}
 
 pub place_within : {X : Type 0} (key : ℕ) (entries : List (ℕ × X)) → place_of key entries ≤ length entries

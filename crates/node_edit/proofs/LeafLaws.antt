@@ -2,20 +2,20 @@
 use Rattle.std.proofs.Common.{◌≡◌, ◌+◌, ◌-◌, ◌*◌, ◌/◌, ◌<◌, ◌≤◌, ◌⊎◌, inl, inr, ℕ, zero, suc, Bool, true, false, List, [], ◌∷◌, length, take, drop, get_or, slice_set, ◌++◌, take-append-drop, refl, sym, ap, subst, ◌∙◌, arith, nat_le, ◌||◌}
 use Rattle.std.proofs.lemmas.Bool.{le-leb, cases_lt}
 use Rattle.ssd_model.specs.Page.{Same}
-use Rattle.slotted_page.specs.declared.root.Expect.{Expect}
-use Rattle.slotted_page.specs.Rows.{Row, keys, row_put, Ascends, last_key}
-use Rattle.slotted_page.proofs.RowLemmas.{row_bytes-cons, row_bytes-nil}
-use Rattle.node_edit.proofs.RowLaws.{Ascends-put}
-use Rattle.slotted_page.specs.Node.{leaf_rows, leaf_checks, entry_count, heap_start, first_failing, any_leaf, IsLeaf, IsWellFormed}
+use Rattle.page_format.specs.declared.root.Expect.{Expect}
+use Rattle.rows.specs.Rows.{Row, keys, row_put, Ascends, last_key}
+use Rattle.page_format.proofs.RowLemmas.{row_bytes-cons, row_bytes-nil}
+use Rattle.rows.proofs.RowLaws.{Ascends-put}
+use Rattle.page_format.specs.Node.{leaf_rows, leaf_checks, entry_count, heap_start, first_failing, any_leaf, IsLeaf, IsWellFormed}
 use Rattle.page_edit.specs.Packed.{IsPacked, AddsBelow}
-use Rattle.slotted_page.specs.Sound.{row_bytes}
-use Rattle.slotted_page.proofs.FactLemmas.{AllHold, all_hold, none_fails, ascends-is, sound_of, leaf_used_is, leaf_from}
-use Rattle.slotted_page.proofs.PageFacts.{leaf_facts}
-use Rattle.slotted_page.proofs.SlotLemmas.{length_rows}
+use Rattle.page_format.specs.Sound.{row_bytes}
+use Rattle.page_format.proofs.FactLemmas.{AllHold, all_hold, none_fails, ascends-is, sound_of, leaf_used_is, leaf_from}
+use Rattle.page_format.proofs.PageFacts.{leaf_facts}
+use Rattle.page_format.proofs.SlotLemmas.{length_rows}
 use Rattle.node_edit.specs.Edit.{part, Divides}
 use Rattle.node_edit.specs.Record.{FitsLeaf}
-use Rattle.page_space.specs.Written.{lines_changed}
-use Rattle.page_space.proofs.WrittenLaws.{changed_first, changed_two}
+use Rattle.page_alloc.specs.Written.{lines_changed}
+use Rattle.page_alloc.proofs.WrittenLaws.{changed_first, changed_two}
 use Rattle.node_edit.proofs.KeyPlaceLaws.{rows_few}
 
 pub leaf_to : (bytes : List ℕ) (low high pages : ℕ) (root : Bool) → length bytes ≡ 4096 → IsLeaf bytes → Ascends low high (keys (leaf_rows bytes)) → (root || nat_le 1344 (row_bytes (leaf_rows bytes))) ≡ true

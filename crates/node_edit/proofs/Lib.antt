@@ -1,4 +1,3 @@
-pub mod RowLaws
 pub mod KeyPlaceLaws
 pub mod LeafLaws
 pub mod SameLength

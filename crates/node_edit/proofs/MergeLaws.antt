@@ -3,15 +3,15 @@ use Rattle.std.proofs.Common.{◌≡◌, ℕ, ◌+◌, ◌-◌, ◌<◌, ◌≤�
 use Rattle.std.specs.List.{list_all}
 use Rattle.std.proofs.lemmas.Bool.{le-leb, and_parts, and_from}
 use Rattle.std.proofs.lemmas.List.{map-append}
-use Rattle.slotted_page.specs.Rows.{Row, keys, key_of, Ascends}
+use Rattle.rows.specs.Rows.{Row, keys, key_of, Ascends}
 use Rattle.page_edit.specs.Cut.{rows_left, children_left}
-use Rattle.slotted_page.specs.Node.{Child, leaf_rows, children, first_keys, begins_at, is_page_below, page_level, IsLeaf}
+use Rattle.page_format.specs.Node.{Child, leaf_rows, children, first_keys, begins_at, is_page_below, page_level, IsLeaf}
 use Rattle.page_edit.specs.Join.{IsJoinedBranch, IsDividedBranch, IsJoined, IsDivided}
-use Rattle.slotted_page.specs.Sound.{row_bytes}
-use Rattle.slotted_page.proofs.RowLemmas.{row_bytes-append}
+use Rattle.page_format.specs.Sound.{row_bytes}
+use Rattle.page_format.proofs.RowLemmas.{row_bytes-append}
 use Rattle.node_edit.specs.declared.pair.Pair.{Pair}
 use Rattle.node_edit.specs.Edit.{part, Holds, Divides, AreChildren, left_of, right_of, whole_of, IsEnoughLeaf, IsEnoughInner, IsPair, IsCutIn}
-use Rattle.node_edit.proofs.RowLaws.{Ascends-append}
+use Rattle.rows.proofs.RowLaws.{Ascends-append}
 use Rattle.node_edit.proofs.LeafLaws.{leaf_within, cut_divides}
 use Rattle.node_edit.proofs.ChildEdits.{inner_within, cut_children_divide}
 

@@ -3,14 +3,14 @@ use Rattle.std.proofs.Common.{◌≡◌, ℕ, zero, suc, ◌+◌, ◌-◌, ◌<�
 use Rattle.std.specs.List.{list_all}
 use Rattle.std.proofs.lemmas.Bool.{ltb-true, lt-ltb, and_parts, cases_lt}
 use Rattle.std.proofs.lemmas.List.{length-map}
-use Rattle.slotted_page.specs.declared.root.Expect.{Expect}
-use Rattle.slotted_page.specs.Rows.{Ascends, last_key}
-use Rattle.slotted_page.specs.Spans.{reach}
-use Rattle.slotted_page.specs.Node.{Child, first_keys, is_page_below, children, children_from, entry_count, page_kind, page_level}
-use Rattle.slotted_page.specs.Inner.{IsBranch}
+use Rattle.page_format.specs.declared.root.Expect.{Expect}
+use Rattle.rows.specs.Rows.{Ascends, last_key}
+use Rattle.page_format.specs.Spans.{reach}
+use Rattle.page_format.specs.Node.{Child, first_keys, is_page_below, children, children_from, entry_count, page_kind, page_level}
+use Rattle.page_format.specs.Inner.{IsBranch}
 use Rattle.line_pages.specs.Bytes.{u64_at}
-use Rattle.slotted_page.proofs.KeyLaws.{Ascends-at, Ascends-last}
-use Rattle.slotted_page.proofs.ChildLaws.{first_key_at}
+use Rattle.page_format.proofs.KeyLaws.{Ascends-at, Ascends-last}
+use Rattle.page_format.proofs.ChildLaws.{first_key_at}
 use Rattle.node_edit.specs.declared.pair.Pair.{Pair}
 use Rattle.node_edit.specs.Edit.{AreChildren, IsPair, PairsUp, place_of, IsNewRoot}
 use Rattle.node_edit.proofs.ChildEdits.{stands_at, inner_within}

@@ -5,13 +5,13 @@ use Rattle.std.proofs.lemmas.Bool.{cases_eq, cases_lt, eq-eqb, ne_eqb, lt-ltb, l
 use Rattle.std.proofs.lemmas.List.{drop_all}
 use Rattle.ssd_model.specs.Page.{Same}
 use Rattle.line_pages.proofs.NumberLaws.{range-same}
-use Rattle.slotted_page.specs.Rows.{Row, keys, row_get, Ascends}
-use Rattle.slotted_page.specs.Node.{Slot, leaf_rows}
-use Rattle.slotted_page.specs.Sound.{slot_of}
+use Rattle.rows.specs.Rows.{Row, keys, row_get, Ascends}
+use Rattle.page_format.specs.Node.{Slot, leaf_rows}
+use Rattle.page_format.specs.Sound.{slot_of}
 use Rattle.node_edit.specs.Edit.{place_of, has_key}
 use Rattle.node_edit.specs.Record.{record_at}
-use Rattle.page_space.specs.Written.{Differs, Meets, line_part}
-use Rattle.node_edit.proofs.RowLaws.{above_bound, row_get-none_above}
+use Rattle.page_alloc.specs.Written.{Differs, Meets, line_part}
+use Rattle.rows.proofs.RowLaws.{above_bound, row_get-none_above}
 
 -- a key that has a value stands at its place
 pub held_place : (low high key : ℕ) (held : List ℕ) (rows : List Row) → Ascends low high (keys rows) → row_get key rows ≡ Some held → (has_key key rows ≡ true) × ((d : Row) → (get_or rows (place_of key rows) d).1 ≡ held)

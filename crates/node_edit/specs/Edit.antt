@@ -1,11 +1,11 @@
 -- What the changes of nodes make of their bytes.
 use Rattle.std.specs.Prelude.{◌≡◌, ℕ, suc, ◌-◌, ◌<◌, ◌≤◌, Bool, true, false, List, [], ◌∷◌, ◌++◌, Option, Some, None, drop, nat_lt, ◌==◌, if◌then◌else◌, length, nat_le, ◌||◌}
 use Rattle.std.specs.List.{list_all}
-use Rattle.slotted_page.specs.declared.root.Expect.{Expect}
-use Rattle.slotted_page.specs.Rows.{Ascends, last_key}
-use Rattle.slotted_page.specs.Spans.{reach}
-use Rattle.slotted_page.specs.Sound.{row_bytes}
-use Rattle.slotted_page.specs.Node.{Child, children, begins_at, first_keys, is_page_below, leaf_rows, IsWellFormed}
+use Rattle.page_format.specs.declared.root.Expect.{Expect}
+use Rattle.rows.specs.Rows.{Ascends, last_key}
+use Rattle.page_format.specs.Spans.{reach}
+use Rattle.page_format.specs.Sound.{row_bytes}
+use Rattle.page_format.specs.Node.{Child, children, begins_at, first_keys, is_page_below, leaf_rows, IsWellFormed}
 use Rattle.node_edit.specs.declared.fit.Fit.{Fit}
 use Rattle.node_edit.specs.declared.fit.Fit.TheVariants as fits
 use Rattle.node_edit.specs.declared.pair.Pair.{Pair}

@@ -1,9 +1,9 @@
 -- Where the record of a key stands.
 use Rattle.std.specs.Prelude.{◌≡◌, ◌≤◌, ◌⊎◌, ℕ, List, length, Some}
-use Rattle.slotted_page.specs.Rows.{Row, row_get}
-use Rattle.slotted_page.specs.Room.{leaf_room, leaf_floor}
-use Rattle.slotted_page.specs.Node.{Slot, leaf_rows}
-use Rattle.slotted_page.specs.Sound.{slot_of, row_bytes}
+use Rattle.rows.specs.Rows.{Row, row_get}
+use Rattle.page_format.specs.Room.{leaf_room, leaf_floor}
+use Rattle.page_format.specs.Node.{Slot, leaf_rows}
+use Rattle.page_format.specs.Sound.{slot_of, row_bytes}
 use Rattle.node_edit.specs.Edit.{place_of}
 
 -- where the record of a key stands in a leaf that has the key

@@ -1,12 +1,12 @@
 //! Changes of the children of an inner page, in memory.
 ghost use Rattle.std.specs.Prelude.{◌≡◌, ◌≢◌, ◌+◌, ◌*◌, ◌<◌, ◌≤◌, ◌⊎◌, ◌||◌, ℕ, List, length, ◌∷◌, ◌++◌, get_or, Option, Some, None, true, false, nat_le};
-ghost use Rattle.slotted_page.specs.Spans.{reach};
-ghost use Rattle.page_space.specs.Written.{lines_changed};
+ghost use Rattle.page_format.specs.Spans.{reach};
+ghost use Rattle.page_alloc.specs.Written.{lines_changed};
 ghost use Rattle.std.specs.List.{insert, remove, list_all};
 ghost use Rattle.ssd_model.specs.Page.{Same};
-ghost use Rattle.slotted_page.specs.Rows.{Ascends, last_key};
-ghost use Rattle.slotted_page.specs.Node.{Child, IsWellFormed, entry_count, page_level, first_keys, begins_at, is_page_below, children as children_of};
-ghost use Rattle.slotted_page.specs.Inner.{IsInner, IsBranch};
+ghost use Rattle.rows.specs.Rows.{Ascends, last_key};
+ghost use Rattle.page_format.specs.Node.{Child, IsWellFormed, entry_count, page_level, first_keys, begins_at, is_page_below, children as children_of};
+ghost use Rattle.page_format.specs.Inner.{IsInner, IsBranch};
 ghost use Rattle.node_edit.specs.declared.fit.Fit.TheVariants as fits;
 ghost use Rattle.node_edit.specs.Edit.{Fits, child_put, place_of, has_key, AreChildren, both, joined, IsCutIn, IsPair, PairsUp, Mended};
 
@@ -14,7 +14,7 @@ use crate::fit::Fit;
 use crate::leaf_edit::top_of;
 use crate::pair::Pair;
 use page_edit::{inner_cut, inner_insert, inner_remove};
-use slotted_page::{Expect, child_key, children};
+use page_format::{Expect, child_key, children};
 use ssd_model::PageBuf;
 
 /// What an inner page of a tree is in itself.

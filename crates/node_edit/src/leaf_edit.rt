@@ -2,19 +2,20 @@
 ghost use Rattle.std.specs.Prelude.{◌≡◌, ◌≢◌, ◌+◌, ◌*◌, ◌<◌, ◌≤◌, ◌⊎◌, ℕ, List, ◌||◌, length, get_or, true, false, nat_le};
 ghost use Rattle.std.specs.List.{insert, remove, list_all};
 ghost use Rattle.ssd_model.specs.Page.{Same};
-ghost use Rattle.slotted_page.specs.Rows.{Row, row_put, row_delete, keys, Ascends, last_key};
-ghost use Rattle.slotted_page.specs.Node.{IsLeaf, IsWellFormed, entry_count, heap_start, is_printable, leaf_rows as rows_of};
-ghost use Rattle.slotted_page.specs.Room.{leaf_room};
-ghost use Rattle.slotted_page.specs.Sound.{IsSound, IsRows, row_bytes};
+ghost use Rattle.rows.specs.Rows.{Row, row_put, row_delete, keys, Ascends, last_key};
+ghost use Rattle.page_format.specs.Node.{IsLeaf, IsWellFormed, entry_count, heap_start, leaf_rows as rows_of};
+ghost use Rattle.rows.specs.Value.{is_printable};
+ghost use Rattle.page_format.specs.Room.{leaf_room};
+ghost use Rattle.page_format.specs.Sound.{IsSound, IsRows, row_bytes};
 ghost use Rattle.page_edit.specs.Packed.{IsPacked, AddsBelow};
 ghost use Rattle.node_edit.specs.declared.fit.Fit.TheVariants as fits;
 ghost use Rattle.node_edit.specs.Edit.{Fits, place_of, has_key};
-ghost use Rattle.page_space.specs.Written.{Differs, Meets, lines_changed};
+ghost use Rattle.page_alloc.specs.Written.{Differs, Meets, lines_changed};
 ghost use Rattle.node_edit.specs.Record.{record_at, FitsLeaf, HoldsLength};
 
 use crate::fit::Fit;
 use page_edit::{leaf_cut, leaf_insert, leaf_remove, leaf_set};
-use slotted_page::{Expect, leaf_key, leaf_rows, leaf_used, leaf_value};
+use page_format::{Expect, leaf_key, leaf_rows, leaf_used, leaf_value};
 use ssd_model::PageBuf;
 
 /// What a leaf is in itself.

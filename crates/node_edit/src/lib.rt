@@ -1,5 +1,6 @@
-//! Changes of the leaves and inner pages of a tree, in memory: rows and children put in and taken out, pages cut and
-//! joined. Each says what the bytes are afterwards, within the bounds that the page has; no device is called.
+//! Changes of the nodes of a tree in memory, by the changes of bytes of `page_edit`: rows and children put in and taken out, and
+//! nodes cut, joined and divided anew as their fill asks. Each says what one node or two are afterwards, within the bounds that
+//! the node has; no device is called.
 #![tactic(auto)]
 
 mod fit;
@@ -7,8 +8,6 @@ mod inner_edit;
 mod leaf_edit;
 mod merge;
 mod pair;
-#[cfg(test)]
-mod tests;
 
 pub use fit::Fit;
 pub use inner_edit::{inner_put, mend_divided, mend_joined};

@@ -1,14 +1,14 @@
 //! Two neighbours joined in memory.
 ghost use Rattle.std.specs.Prelude.{◌≡◌, ◌+◌, ◌-◌, ◌<◌, ◌≤◌, ◌⊎◌, ◌++◌, ℕ, List, length, Option, None, Some, true, false};
-ghost use Rattle.slotted_page.specs.Node.{IsWellFormed, leaf_rows as rows_of, children as children_of};
-ghost use Rattle.slotted_page.specs.Sound.{row_bytes};
+ghost use Rattle.page_format.specs.Node.{IsWellFormed, leaf_rows as rows_of, children as children_of};
+ghost use Rattle.page_format.specs.Sound.{row_bytes};
 ghost use Rattle.node_edit.specs.Edit.{left_of, right_of, whole_of, Merges, IsEnoughLeaf, IsEnoughInner, IsCutIn, IsPair};
 
 use crate::inner_edit::enter as enter_inner;
 use crate::leaf_edit::{enter, open_leaf, top_of};
 use crate::pair::Pair;
 use page_edit::{inner_join, leaf_join};
-use slotted_page::{Expect, child_key, children, leaf_key, leaf_used};
+use page_format::{Expect, child_key, children, leaf_key, leaf_used};
 use ssd_model::PageBuf;
 
 /// What is expected of the left one of two neighbours.

@@ -2,13 +2,13 @@
 ghost use Rattle.std.specs.Prelude.{◌≡◌, ◌+◌, ◌*◌, ◌<◌, ◌≤◌, ◌∷◌, ◌++◌, [], ℕ, List, length, get_or};
 ghost use Rattle.ssd_model.specs.Page.{Same};
 ghost use Rattle.line_pages.specs.Bytes.{u64_at};
-ghost use Rattle.slotted_page.specs.Spans.{reach};
-ghost use Rattle.slotted_page.specs.Node.{Child, IsWellFormed, page_kind, page_level, entry_count, children as children_of};
+ghost use Rattle.page_format.specs.Spans.{reach};
+ghost use Rattle.page_format.specs.Node.{Child, IsWellFormed, page_kind, page_level, entry_count, children as children_of};
 ghost use Rattle.node_edit.specs.Edit.{IsPair, PairsUp, IsNewRoot};
 
 use crate::inner_edit::{child_at, enter};
 use line_pages::set_page_word;
-use slotted_page::{Expect, child, child_key};
+use page_format::{Expect, child, child_key};
 use ssd_model::PageBuf;
 
 /// Two neighbouring children: their pages and first keys, and the greatest key of the second.

@@ -2,3 +2,4 @@ pub mod WordLaws
 pub mod HeldLaws
 pub mod MemoryLaws
 pub mod ImageLaws
+pub mod PieceLaws

@@ -4,3 +4,4 @@ pub mod Choose
 pub mod Held
 pub mod Progress
 pub mod Contents
+pub mod LineBytes

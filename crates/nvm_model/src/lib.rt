@@ -6,8 +6,6 @@
 
 mod line;
 mod state;
-#[cfg(test)]
-mod tests;
 mod versions;
 mod words;
 

@@ -2,13 +2,13 @@
 use Rattle.std.proofs.Common.{◌≡◌, ℕ, ◌+◌, ◌-◌, ◌<◌, ◌≤◌, List, [], ◌∷◌, ◌++◌, length, get_or, slice_range, refl, ap, sym, subst, ◌∙◌, arith, append_assoc, append-nil}
 use Rattle.std.specs.List.{insert}
 use Rattle.std.proofs.lemmas.List.Edits.{insert_end, between_none}
-use Rattle.slotted_page.specs.Rows.{Row}
-use Rattle.slotted_page.specs.Node.{Slot, slots, leaf_rows, page_kind, page_level, entry_count, heap_start}
+use Rattle.rows.specs.Rows.{Row}
+use Rattle.page_format.specs.Node.{Slot, slots, leaf_rows, page_kind, page_level, entry_count, heap_start}
 use Rattle.page_edit.specs.Packed.{Descends, IsPackedInOrder}
-use Rattle.slotted_page.specs.Sound.{row_bytes}
-use Rattle.slotted_page.specs.Room.{row_size}
-use Rattle.slotted_page.proofs.RowLemmas.{row_bytes-nil, row_bytes-push, row_bytes-append}
-use Rattle.slotted_page.proofs.SlotLemmas.{length-slots}
+use Rattle.page_format.specs.Sound.{row_bytes}
+use Rattle.page_format.specs.Room.{row_size}
+use Rattle.page_format.proofs.RowLemmas.{row_bytes-nil, row_bytes-push, row_bytes-append}
+use Rattle.page_format.proofs.SlotLemmas.{length-slots}
 use Rattle.page_edit.proofs.PartLemmas.{part_more, part_bytes}
 
 -- a leaf with no slot

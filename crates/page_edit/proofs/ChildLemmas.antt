@@ -5,12 +5,12 @@ use Rattle.std.proofs.lemmas.Bool.{cases_lt, cases_eq}
 use Rattle.std.proofs.lemmas.List.{get_or_append_left, get_or-append_right, get_or-take, length-take-le, length-drop}
 use Rattle.std.proofs.lemmas.List.Edits.{length-insert, get_or-insert_below, get_or-insert_at, get_or-insert_above, length-remove, get_or-remove_below, get_or-remove_above, length-between, get_or-between}
 use Rattle.ssd_model.specs.Page.{Same, Moved}
-use Rattle.slotted_page.specs.Node.{Child, children, entry_count, first_keys, page_level}
-use Rattle.slotted_page.specs.Rows.{Ascends, last_key}
+use Rattle.page_format.specs.Node.{Child, children, entry_count, first_keys, page_level}
+use Rattle.rows.specs.Rows.{Ascends, last_key}
 use Rattle.page_edit.specs.Cut.{children_left}
-use Rattle.slotted_page.specs.Inner.{IsInner, IsBranch, entry_of}
+use Rattle.page_format.specs.Inner.{IsInner, IsBranch, entry_of}
 use Rattle.line_pages.proofs.NumberLaws.{u64_at-same, u64_at-moved}
-use Rattle.slotted_page.proofs.InnerLemmas.{length_children, child_at, children_are}
+use Rattle.page_format.proofs.InnerLemmas.{length_children, child_at, children_are}
 
 pub entry-same : (from end i : ℕ) (old new : List ℕ) → Same from end old new → from ≤ 64 + 16 * i → 80 + 16 * i ≤ end → entry_of new i ≡ entry_of old i
 entry-same from end i old new same low high =

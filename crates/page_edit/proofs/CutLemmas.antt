@@ -5,11 +5,11 @@ use Rattle.std.proofs.lemmas.Bool.{eq-eqb, ne_eqb, cases_eq, leb-true, and_parts
 use Rattle.std.proofs.lemmas.List.{map-append, drop_more, drop-drop, take-append-le, drop-append-le, take-take, length-take-le, take_rest, take-map, drop-map, length-map}
 use Rattle.std.proofs.lemmas.List.Sums.{sum_by-cons, sum_by-take-drop}
 use Rattle.std.proofs.lemmas.Slice.{between_is, between_from_start}
-use Rattle.slotted_page.specs.Rows.{Row}
+use Rattle.rows.specs.Rows.{Row}
 use Rattle.page_edit.specs.Cut.{needed, rows_left, IsShortestHalf, IsCut, IsFilled}
-use Rattle.slotted_page.specs.Room.{sizes, row_size}
-use Rattle.slotted_page.specs.Sound.{row_bytes}
-use Rattle.slotted_page.proofs.RowLemmas.{row_bytes-append, row_bytes-cons}
+use Rattle.page_format.specs.Room.{sizes, row_size}
+use Rattle.page_format.specs.Sound.{row_bytes}
+use Rattle.page_format.proofs.RowLemmas.{row_bytes-append, row_bytes-cons}
 
 needed_none : (xs : List ℕ) → needed 0 xs ≡ 0
 needed_none [] = refl

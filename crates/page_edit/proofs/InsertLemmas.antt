@@ -5,10 +5,10 @@ use Rattle.std.proofs.lemmas.Bool.{le-leb, and_parts, cases_lt, cases_eq}
 use Rattle.std.proofs.lemmas.List.{map-append, take-map, drop-map, same_lists}
 use Rattle.std.proofs.lemmas.List.Edits.{length-insert, get_or-insert_below, get_or-insert_at, get_or-insert_above}
 use Rattle.ssd_model.specs.Page.{Same, Moved}
-use Rattle.slotted_page.specs.Rows.{Row}
-use Rattle.slotted_page.specs.Node.{Slot, slots, row_in, leaf_rows, page_kind, page_level, entry_count, heap_start, is_in_heap, are_apart, all_apart}
-use Rattle.slotted_page.specs.Sound.{IsSound, slot_of}
-use Rattle.slotted_page.proofs.SlotLemmas.{length-slots, slot_at, in_heap_one, in_heap_is}
+use Rattle.rows.specs.Rows.{Row}
+use Rattle.page_format.specs.Node.{Slot, slots, row_in, leaf_rows, page_kind, page_level, entry_count, heap_start, is_in_heap, are_apart, all_apart}
+use Rattle.page_format.specs.Sound.{IsSound, slot_of}
+use Rattle.page_format.proofs.SlotLemmas.{length-slots, slot_at, in_heap_one, in_heap_is}
 use Rattle.std.proofs.Math.Bool.{or-true}
 use Rattle.line_pages.proofs.NumberLaws.{u16_at-same, u64_at-same, range-same, u16_at-moved}
 

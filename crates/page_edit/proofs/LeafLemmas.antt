@@ -3,16 +3,16 @@ use Rattle.std.proofs.Common.{◌≡◌, ℕ, zero, suc, ◌+◌, ◌<◌, ◌�
 use Rattle.std.specs.List.{insert, list_all}
 use Rattle.std.proofs.lemmas.Bool.{le-leb, and_parts}
 use Rattle.std.proofs.lemmas.List.Edits.{length-between}
-use Rattle.slotted_page.specs.Rows.{Row, keys, Ascends, last_key}
-use Rattle.slotted_page.specs.Room.{row_size}
+use Rattle.rows.specs.Rows.{Row, keys, Ascends, last_key}
+use Rattle.page_format.specs.Room.{row_size}
 use Rattle.page_edit.specs.Cut.{rows_left, IsFilled}
-use Rattle.slotted_page.specs.Node.{Slot, slots, row_in, leaf_rows, entry_count, heap_start, is_in_heap, has_printable_value, IsLeaf}
-use Rattle.slotted_page.specs.Sound.{IsSound, IsRows, row_bytes, slot_of}
+use Rattle.page_format.specs.Node.{Slot, slots, row_in, leaf_rows, entry_count, heap_start, is_in_heap, has_printable_value, IsLeaf}
+use Rattle.page_format.specs.Sound.{IsSound, IsRows, row_bytes, slot_of}
 use Rattle.page_edit.specs.Join.{IsJoined, IsDivided}
 use Rattle.page_edit.specs.Packed.{IsPackedInOrder}
-use Rattle.slotted_page.proofs.FactLemmas.{leaf_is}
-use Rattle.slotted_page.proofs.SlotLemmas.{in_heap_one, slot_inside, row_at}
-use Rattle.slotted_page.proofs.RowLemmas.{row_bytes-cons, row_bytes-insert}
+use Rattle.page_format.proofs.FactLemmas.{leaf_is}
+use Rattle.page_format.proofs.SlotLemmas.{in_heap_one, slot_inside, row_at}
+use Rattle.page_format.proofs.RowLemmas.{row_bytes-cons, row_bytes-insert}
 use Rattle.page_edit.proofs.InsertLemmas.{all_insert}
 use Rattle.page_edit.proofs.CutLemmas.{is_small, Fit, cut_fits, cut_is}
 

@@ -3,8 +3,8 @@ use Rattle.std.proofs.Common.{◌≡◌, ℕ, zero, suc, ◌+◌, ◌-◌, ◌<�
 use Rattle.std.specs.List.{insert}
 use Rattle.std.proofs.lemmas.List.{length-map, map-append}
 use Rattle.std.proofs.lemmas.List.Edits.{insert_end}
-use Rattle.slotted_page.specs.Node.{Child, first_keys}
-use Rattle.slotted_page.specs.Rows.{Row, keys, Ascends, AllBelow, AllAbove}
+use Rattle.page_format.specs.Node.{Child, first_keys}
+use Rattle.rows.specs.Rows.{Row, keys, Ascends, AllBelow, AllAbove}
 
 -- all are above a key that does not count
 pub Ascends-raise : (low high key : ℕ) (rows : List Row) → Ascends low high (keys rows) → AllAbove key rows → Ascends (key + 1) high (keys rows)

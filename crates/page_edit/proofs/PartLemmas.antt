@@ -1,10 +1,10 @@
 -- The bytes that parts of rows take.
 use Rattle.std.proofs.Common.{◌≡◌, ℕ, zero, suc, ◌+◌, ◌-◌, ◌<◌, ◌≤◌, List, [], ◌∷◌, ◌++◌, length, take, drop, get_or, slice_range, ap, sym, ◌∙◌, arith, take-append-drop}
 use Rattle.std.proofs.lemmas.List.Edits.{between_more, between_none}
-use Rattle.slotted_page.specs.Rows.{Row}
-use Rattle.slotted_page.specs.Room.{row_size}
-use Rattle.slotted_page.specs.Sound.{row_bytes}
-use Rattle.slotted_page.proofs.RowLemmas.{row_bytes-append, row_bytes-nil, row_bytes-push}
+use Rattle.rows.specs.Rows.{Row}
+use Rattle.page_format.specs.Room.{row_size}
+use Rattle.page_format.specs.Sound.{row_bytes}
+use Rattle.page_format.proofs.RowLemmas.{row_bytes-append, row_bytes-nil, row_bytes-push}
 
 -- one row more of a part
 pub part_more : (xs : List Row) (from i : ℕ) (d : Row) → from ≤ i → i < length xs → slice_range xs from (i + 1) ≡ slice_range xs from i ++ get_or xs i d ∷ []

@@ -5,11 +5,11 @@ use Rattle.std.proofs.lemmas.Bool.{and_parts, cases_lt}
 use Rattle.std.proofs.lemmas.List.{map-append, take-map, drop-map, same_lists}
 use Rattle.std.proofs.lemmas.List.Edits.{length-remove, get_or-remove_below, get_or-remove_above}
 use Rattle.ssd_model.specs.Page.{Same}
-use Rattle.slotted_page.specs.Rows.{Row, keys, Ascends, last_key}
-use Rattle.slotted_page.specs.Node.{Slot, slots, row_in, leaf_rows, page_kind, page_level, entry_count, heap_start, is_in_heap, are_apart, all_apart, has_printable_value}
-use Rattle.slotted_page.specs.Sound.{IsSound, IsRows, slot_of, row_bytes}
-use Rattle.slotted_page.proofs.SlotLemmas.{length-slots, slot_at}
-use Rattle.slotted_page.proofs.RowLemmas.{row_bytes-cons}
+use Rattle.rows.specs.Rows.{Row, keys, Ascends, last_key}
+use Rattle.page_format.specs.Node.{Slot, slots, row_in, leaf_rows, page_kind, page_level, entry_count, heap_start, is_in_heap, are_apart, all_apart, has_printable_value}
+use Rattle.page_format.specs.Sound.{IsSound, IsRows, slot_of, row_bytes}
+use Rattle.page_format.proofs.SlotLemmas.{length-slots, slot_at}
+use Rattle.page_format.proofs.RowLemmas.{row_bytes-cons}
 use Rattle.page_edit.proofs.InsertLemmas.{rows_same}
 
 -- What the bytes of a leaf are after a slot was taken out.

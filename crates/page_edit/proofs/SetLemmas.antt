@@ -5,9 +5,9 @@ use Rattle.std.proofs.lemmas.Bool.{leb-true, and_parts, cases_lt, cases_eq, case
 use Rattle.std.proofs.lemmas.List.{same_lists, length-set, get_or-set_same, get_or-set_other}
 use Rattle.ssd_model.specs.Page.{Same}
 use Rattle.line_pages.specs.Bytes.{u64_at}
-use Rattle.slotted_page.specs.Node.{Slot, slots, row_in, leaf_rows, page_kind, page_level, entry_count, heap_start, are_apart, all_apart}
-use Rattle.slotted_page.specs.Sound.{IsSound, slot_of}
-use Rattle.slotted_page.proofs.SlotLemmas.{length-slots, length_rows, slot_at, row_at, slot_inside}
+use Rattle.page_format.specs.Node.{Slot, slots, row_in, leaf_rows, page_kind, page_level, entry_count, heap_start, are_apart, all_apart}
+use Rattle.page_format.specs.Sound.{IsSound, slot_of}
+use Rattle.page_format.proofs.SlotLemmas.{length-slots, length_rows, slot_at, row_at, slot_inside}
 use Rattle.page_edit.proofs.InsertLemmas.{row_in-same}
 
 all_at : {X : Type 0} (p : X → Bool) (xs : List X) (i : ℕ) (d : X) → list_all p xs ≡ true → i < length xs → p (get_or xs i d) ≡ true

@@ -1,8 +1,8 @@
 -- How the rows of a leaf, and the children of an inner page, are divided.
 use Rattle.std.specs.Prelude.{◌≡◌, ℕ, suc, ◌+◌, ◌-◌, ◌*◌, ◌/◌, ◌<◌, ◌≤◌, List, [], ◌∷◌, ◌++◌, length, sum, take, ◌==◌, if◌then◌else◌}
-use Rattle.slotted_page.specs.Rows.{Row}
-use Rattle.slotted_page.specs.Room.{sizes}
-use Rattle.slotted_page.specs.Sound.{row_bytes}
+use Rattle.rows.specs.Rows.{Row}
+use Rattle.page_format.specs.Room.{sizes}
+use Rattle.page_format.specs.Sound.{row_bytes}
 
 -- how many of the sizes, from the front, it takes until twice their sum is at least `goal`
 abbrev pub needed : ℕ → List ℕ → ℕ

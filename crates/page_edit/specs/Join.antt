@@ -1,10 +1,10 @@
 -- What two pages are after a join.
 use Rattle.std.specs.Prelude.{◌≡◌, ℕ, ◌<◌, ◌≤◌, ◌++◌, List, length, take, drop}
 use Rattle.line_pages.specs.Bytes.{u64_at}
-use Rattle.slotted_page.specs.Room.{leaf_room, leaf_floor, inner_room}
-use Rattle.slotted_page.specs.Node.{page_level, leaf_rows, children, IsLeaf}
-use Rattle.slotted_page.specs.Sound.{row_bytes}
-use Rattle.slotted_page.specs.Inner.{IsBranch}
+use Rattle.page_format.specs.Room.{leaf_room, leaf_floor, inner_room}
+use Rattle.page_format.specs.Node.{page_level, leaf_rows, children, IsLeaf}
+use Rattle.page_format.specs.Sound.{row_bytes}
+use Rattle.page_format.specs.Inner.{IsBranch}
 use Rattle.page_edit.specs.Cut.{rows_left, IsCut, IsFilled, children_left}
 use Rattle.page_edit.specs.Packed.{IsPackedInOrder}
 

@@ -2,8 +2,8 @@
 use Rattle.std.specs.Prelude.{◌≡◌, ℕ, ◌+◌, ◌*◌, List, [], ◌∷◌}
 use Rattle.std.specs.List.{insert}
 use Rattle.ssd_model.specs.Page.{Same}
-use Rattle.slotted_page.specs.Node.{Slot, slots, entry_count, heap_start, leaf_rows}
-use Rattle.slotted_page.specs.Sound.{IsSound, row_bytes}
+use Rattle.page_format.specs.Node.{Slot, slots, entry_count, heap_start, leaf_rows}
+use Rattle.page_format.specs.Sound.{IsSound, row_bytes}
 
 -- the records stand without a gap up to the page's end
 pub record IsPacked (bytes : List ℕ) : Type 0 where

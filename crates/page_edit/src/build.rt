@@ -1,13 +1,13 @@
 //! Packed leaves: no rows at first, then rows one behind another, each record just below the one before.
 ghost use Rattle.std.specs.Prelude.{◌≡◌, ◌+◌, ◌*◌, ◌<◌, ◌≤◌, ℕ, List, [], ◌∷◌, ◌++◌, length, slice_range};
 ghost use Rattle.ssd_model.specs.Page.{Same};
-ghost use Rattle.slotted_page.specs.Node.{entry_count, heap_start, leaf_rows as rows_of};
-ghost use Rattle.slotted_page.specs.Sound.{IsSound, row_bytes};
+ghost use Rattle.page_format.specs.Node.{entry_count, heap_start, leaf_rows as rows_of};
+ghost use Rattle.page_format.specs.Sound.{IsSound, row_bytes};
 ghost use Rattle.page_edit.specs.Packed.{IsPackedInOrder};
 
 use crate::edit::insert_here;
 use line_pages::set_page_word;
-use slotted_page::{leaf_key, leaf_rows, leaf_value};
+use page_format::{leaf_key, leaf_rows, leaf_value};
 use ssd_model::PageBuf;
 
 /// Makes a leaf of no rows.

@@ -1,15 +1,16 @@
 //! A leaf cut in two with a new row.
 ghost use Rattle.std.specs.Prelude.{◌≡◌, ◌+◌, ◌-◌, ◌*◌, ◌<◌, ◌≤◌, ℕ, List, [], ◌∷◌, ◌++◌, true, length, slice_range, take, drop};
 ghost use Rattle.std.specs.List.{insert, list_all};
-ghost use Rattle.slotted_page.specs.Rows.{Ascends, keys, last_key};
+ghost use Rattle.rows.specs.Rows.{Ascends, keys, last_key};
 ghost use Rattle.page_edit.specs.Cut.{needed, rows_left, IsCut, IsFilled};
-ghost use Rattle.slotted_page.specs.Room.{sizes};
-ghost use Rattle.slotted_page.specs.Node.{IsLeaf, is_printable, leaf_rows as rows_of};
-ghost use Rattle.slotted_page.specs.Sound.{IsSound, row_bytes};
+ghost use Rattle.page_format.specs.Room.{sizes};
+ghost use Rattle.page_format.specs.Node.{IsLeaf, leaf_rows as rows_of};
+ghost use Rattle.rows.specs.Value.{is_printable};
+ghost use Rattle.page_format.specs.Sound.{IsSound, row_bytes};
 ghost use Rattle.page_edit.specs.Packed.{IsPackedInOrder};
 
 use crate::build::{clear_leaf, push_row, push_rows};
-use slotted_page::{leaf_value, open_leaf};
+use page_format::{leaf_value, open_leaf};
 use ssd_model::PageBuf;
 
 /// The bytes that some rows of a leaf take.
@@ -29,7 +30,7 @@ pub fn part_bytes(page: &PageBuf, start: usize, end: usize) -> usize
 }
 
 /// How many of some rows of a leaf it takes until twice their bytes reach a number.
-#[tactic(auto, using(slotted_page::proofs::SlotLemmas::length_rows))]
+#[tactic(auto, using(page_format::proofs::SlotLemmas::length_rows))]
 pub fn part_needed(page: &PageBuf, start: usize, end: usize, all: usize) -> usize
     requires sound { IsSound page.now }
     requires order { start ≤ end }

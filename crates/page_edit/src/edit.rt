@@ -1,14 +1,14 @@
 //! The bytes of a leaf: a row put in, taken out or given another value.
 ghost use Rattle.std.specs.Prelude.{get_or, slice_set, ◌≡◌, ◌+◌, ◌*◌, ◌<◌, ◌≤◌, ℕ, List, length};
 ghost use Rattle.std.specs.List.{insert, remove};
-ghost use Rattle.slotted_page.specs.Rows.{Row};
+ghost use Rattle.rows.specs.Rows.{Row};
 ghost use Rattle.ssd_model.specs.Page.{Same, Moved};
 ghost use Rattle.line_pages.specs.Bytes.{u16_at, u64_at};
-ghost use Rattle.slotted_page.specs.Node.{entry_count, heap_start, row_in, Slot, slots, leaf_rows as rows_of};
-ghost use Rattle.slotted_page.specs.Sound.{IsSound, slot_of};
+ghost use Rattle.page_format.specs.Node.{entry_count, heap_start, row_in, Slot, slots, leaf_rows as rows_of};
+ghost use Rattle.page_format.specs.Sound.{IsSound, slot_of};
 
 use line_pages::{page_word, set_page_half, set_page_word};
-use slotted_page::place_of;
+use page_format::place_of;
 use ssd_model::PageBuf;
 
 /// Writes a record: its key, and behind it its value.

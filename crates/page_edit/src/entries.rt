@@ -2,8 +2,8 @@
 ghost use Rattle.std.specs.Prelude.{◌≡◌, ◌+◌, ◌*◌, ◌<◌, ◌≤◌, [], ◌++◌, slice_range, take};
 ghost use Rattle.std.specs.List.{insert, remove};
 ghost use Rattle.ssd_model.specs.Page.{Same};
-ghost use Rattle.slotted_page.specs.Node.{entry_count, page_level, children as children_of};
-ghost use Rattle.slotted_page.specs.Inner.{IsInner};
+ghost use Rattle.page_format.specs.Node.{entry_count, page_level, children as children_of};
+ghost use Rattle.page_format.specs.Inner.{IsInner};
 ghost use Rattle.page_edit.specs.Join.{unused_word};
 
 use line_pages::{page_word, set_page_word};

@@ -2,15 +2,15 @@
 ghost use Rattle.std.specs.Prelude.{◌≡◌, ◌+◌, ◌*◌, ◌<◌, ◌≤◌, ◌⊎◌, ℕ, List, ◌++◌, true, false, length, take, drop};
 ghost use Rattle.std.specs.List.{insert, remove};
 ghost use Rattle.ssd_model.specs.Page.{Same};
-ghost use Rattle.slotted_page.specs.Rows.{Ascends, last_key};
+ghost use Rattle.rows.specs.Rows.{Ascends, last_key};
 ghost use Rattle.page_edit.specs.Cut.{children_left};
-ghost use Rattle.slotted_page.specs.Node.{begins_at, entry_count, page_level, first_keys, children as children_of};
-ghost use Rattle.slotted_page.specs.Inner.{IsInner, IsBranch};
+ghost use Rattle.page_format.specs.Node.{begins_at, entry_count, page_level, first_keys, children as children_of};
+ghost use Rattle.page_format.specs.Inner.{IsInner, IsBranch};
 ghost use Rattle.page_edit.specs.Join.{IsJoinedBranch, IsDividedBranch, unused_word};
 
 use crate::entries::{clear_inner, insert_child, keep_children, push_children, remove_child};
 use line_pages::page_word;
-use slotted_page::children;
+use page_format::children;
 use ssd_model::PageBuf;
 
 /// Puts a child at a place of an inner page that has fewer than 240, where the keys stay in order.

@@ -2,19 +2,20 @@
 ghost use Rattle.std.specs.Prelude.{◌⊎◌, get_or, slice_set, ◌≡◌, ◌+◌, ◌*◌, ◌<◌, ◌≤◌, ℕ, List, true, length};
 ghost use Rattle.std.specs.List.{insert, remove, list_all};
 ghost use Rattle.ssd_model.specs.Page.{Same};
-ghost use Rattle.slotted_page.specs.Rows.{Row, Ascends, keys, last_key};
-ghost use Rattle.slotted_page.specs.Node.{IsLeaf, entry_count, heap_start, is_printable, slots, leaf_rows as rows_of};
+ghost use Rattle.rows.specs.Rows.{Row, Ascends, keys, last_key};
+ghost use Rattle.page_format.specs.Node.{IsLeaf, entry_count, heap_start, slots, leaf_rows as rows_of};
+ghost use Rattle.rows.specs.Value.{is_printable};
 ghost use Rattle.page_edit.specs.Packed.{IsPacked, IsPackedInOrder, AddsBelow, PutsBelow, PacksFirst, heap_for};
-ghost use Rattle.slotted_page.specs.Sound.{slot_of, IsSound, row_bytes};
+ghost use Rattle.page_format.specs.Sound.{slot_of, IsSound, row_bytes};
 
 use crate::build::pack;
 use crate::edit::{insert_here, remove_here, set_value};
 use line_pages::page_word;
-use slotted_page::open_leaf;
+use page_format::open_leaf;
 use ssd_model::PageBuf;
 
 /// Packs a leaf where a further record would not fit between its slots and its heap.
-#[tactic(auto, using(slotted_page::proofs::SlotLemmas::length_rows))]
+#[tactic(auto, using(page_format::proofs::SlotLemmas::length_rows))]
 fn make_room(page: &mut PageBuf, more: usize)
     requires sound { IsSound page.old }
     requires few { more ≤ 480 }

@@ -1,15 +1,15 @@
 //! Two leaves joined, or their rows divided anew.
 ghost use Rattle.std.specs.Prelude.{◌≡◌, ◌+◌, ◌*◌, ◌<◌, ◌≤◌, ◌⊎◌, ℕ, List, [], ◌∷◌, ◌++◌, true, false, length, slice_range, take, drop, if◌then◌else◌};
-ghost use Rattle.slotted_page.specs.Rows.{Ascends, keys, last_key};
+ghost use Rattle.rows.specs.Rows.{Ascends, keys, last_key};
 ghost use Rattle.page_edit.specs.Cut.{rows_left};
-ghost use Rattle.slotted_page.specs.Node.{IsLeaf, leaf_rows as rows_of};
-ghost use Rattle.slotted_page.specs.Sound.{IsSound, row_bytes};
+ghost use Rattle.page_format.specs.Node.{IsLeaf, leaf_rows as rows_of};
+ghost use Rattle.page_format.specs.Sound.{IsSound, row_bytes};
 ghost use Rattle.page_edit.specs.Packed.{IsPackedInOrder};
 ghost use Rattle.page_edit.specs.Join.{IsJoined, IsDivided};
 
 use crate::build::{clear_leaf, pack, push_rows};
 use crate::cut::{part_bytes, part_needed};
-use slotted_page::open_leaf;
+use page_format::open_leaf;
 use ssd_model::PageBuf;
 
 /// Adds some rows of one leaf and then some of another to a packed leaf.

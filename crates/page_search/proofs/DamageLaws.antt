@@ -2,15 +2,15 @@
 use Rattle.std.proofs.Common.{◌≡◌, ℕ, ◌+◌, ◌*◌, ◌<◌, Bool, true, false, refl, List, [], ◌∷◌, ◌++◌, Some, not, nat_eq, nat_le, ◌==◌, ◌&&◌, ◌||◌, inl, inr, sym, subst, ◌∙◌}
 use Rattle.std.specs.List.{list_all}
 use Rattle.std.proofs.lemmas.Bool.{cases_Bool, cases_eq, eq-eqb, ne_eqb}
-use Rattle.line_pages.specs.declared.stop.Evidence.TheVariants.{Page}
+use Rattle.damage.specs.declared.evidence.Evidence.TheVariants.{Page}
 use Rattle.line_pages.specs.Lines.{Lines}
 use Rattle.line_pages.specs.Bytes.{bytes_of}
-use Rattle.slotted_page.specs.declared.root.Expect.{Expect}
-use Rattle.slotted_page.specs.Checks.{first_failure, fails}
-use Rattle.slotted_page.specs.Rows.{keys, ascends}
-use Rattle.slotted_page.specs.Room.{leaf_room, leaf_floor, inner_room, inner_floor}
-use Rattle.slotted_page.specs.Node.{page_kind, page_level, entry_count, heap_start, slots, bytes_used, is_in_heap, all_apart, has_printable_value, begins_at, first_keys, is_page_below, leaf_rows, children, checks, first_failing}
-use Rattle.slotted_page.specs.Search.{is_root_span, IsNodeDamage, FailsNode}
+use Rattle.page_format.specs.declared.root.Expect.{Expect}
+use Rattle.damage.specs.Checks.{first_failure, fails}
+use Rattle.rows.specs.Rows.{keys, ascends}
+use Rattle.page_format.specs.Room.{leaf_room, leaf_floor, inner_room, inner_floor}
+use Rattle.page_format.specs.Node.{page_kind, page_level, entry_count, heap_start, slots, bytes_used, is_in_heap, all_apart, has_printable_value, begins_at, first_keys, is_page_below, leaf_rows, children, checks, first_failing}
+use Rattle.page_format.specs.Search.{is_root_span, IsNodeDamage, FailsNode}
 
 -- the same page, expected as a root or not
 abbrev pub as_root : Expect → Bool → Expect

@@ -1,9 +1,9 @@
 -- The first words of a well-formed page.
 use Rattle.std.proofs.Common.{◌≡◌, ◌≢◌, ℕ, true, List, refl, ◌∙◌, arith, nat_le, ◌==◌, ◌&&◌}
 use Rattle.std.proofs.lemmas.Bool.{le-leb}
-use Rattle.slotted_page.specs.declared.root.Expect.{Expect}
-use Rattle.slotted_page.specs.Node.{IsWellFormed}
-use Rattle.slotted_page.proofs.PageFacts.{leaf_facts, inner_facts}
+use Rattle.page_format.specs.declared.root.Expect.{Expect}
+use Rattle.page_format.specs.Node.{IsWellFormed}
+use Rattle.page_format.proofs.PageFacts.{leaf_facts, inner_facts}
 use Rattle.page_search.specs.declared.probe.Header.{Header}
 use Rattle.page_search.specs.Answers.{IsHeader}
 

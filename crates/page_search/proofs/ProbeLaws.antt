@@ -9,11 +9,11 @@ use Rattle.line_pages.specs.Lines.{Lines}
 use Rattle.line_pages.specs.Cost.{lines_of, AddsLines}
 use Rattle.line_pages.proofs.CostLaws.{AddsLines-trans, AddsLines-weaker, lines_then, length-lines_of}
 use Rattle.line_pages.specs.Bytes.{u16_at, bytes_of}
-use Rattle.slotted_page.specs.declared.root.Expect.{Expect}
-use Rattle.slotted_page.specs.Rows.{Each}
-use Rattle.slotted_page.specs.Node.{Slot, entry_count, heap_start, slots, bytes_used, is_in_heap, IsWellFormed}
-use Rattle.slotted_page.proofs.PageFacts.{leaf_facts, inner_facts}
-use Rattle.slotted_page.proofs.SlotLemmas.{length-slots, in_heap_one}
+use Rattle.page_format.specs.declared.root.Expect.{Expect}
+use Rattle.rows.specs.Rows.{Each}
+use Rattle.page_format.specs.Node.{Slot, entry_count, heap_start, slots, bytes_used, is_in_heap, IsWellFormed}
+use Rattle.page_format.proofs.PageFacts.{leaf_facts, inner_facts}
+use Rattle.page_format.proofs.SlotLemmas.{length-slots, in_heap_one}
 use Rattle.page_search.specs.Cost.{row_probe, child_probe, Probes, ProbesChildren, Searches, search_lines}
 
 -- a call that goes on with these lines

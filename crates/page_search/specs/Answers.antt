@@ -1,13 +1,13 @@
 -- What the search by single lines and the reading of a whole page answer.
 use Rattle.std.specs.Prelude.{◌≡◌, ℕ, true, List, Option, Some, None}
-use Rattle.line_pages.specs.declared.stop.Evidence.{Evidence}
-use Rattle.line_pages.specs.declared.stop.Evidence.TheVariants.{Super, Frames, Log, Page, Walk}
+use Rattle.damage.specs.declared.evidence.Evidence.{Evidence}
+use Rattle.damage.specs.declared.evidence.Evidence.TheVariants.{Super, Frames, Log, Page, Walk}
 use Rattle.line_pages.specs.declared.stop.Stop.{Stop}
 use Rattle.line_pages.specs.declared.stop.Stop.TheVariants.{Nvm, Ssd, Damaged}
-use Rattle.slotted_page.specs.declared.root.Expect.{Expect}
-use Rattle.slotted_page.specs.declared.spot.Spot.{Spot}
-use Rattle.slotted_page.specs.Node.{page_kind, page_level, entry_count, first_failing}
-use Rattle.slotted_page.specs.Search.{is_root_span, IsSpot, IsSafeSpot}
+use Rattle.page_format.specs.declared.root.Expect.{Expect}
+use Rattle.page_format.specs.declared.spot.Spot.{Spot}
+use Rattle.page_format.specs.Node.{page_kind, page_level, entry_count, first_failing}
+use Rattle.page_format.specs.Search.{is_root_span, IsSpot, IsSafeSpot}
 use Rattle.page_search.specs.declared.probe.Header.{Header}
 
 -- The right answer of a search that answers nothing where something looks odd, which it does not on a well-formed page.

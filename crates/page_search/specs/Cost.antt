@@ -2,8 +2,8 @@
 use Rattle.std.specs.Prelude.{◌≡◌, ℕ, zero, suc, ◌+◌, ◌-◌, ◌*◌, ◌^◌, ◌<◌, ◌≤◌, List, ◌∷◌, ◌++◌, length, flat_map}
 use Rattle.line_pages.specs.Bytes.{u16_at}
 use Rattle.line_pages.specs.Cost.{lines_of}
-use Rattle.slotted_page.specs.Rows.{Each}
-use Rattle.slotted_page.specs.Node.{entry_count}
+use Rattle.rows.specs.Rows.{Each}
+use Rattle.page_format.specs.Node.{entry_count}
 
 -- the probe of a row: its slot before the key of its record
 abbrev pub row_probe : List ℕ → ℕ → List ℕ

@@ -7,8 +7,6 @@
 mod probe;
 mod read;
 mod search;
-#[cfg(test)]
-mod tests;
 
 pub use read::read_page;
 pub use search::find;

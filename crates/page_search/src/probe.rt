@@ -1,15 +1,16 @@
 //! The search in a page by the lines that a binary search probes.
 ghost use Rattle.std.specs.Prelude.{◌≡◌, ◌+◌, ◌*◌, ◌<◌, ◌≤◌, ◌&&◌, ◌||◌, ◌==◌, ℕ, List, [], ◌∷◌, true, false, Some, nat_lt, nat_le, if◌then◌else◌, IsTrue, OnOk, IfOk};
+ghost use Rattle.line_pages.specs.PagesCall.{PagesCall};
 ghost use Rattle.line_pages.specs.Bytes.{u16_at, bytes_of};
 ghost use Rattle.line_pages.specs.Touch.{begins};
 ghost use Rattle.line_pages.specs.Cost.{lines_of, AddsLines, Costs};
-ghost use Rattle.line_pages.specs.Standing.{Continues, HasCause, Never, ReadsPage};
-ghost use Rattle.slotted_page.specs.Node.{entry_count, IsWellFormed};
+ghost use Rattle.line_pages.specs.Standing.{HasCause, Never, ReadsPage};
+ghost use Rattle.page_format.specs.Node.{entry_count, IsWellFormed};
 ghost use Rattle.page_search.specs.Answers.{IsHeader, IsRightSpot, IsSafeAnswer, IsOfLevel};
 ghost use Rattle.page_search.specs.Cost.{row_probe, Probes, ProbesChildren, Searches, most_lines};
 
 use line_pages::{Pages, Stop, read_half, read_word};
-use slotted_page::{Expect, Spot};
+use page_format::{Expect, Spot};
 
 /// The first words of a page.
 #[derive(Clone, Copy)]
@@ -35,13 +36,11 @@ pub fn probe<P: Pages>(
     ensures level { IsTrue (P.standing pages.old).told → IfOk result (IsOfLevel (bytes_of (P.standing pages.old).current page) expect.now) }
     ensures safe { IfOk result (IsSafeAnswer expect.now key) }
     ensures cause { HasCause Never (P.standing pages.old) (P.standing pages.new) result }
-    ensures continues { Continues (P.may_leave pages.old) (P.may_leave pages.new) (P.is_steady pages.old) (P.standing pages.old) (P.standing pages.new) }
+    ensures call { PagesCall P.Pages pages.old pages.new result }
     ensures reads { OnOk result (ReadsPage page (P.standing pages.old) (P.standing pages.new)) }
     ensures lines { IsTrue (P.standing pages.old).told → IsWellFormed (bytes_of (P.standing pages.old).current page) expect.now → OnOk result (AddsLines (Searches expect.now.level (bytes_of (P.standing pages.old).current page)) (P.standing pages.old) (P.standing pages.new)) }
     ensures bound { OnOk result (Costs (most_lines expect.now.level) (P.standing pages.old) (P.standing pages.new)) }
     ensures few { (P.standing pages.new).visits ≤ (P.standing pages.old).visits + 1 }
-    ensures ready { OnOk result (P.is_ready pages.new) }
-    ensures steady { P.is_steady pages.old → OnOk result (P.is_steady pages.new) }
 {
     let header = read_header(pages, page)?;
     if !header_fits(&header, expect) {
@@ -60,12 +59,10 @@ fn read_header<P: Pages>(pages: &mut P, page: u64) -> Result<Header, Stop>
     requires page { page < (P.standing pages.old).count }
     ensures header { IsTrue (P.standing pages.old).told → IfOk result (IsHeader (bytes_of (P.standing pages.old).current page)) }
     ensures cause { HasCause Never (P.standing pages.old) (P.standing pages.new) result }
-    ensures continues { Continues (P.may_leave pages.old) (P.may_leave pages.new) (P.is_steady pages.old) (P.standing pages.old) (P.standing pages.new) }
+    ensures call { PagesCall P.Pages pages.old pages.new result }
     ensures reads { OnOk result (ReadsPage page (P.standing pages.old) (P.standing pages.new)) }
     ensures lines { OnOk result (AddsLines (λ lines. lines ≡ 0 ∷ []) (P.standing pages.old) (P.standing pages.new)) }
     ensures few { (P.standing pages.new).visits ≤ (P.standing pages.old).visits + 1 }
-    ensures ready { OnOk result (P.is_ready pages.new) }
-    ensures steady { P.is_steady pages.old → OnOk result (P.is_steady pages.new) }
 {
     let line = pages.read_line(page, 0)?;
     Ok(Header {
@@ -112,12 +109,10 @@ fn read_place<P: Pages>(pages: &mut P, page: u64, slot: usize) -> Result<usize, 
     ensures value { IsTrue (P.standing pages.old).told → IfOk result (λ place. place ≡ u16_at (bytes_of (P.standing pages.old).current page) (64 + 4 * slot)) }
     ensures small { IfOk result (λ place. place < 65536) }
     ensures cause { HasCause Never (P.standing pages.old) (P.standing pages.new) result }
-    ensures continues { Continues (P.may_leave pages.old) (P.may_leave pages.new) (P.is_steady pages.old) (P.standing pages.old) (P.standing pages.new) }
+    ensures call { PagesCall P.Pages pages.old pages.new result }
     ensures reads { OnOk result (ReadsPage page (P.standing pages.old) (P.standing pages.new)) }
     ensures lines { OnOk result (AddsLines (λ lines. lines ≡ lines_of (64 + 4 * slot) 2) (P.standing pages.old) (P.standing pages.new)) }
     ensures again { begins (P.standing pages.old).access page false ≡ false → (P.standing pages.new).visits ≤ (P.standing pages.old).visits }
-    ensures ready { OnOk result (P.is_ready pages.new) }
-    ensures steady { P.is_steady pages.old → OnOk result (P.is_steady pages.new) }
 {
     let place = read_half(pages, page, 64 + 4 * slot)?;
     Ok(place as usize)
@@ -140,13 +135,11 @@ fn probe_rows<P: Pages>(
     ensures spot { IsTrue (P.standing pages.old).told → IsWellFormed (bytes_of (P.standing pages.old).current page) expect.now → IfOk result (IsRightSpot (bytes_of (P.standing pages.old).current page) expect.now key) }
     ensures safe { IfOk result (IsSafeAnswer expect.now key) }
     ensures cause { HasCause Never (P.standing pages.old) (P.standing pages.new) result }
-    ensures continues { Continues (P.may_leave pages.old) (P.may_leave pages.new) (P.is_steady pages.old) (P.standing pages.old) (P.standing pages.new) }
+    ensures call { PagesCall P.Pages pages.old pages.new result }
     ensures reads { OnOk result (ReadsPage page (P.standing pages.old) (P.standing pages.new)) }
     ensures lines { IsTrue (P.standing pages.old).told → IsWellFormed (bytes_of (P.standing pages.old).current page) expect.now → OnOk result (AddsLines (Probes (row_probe (bytes_of (P.standing pages.old).current page)) count count) (P.standing pages.old) (P.standing pages.new)) }
     ensures bound { OnOk result (Costs 30 (P.standing pages.old) (P.standing pages.new)) }
     ensures again { (P.standing pages.new).visits ≤ (P.standing pages.old).visits }
-    ensures ready { OnOk result (P.is_ready pages.new) }
-    ensures steady { P.is_steady pages.old → OnOk result (P.is_steady pages.new) }
 {
     let mut low = 0usize;
     let mut high = count;
@@ -204,13 +197,11 @@ fn probe_children<P: Pages>(
     ensures spot { IsTrue (P.standing pages.old).told → IsWellFormed (bytes_of (P.standing pages.old).current page) expect.now → IfOk result (IsRightSpot (bytes_of (P.standing pages.old).current page) expect.now key) }
     ensures safe { IfOk result (IsSafeAnswer expect.now key) }
     ensures cause { HasCause Never (P.standing pages.old) (P.standing pages.new) result }
-    ensures continues { Continues (P.may_leave pages.old) (P.may_leave pages.new) (P.is_steady pages.old) (P.standing pages.old) (P.standing pages.new) }
+    ensures call { PagesCall P.Pages pages.old pages.new result }
     ensures reads { OnOk result (ReadsPage page (P.standing pages.old) (P.standing pages.new)) }
     ensures lines { IsTrue (P.standing pages.old).told → IsWellFormed (bytes_of (P.standing pages.old).current page) expect.now → OnOk result (AddsLines (ProbesChildren (bytes_of (P.standing pages.old).current page)) (P.standing pages.old) (P.standing pages.new)) }
     ensures bound { OnOk result (Costs 9 (P.standing pages.old) (P.standing pages.new)) }
     ensures again { (P.standing pages.new).visits ≤ (P.standing pages.old).visits }
-    ensures ready { OnOk result (P.is_ready pages.new) }
-    ensures steady { P.is_steady pages.old → OnOk result (P.is_steady pages.new) }
 {
     let mut low = 0usize;
     let mut high = count;

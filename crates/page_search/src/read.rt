@@ -1,16 +1,19 @@
 //! A whole page read and checked.
 ghost use Rattle.std.specs.Prelude.{false, ◌≡◌, ◌+◌, ◌<◌, ◌≤◌, length, IsTrue, OnOk, IfErr};
+ghost use Rattle.page_search.specs.Causes.{NodeCause, ShownCause};
+ghost use Rattle.line_pages.specs.PagesCall.{PagesCall};
 ghost use Rattle.line_pages.specs.Bytes.{bytes_of};
 ghost use Rattle.line_pages.specs.Touch.{begins};
 ghost use Rattle.line_pages.specs.Cost.{lines_from, AddsLines};
-ghost use Rattle.line_pages.specs.Standing.{Continues, HasCause, ReadsPage};
-ghost use Rattle.slotted_page.specs.Node.{IsWellFormed};
-ghost use Rattle.slotted_page.specs.Search.{IsNodeDamage, FailsNode, Keeps, Unchanged};
-ghost use Rattle.page_search.specs.Answers.{FitsEvidence, IsShownDamage, ShowsDamage};
-ghost use Rattle.slotted_page.specs.Work.{KeepsOthers};
+ghost use Rattle.line_pages.specs.Standing.{ReadsPage, UnlessFault};
+ghost use Rattle.page_format.specs.Node.{IsWellFormed};
+ghost use Rattle.page_format.specs.Search.{FailsNode, Keeps, Unchanged};
+ghost use Rattle.page_search.specs.Answers.{FitsEvidence, ShowsDamage};
+ghost use Rattle.page_format.specs.Work.{KeepsOthers};
 
-use line_pages::{Evidence, Pages, Stop, copy_page};
-use slotted_page::{Expect, Work, well_formed};
+use damage::Evidence;
+use line_pages::{Pages, Stop, copy_page};
+use page_format::{Expect, Work, well_formed};
 
 /// Reads a whole page, as one access, and makes its checks. `Damaged` comes exactly where one fails of the lines that
 /// were read, which then stand in the buffer of the page last checked.
@@ -27,19 +30,17 @@ pub fn read_page<P: Pages>(
     ensures size { OnOk result (length work.new.page ≡ 4096) }
     ensures bytes { IsTrue (P.standing pages.old).told → OnOk result (work.new.page ≡ bytes_of (P.standing pages.old).current page) }
     ensures damage { IsTrue (P.standing pages.old).told → IfErr result (ShowsDamage page expect.now (bytes_of (P.standing pages.old).current page)) }
-    ensures shown { HasCause (λ e. IsShownDamage page expect.now work.new.page e × (IsTrue (P.standing pages.old).told → work.new.page ≡ bytes_of (P.standing pages.old).current page)) (P.standing pages.old) (P.standing pages.new) result }
-    ensures cause { FitsEvidence (P.standing pages.old).count expect.now → HasCause (λ e. IsTrue (P.standing pages.old).told → IsNodeDamage (P.standing pages.old).count (P.standing pages.old).current work.new.page e) (P.standing pages.old) (P.standing pages.new) result }
+    ensures shown { ShownCause P.Pages pages.old pages.new page expect.now work.new.page result }
+    ensures cause { FitsEvidence (P.standing pages.old).count expect.now → NodeCause P.Pages pages.old pages.new work.new.page result }
     ensures fails { FitsEvidence (P.standing pages.old).count expect.now → IfErr result (Keeps (FailsNode (P.standing pages.old).count work.new.page)) }
     ensures unchanged { IfErr result (Unchanged (P.standing pages.old) (P.standing pages.new)) }
     // what stays
-    ensures continues { Continues (P.may_leave pages.old) (P.may_leave pages.new) (P.is_steady pages.old) (P.standing pages.old) (P.standing pages.new) }
-    ensures reads { OnOk result (ReadsPage page (P.standing pages.old) (P.standing pages.new)) }
+    ensures call { PagesCall P.Pages pages.old pages.new result }
+    ensures reads { UnlessFault result (ReadsPage page (P.standing pages.old) (P.standing pages.new)) }
     ensures lines { OnOk result (AddsLines (λ lines. lines ≡ lines_from 0 64) (P.standing pages.old) (P.standing pages.new)) }
     ensures again { begins (P.standing pages.old).access page false ≡ false → (P.standing pages.new).visits ≤ (P.standing pages.old).visits }
     ensures few { (P.standing pages.new).visits ≤ (P.standing pages.old).visits + 1 }
     ensures others { KeepsOthers work.old work.new }
-    ensures ready { OnOk result (P.is_ready pages.new) }
-    ensures steady { P.is_steady pages.old → OnOk result (P.is_steady pages.new) }
 {
     copy_page(pages, page, &mut work.page)?;
     match well_formed(&work.page, expect) {

@@ -4,7 +4,7 @@ use Rattle.std.proofs.lemmas.Bool.{cases_Bool, ltb-true, ltb-false, eq-eqb, ne_e
 use Rattle.std.proofs.lemmas.List.{drop_more}
 use Rattle.std.specs.Prelude.{nat_lt, nat_le, not, is_some, ◌==◌, ◌&&◌}
 use Rattle.std.specs.List.{insert, remove, position, position_or_len}
-use Rattle.slotted_page.specs.Rows.{Row, row_get, row_put, row_delete}
+use Rattle.rows.specs.Rows.{Row, row_get, row_put, row_delete}
 use Rattle.script.specs.Tables.{has_row, row_range}
 use Rattle.plain_machine.specs.Plain.{is_key, not_below}
 

@@ -3,9 +3,9 @@ use Rattle.std.proofs.Common.{◌≡◌, ℕ, suc, ◌<◌, ◌≤◌, List, [],
 use Rattle.std.proofs.lemmas.Bool.{cases_Bool}
 use Rattle.std.specs.Prelude.{is_some, bytes_eq}
 use Rattle.std.specs.List.{position}
-use Rattle.slotted_page.specs.Rows.{Row}
-use Rattle.table_catalog.specs.Catalog.{Table}
-use Rattle.table_catalog.specs.Stored.{rows_of, is_known, with_rows}
+use Rattle.rows.specs.Rows.{Row}
+use Rattle.rows.specs.Tables.{Table}
+use Rattle.rows.specs.Tables.{rows_of, is_known, with_rows}
 use Rattle.script.specs.Tables.{rows_or_none}
 use Rattle.plain_machine.specs.Plain.{is_table}
 use Rattle.plain_machine.proofs.RowsLaws.{place, at_some, at_none}

@@ -1,7 +1,7 @@
 -- What the plain machine answers to a line.
 use Rattle.std.specs.Prelude.{◌≡◌, ℕ, ◌+◌, ◌<◌, Bool, not, nat_lt, ◌==◌, List, map, Option, bytes_eq}
-use Rattle.slotted_page.specs.Rows.{Row}
-use Rattle.table_catalog.specs.Catalog.{Table}
+use Rattle.rows.specs.Rows.{Row}
+use Rattle.rows.specs.Tables.{Table}
 use Rattle.texts.specs.Runs as run
 use Rattle.script.specs.Machine.{Bounds, State, accepted}
 use Rattle.script.specs.Script.{machine}

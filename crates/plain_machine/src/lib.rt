@@ -4,9 +4,7 @@
 
 mod machine;
 mod refusals;
-mod rows;
+mod row_list;
 mod tables;
-#[cfg(test)]
-mod tests;
 
 pub use machine::PlainMachine;

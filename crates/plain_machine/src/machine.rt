@@ -1,8 +1,8 @@
 //! The machine: a state, and a step for each line.
 ghost use Rattle.std.specs.Prelude.{◌≡◌, ◌<◌, ◌≤◌, ◌+◌, ◌∷◌, ◌++◌, [], None, Some, IfOk, OnOk, OnErr};
 ghost use Rattle.texts.specs.Lines.{is_silent as silent};
-ghost use Rattle.slotted_page.specs.Rows.{row_put, row_delete};
-ghost use Rattle.table_catalog.specs.Stored.{with_rows};
+ghost use Rattle.rows.specs.Rows.{row_put, row_delete};
+ghost use Rattle.rows.specs.Tables.{with_rows};
 ghost use Rattle.script.specs.Tables.{rows_or_none, with_table};
 ghost use Rattle.script.specs.Grammar.{command_in};
 ghost use Rattle.script.specs.Machine.{bounds_of, opening, Open, current as tables_now, writes_so_far, refusal as refusal_of, written, rows_in, accepted};
@@ -12,11 +12,10 @@ ghost use Rattle.plain_machine.specs.Plain.{Answers, CountsOn, did};
 use crate::refusals::{rows_spent, table_wrong, tables_spent, transaction_wrong, writes_spent};
 use crate::tables::{self, PlainTable};
 use nvm_model::NoMemory;
+use rows::{Limits, Name, Value};
 use script::{Command, Reason, Reply, is_silent, read_line};
-use slotted_page::Value;
 use std::alloc::Global;
 use std::marker::Model;
-use table_catalog::{Limits, Name};
 
 /// An open transaction: its copy of the tables, and how many writes it has had.
 #[derive(Drop)]

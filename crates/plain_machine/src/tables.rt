@@ -1,18 +1,17 @@
 //! Tables as a list in the order of their creation.
 ghost use Rattle.std.specs.Prelude.{◌≡◌, ◌++◌, ◌∷◌, [], List, ℕ, position, IfOk, OnOk, OnErr, bytes_eq};
-ghost use Rattle.slotted_page.specs.Rows.{Row, row_get, row_put, row_delete};
-ghost use Rattle.table_catalog.specs.Stored.{is_known, with_rows, rows_of as rows_of_name};
+ghost use Rattle.rows.specs.Rows.{Row, row_get, row_put, row_delete};
+ghost use Rattle.rows.specs.Tables.{is_known, with_rows, rows_of as rows_of_name};
 ghost use Rattle.script.specs.Machine.{is_full as full};
 ghost use Rattle.script.specs.Tables.{has_row, row_range, rows_or_none, with_table};
 ghost use Rattle.plain_machine.specs.Plain.{is_table, row_replies};
 
-use crate::rows::{self, PlainRow};
+use crate::row_list::{self, PlainRow};
 use nvm_model::NoMemory;
+use rows::{Name, Value};
 use script::Reply;
-use slotted_page::Value;
 use std::alloc::Global;
 use std::marker::Model;
-use table_catalog::Name;
 use texts::is_word;
 
 /// A name with rows. Contracts see the pair.
@@ -24,7 +23,7 @@ pub struct PlainTable {
 
 impl Model for PlainTable {
     ghost use Rattle.std.specs.Prelude.{List, ℕ};
-    ghost use Rattle.slotted_page.specs.Rows.{Row};
+    ghost use Rattle.rows.specs.Rows.{Row};
 
     ghost Value = { List ℕ × List Row };
 
@@ -51,21 +50,21 @@ impl PlainTable {
         ensures put { OnOk result (self.new ≡ (self.old.0, row_put key value self.old.1)) }
         ensures stays { OnErr result (self.new ≡ self.old) }
     {
-        rows::put(&mut self.rows, key, value)
+        row_list::put(&mut self.rows, key, value)
     }
 
     /// Takes the row with the key away.
     fn delete(&mut self, key: u64)
         ensures { self.new ≡ (self.old.0, row_delete key self.old.1) }
     {
-        rows::delete(&mut self.rows, key)
+        row_list::delete(&mut self.rows, key)
     }
 
     /// The same table once more.
     fn copy(&self, alloc: Global) -> Result<PlainTable, NoMemory>
         ensures { IfOk result (λ copied. copied ≡ self.now) }
     {
-        let rows = rows::copy(alloc, &self.rows)?;
+        let rows = row_list::copy(alloc, &self.rows)?;
         Ok(PlainTable {
             name: self.name.copy(),
             rows,
@@ -92,7 +91,7 @@ pub fn is_full(tables: &[PlainTable], name: &Name, most: u64, key: u64) -> bool
     ensures { result ≡ full most key (rows_of_name name.now tables.now) }
 {
     match table_at(tables, name) {
-        Some(at) => rows::is_full(tables[at].rows(), most, key),
+        Some(at) => row_list::is_full(tables[at].rows(), most, key),
         None => false,
     }
 }
@@ -111,14 +110,14 @@ fn rows_of<'a>(tables: &'a [PlainTable], name: &Name) -> &'a [PlainRow]
 pub fn get(tables: &[PlainTable], name: &Name, key: u64) -> Option<Value>
     ensures { result ≡ row_get key (rows_or_none name.now tables.now) }
 {
-    rows::get(rows_of(tables, name), key)
+    row_list::get(rows_of(tables, name), key)
 }
 
 /// Whether the table of the name has a row with the key.
 pub fn has_key(tables: &[PlainTable], name: &Name, key: u64) -> bool
     ensures { result ≡ has_row key (rows_or_none name.now tables.now) }
 {
-    rows::has(rows_of(tables, name), key)
+    row_list::has(rows_of(tables, name), key)
 }
 
 /// Puts a reply for each row of the table from one key to another behind the others.
@@ -131,7 +130,7 @@ pub fn scan(
 ) -> Result<(), NoMemory>
     ensures { OnOk result (replies.new.items ≡ replies.old.items ++ row_replies (row_range low high (rows_or_none name.now tables.now))) }
 {
-    rows::scan(rows_of(tables, name), low, high, replies)
+    row_list::scan(rows_of(tables, name), low, high, replies)
 }
 
 /// Puts the value at the key of the table of the name.

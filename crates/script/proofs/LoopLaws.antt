@@ -1,7 +1,7 @@
 -- A loop over the lines of a script: what it has reached, and what one line more does.
 use Rattle.std.proofs.Common.{◌≡◌, ℕ, ◌+◌, true, List, [], ◌∷◌, ◌++◌, refl, ap, sym, ◌∙◌, Option}
 use Rattle.texts.specs.Lines.{line_feed, IsOneLine}
-use Rattle.table_catalog.specs.Catalog.{Table}
+use Rattle.rows.specs.Tables.{Table}
 use Rattle.script.specs.Replies.{text, reply_line}
 use Rattle.texts.specs.Output.{IsWhole, no_line}
 use Rattle.texts.specs.Runs as run

@@ -2,14 +2,14 @@
 use Rattle.std.proofs.Common.{◌≡◌, ℕ, suc, ◌+◌, Bool, true, false, cond, List, [], ◌∷◌, ◌++◌, length, refl, ap, ◌∙◌, Option, Some, None}
 use Rattle.std.specs.List.{list_any}
 use Rattle.std.specs.Prelude.{is_some, map, option_map}
-use Rattle.slotted_page.specs.Rows.{Row, row_get, row_put, row_delete}
+use Rattle.rows.specs.Rows.{Row, row_get, row_put, row_delete}
 use Rattle.script.specs.Tables.{has_row, row_range}
 use Rattle.texts.specs.Runs.{versions, commits}
 use Rattle.script.specs.Replies.{is_committed}
 use Rattle.script.specs.Machine.{Bounds, Open, State, refusal, accepted, judged, step, current, rows_in, written, found}
 use Rattle.script.specs.Script.{machine}
-use Rattle.table_catalog.specs.Catalog.{Table}
-use Rattle.table_catalog.specs.Stored.{with_rows}
+use Rattle.rows.specs.Tables.{Table}
+use Rattle.rows.specs.Tables.{with_rows}
 use Rattle.script.specs.Tables.{with_table}
 use Rattle.script.specs.declared.command.Command.{Command}
 use Rattle.script.specs.declared.command.Command.TheVariants.{Create, Begin, Put, Del, Get, Scan, Commit, Abort, Checkpoint, Drain, Clean}

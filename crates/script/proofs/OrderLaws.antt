@@ -2,10 +2,10 @@
 use Rattle.std.proofs.Common.{ℕ, ◌+◌, ◌≤◌, Bool, true, false, cond, List, [], ◌∷◌, arith, Option, Some, None}
 use Rattle.std.specs.Prelude.{option_map, unwrap_or, IfSome, bytes_eq, nat_le, ◌&&◌}
 use Rattle.std.specs.List.{AllByRecursion}
-use Rattle.slotted_page.specs.Rows.{Row, keys, last_key, Ascends, row_put, row_delete}
-use Rattle.node_edit.proofs.RowLaws.{Ascends-put, Ascends-delete, Ascends-lower}
-use Rattle.table_catalog.specs.Catalog.{Table}
-use Rattle.table_catalog.specs.Stored.{rows_of, with_rows}
+use Rattle.rows.specs.Rows.{Row, keys, last_key, Ascends, row_put, row_delete}
+use Rattle.rows.proofs.RowLaws.{Ascends-put, Ascends-delete, Ascends-lower}
+use Rattle.rows.specs.Tables.{Table}
+use Rattle.rows.specs.Tables.{rows_of, with_rows}
 use Rattle.texts.specs.Runs as run
 use Rattle.script.specs.Tables.{has_row, row_range, with_table, AreOrdered}
 use Rattle.script.specs.Grammar.{IsCommand}

@@ -4,8 +4,8 @@ use Rattle.std.proofs.lemmas.Bool.{and_parts, leb-true, ne_eqb}
 use Rattle.std.proofs.lemmas.List.Folds.{list_any-append}
 use Rattle.std.specs.Prelude.{nat_le, ◌==◌, decimal}
 use Rattle.std.specs.List.{list_all}
-use Rattle.slotted_page.specs.Node.{is_printable}
-use Rattle.slotted_page.specs.Value.{IsValue}
+use Rattle.rows.specs.Value.{is_printable}
+use Rattle.rows.specs.Value.{IsValue}
 use Rattle.texts.specs.Lines.{line_feed, has_line_feed}
 use Rattle.texts.specs.Fields.{space}
 use Rattle.script.specs.Replies.{IsReply, reply_line, reply_text, is_committed}

@@ -2,7 +2,7 @@
 use Rattle.std.proofs.Common.{◌≡◌, ℕ, ◌+◌, ◌<◌, ◌≤◌, Bool, true, false, cond, List, [], ◌∷◌, refl, ap, arith, subst, Some, None, inl, inr}
 use Rattle.std.proofs.lemmas.Bool.{cases_lt, le-leb, lt-leb, lt-ltb, le-ltb}
 use Rattle.std.specs.Prelude.{nat_le, ◌&&◌}
-use Rattle.slotted_page.specs.Rows.{Row, keys, row_next, Ascends}
+use Rattle.rows.specs.Rows.{Row, keys, row_next, Ascends}
 use Rattle.script.specs.Tables.{row_range}
 
 and_false : (b : Bool) → (b && false) ≡ false

@@ -3,9 +3,9 @@ use Rattle.std.proofs.Common.{◌≡◌, ℕ, ◌+◌, ◌≤◌, Bool, true, fa
 use Rattle.std.proofs.lemmas.List.Sums.{sum_by-append}
 use Rattle.std.specs.Prelude.{map, count_by, IfSome, ◌||◌}
 use Rattle.std.specs.List.{AllByRecursion}
-use Rattle.slotted_page.specs.Rows.{Row, row_get}
+use Rattle.rows.specs.Rows.{Row, row_get}
 use Rattle.script.specs.Tables.{has_row, row_range}
-use Rattle.table_catalog.specs.Catalog.{Table}
+use Rattle.rows.specs.Tables.{Table}
 use Rattle.script.specs.Tables.{AreTables}
 use Rattle.script.specs.Grammar.{command_of, IsCommand}
 use Rattle.script.specs.Replies.{text, is_committed, reply_line}

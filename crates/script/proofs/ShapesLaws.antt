@@ -3,8 +3,8 @@ use Rattle.std.proofs.Common.{◌≡◌, ℕ, suc, ◌<◌, ◌≤◌, ◌^◌, 
 use Rattle.std.proofs.lemmas.Bool.{and_parts, or_cases, leb-true, le-leb, ne_eqb, eqb-true}
 use Rattle.std.specs.Prelude.{◌==◌, ◌&&◌, ◌||◌, nat_le, decimal, option_map, IsTrue}
 use Rattle.std.specs.List.{list_any, list_all}
-use Rattle.table_catalog.specs.Names.{is_name_byte, is_name, IsName, name_of}
-use Rattle.slotted_page.specs.Value.{is_value, IsValue, value_of}
+use Rattle.rows.specs.Names.{is_name_byte, is_name, IsName, name_of}
+use Rattle.rows.specs.Value.{is_value, IsValue, value_of}
 use Rattle.texts.specs.Numbers.{key_of, number_below, IsKey, IsCount}
 use Rattle.texts.specs.Fields.{◌>>=◌, space, field, remainder, at_end}
 use Rattle.script.specs.Shapes.{count_up_to, bare, one_name, name_key, name_two_keys, name_key_value, one_count}

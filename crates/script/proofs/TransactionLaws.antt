@@ -2,10 +2,10 @@
 use Rattle.std.proofs.Common.{◌≡◌, ℕ, zero, suc, ◌<◌, Bool, true, false, cond, List, [], ◌∷◌, ◌++◌, get_or, refl, ap, sym, ◌∙◌, arith, Option, Some, None, inl, inr, ◌⊎◌, subst}
 use Rattle.std.proofs.lemmas.Bool.{cases_Bool}
 use Rattle.std.proofs.lemmas.List.{get_or_default}
-use Rattle.slotted_page.specs.Rows.{row_delete}
+use Rattle.rows.specs.Rows.{row_delete}
 use Rattle.script.specs.Tables.{has_row}
-use Rattle.table_catalog.specs.Catalog.{Table}
-use Rattle.table_catalog.specs.Stored.{with_rows}
+use Rattle.rows.specs.Tables.{Table}
+use Rattle.rows.specs.Tables.{with_rows}
 use Rattle.texts.specs.Runs as run
 use Rattle.script.specs.Machine.{Bounds, Open, State, refusal, accepted, judged, step, current, rows_in, written}
 use Rattle.script.specs.Script.{machine}

@@ -2,11 +2,11 @@
 use Rattle.std.proofs.Common.{ℕ, ◌+◌, Bool, true, false, cond, List, [], ◌∷◌, ◌++◌, length, Option, Some, None}
 use Rattle.std.specs.Prelude.{map, filter, option_map, unwrap_or, IfSome, bytes_eq, nat_lt, nat_le, ◌==◌, ◌&&◌, if◌then◌else◌}
 use Rattle.std.specs.List.{AllByRecursion}
-use Rattle.slotted_page.specs.Value.{IsValue}
-use Rattle.slotted_page.specs.Rows.{Row, row_get, row_put, row_delete}
+use Rattle.rows.specs.Value.{IsValue}
+use Rattle.rows.specs.Rows.{Row, row_get, row_put, row_delete}
 use Rattle.script.specs.Tables.{has_row, row_range}
-use Rattle.table_catalog.specs.Catalog.{Table}
-use Rattle.table_catalog.specs.Stored.{rows_of, with_rows}
+use Rattle.rows.specs.Tables.{Table}
+use Rattle.rows.specs.Tables.{rows_of, with_rows}
 use Rattle.script.specs.Tables.{with_table, IsRow, AreRows, AreTables}
 use Rattle.script.specs.Grammar.{IsCommand}
 use Rattle.texts.specs.Runs.{replies}

@@ -3,7 +3,7 @@ use Rattle.std.proofs.Common.{◌≡◌, ℕ, List, [], ◌∷◌, ◌++◌, ref
 use Rattle.std.specs.Prelude.{codes}
 use Rattle.std.specs.Fmt.{digits}
 use Rattle.script.specs.Replies.{text}
-use Rattle.table_catalog.specs.Catalog.{Table}
+use Rattle.rows.specs.Tables.{Table}
 use Rattle.script.specs.Machine.{Bounds}
 use Rattle.script.specs.Script.{replies, commits, after}
 use Rattle.texts.specs.Output.{strip, acked}

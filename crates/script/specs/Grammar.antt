@@ -1,7 +1,7 @@
 -- The forms of a script line.
 use Rattle.std.specs.Prelude.{codes, ℕ, List, [], ◌∷◌, ◌++◌, Option, decimal}
-use Rattle.table_catalog.specs.Names.{IsName}
-use Rattle.slotted_page.specs.Value.{IsValue}
+use Rattle.rows.specs.Names.{IsName}
+use Rattle.rows.specs.Value.{IsValue}
 use Rattle.texts.specs.Numbers.{IsKey, IsCount}
 use Rattle.texts.specs.Fields.{space}
 use Rattle.script.specs.Shapes.{bare, one_name, name_key, name_two_keys, name_key_value, one_count}

@@ -5,7 +5,7 @@ use Rattle.texts.specs.Forms.{longest_line}
 use Rattle.script.specs.Grammar.{command_of, commands, IsCommand, spelling}
 use Rattle.script.specs.Replies.{text}
 use Rattle.texts.specs.Output.{strip, acked, IsPrefix}
-use Rattle.table_catalog.specs.Catalog.{Table}
+use Rattle.rows.specs.Tables.{Table}
 use Rattle.script.specs.Tables.{AreTables}
 use Rattle.texts.specs.Runs as run
 use Rattle.script.specs.Machine.{Bounds, State, Open}

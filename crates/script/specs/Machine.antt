@@ -1,9 +1,9 @@
 -- The plain machine: whole lists of rows, changed by whole transactions. It has no pages and no log.
 use Rattle.std.specs.Prelude.{ℕ, ◌+◌, Bool, false, not, ◌&&◌, nat_le, List, [], ◌∷◌, ◌++◌, length, map, Option, Some, None, is_some, option_map, if◌then◌else◌}
-use Rattle.slotted_page.specs.Rows.{Row, row_get, row_put, row_delete}
-use Rattle.table_catalog.specs.declared.limits.Limits.{Limits}
-use Rattle.table_catalog.specs.Catalog.{Table}
-use Rattle.table_catalog.specs.Stored.{rows_of, is_known, with_rows}
+use Rattle.rows.specs.Rows.{Row, row_get, row_put, row_delete}
+use Rattle.rows.specs.declared.limits.Limits.{Limits}
+use Rattle.rows.specs.Tables.{Table}
+use Rattle.rows.specs.Tables.{rows_of, is_known, with_rows}
 use Rattle.script.specs.Tables.{has_row, row_range, rows_or_none, with_table}
 use Rattle.script.specs.declared.command.Command.{Command}
 use Rattle.script.specs.declared.command.Command.TheVariants as command

@@ -1,6 +1,6 @@
 -- The text of the replies.
 use Rattle.std.specs.Prelude.{codes, ℕ, Bool, true, false, List, ◌∷◌, ◌++◌, flat_map, decimal}
-use Rattle.slotted_page.specs.Value.{IsValue}
+use Rattle.rows.specs.Value.{IsValue}
 use Rattle.texts.specs.Lines.{ended}
 use Rattle.texts.specs.Fields.{space}
 use Rattle.script.specs.declared.command.Reason.{Reason}

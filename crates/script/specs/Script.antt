@@ -1,6 +1,6 @@
 -- A script of bytes, run on the plain machine.
 use Rattle.std.specs.Prelude.{ℕ, List, Option}
-use Rattle.table_catalog.specs.Catalog.{Table}
+use Rattle.rows.specs.Tables.{Table}
 use Rattle.texts.specs.Runs as run
 use Rattle.script.specs.Grammar.{commands}
 use Rattle.script.specs.Replies.{is_committed}

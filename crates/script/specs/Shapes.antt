@@ -1,7 +1,7 @@
 -- The shapes that the forms of a script line have: what follows the first word.
 use Rattle.std.specs.Prelude.{ℕ, suc, List, Option, Some, None, option_map, nat_le, if◌then◌else◌}
-use Rattle.table_catalog.specs.Names.{name_of}
-use Rattle.slotted_page.specs.Value.{value_of}
+use Rattle.rows.specs.Names.{name_of}
+use Rattle.rows.specs.Value.{value_of}
 use Rattle.texts.specs.Numbers.{key_of, number_below}
 use Rattle.texts.specs.Fields.{◌>>=◌, field, remainder, at_end}
 

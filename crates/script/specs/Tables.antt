@@ -1,10 +1,10 @@
 -- What commands do to tables.
 use Rattle.std.specs.Prelude.{ℕ, nat_le, Bool, ◌&&◌, List, [], ◌∷◌, ◌++◌, filter, is_some, unwrap_or}
 use Rattle.std.specs.List.{AllByRecursion}
-use Rattle.slotted_page.specs.Value.{IsValue}
-use Rattle.slotted_page.specs.Rows.{Row, row_get, keys, last_key, Ascends}
-use Rattle.table_catalog.specs.Catalog.{Table}
-use Rattle.table_catalog.specs.Stored.{rows_of}
+use Rattle.rows.specs.Value.{IsValue}
+use Rattle.rows.specs.Rows.{Row, row_get, keys, last_key, Ascends}
+use Rattle.rows.specs.Tables.{Table}
+use Rattle.rows.specs.Tables.{rows_of}
 use Rattle.texts.specs.Numbers.{IsKey}
 
 -- whether a row has the key

@@ -1,6 +1,5 @@
 //! Commands and replies, as contracts see them: plain data.
-use slotted_page::Value;
-use table_catalog::Name;
+use rows::{Name, Value};
 
 /// What a line of a script asks.
 #[derive(Drop)]

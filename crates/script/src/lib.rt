@@ -5,8 +5,6 @@ mod command;
 mod laws;
 mod read;
 mod reply;
-#[cfg(test)]
-mod tests;
 
 pub use command::{Command, Reason, Reply};
 pub use laws::{one_grammar, output_grows, scripts_append, whole_transactions};

@@ -1,13 +1,12 @@
 //! Lines of a script, read as commands.
 ghost use Rattle.std.specs.Prelude.{◌≡◌, option_copied, option_map};
-ghost use Rattle.table_catalog.specs.Names.{name_of};
+ghost use Rattle.rows.specs.Names.{name_of};
 ghost use Rattle.texts.specs.Fields.{field};
 ghost use Rattle.script.specs.Shapes.{one_name, name_key, name_two_keys, name_key_value, one_count, count_up_to, bare};
 ghost use Rattle.script.specs.Grammar.{command_of};
 
 use crate::command::Command;
-use slotted_page::Value;
-use table_catalog::Name;
+use rows::{Name, Value};
 use texts::{cut, is_word, key, key_field};
 
 /// The command that a line is, given without its line feed; `None` exactly where the line has more than 1,024 bytes or

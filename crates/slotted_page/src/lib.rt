@@ -1,27 +1,14 @@
-//! Leaf and inner pages of a tree, as they are read and judged: a page is its rows, or its children.
-//!
-//! A leaf has a header of 64 bytes, then slots of 4 bytes in the order of the keys, and records that grow down from the
-//! page's end. An inner page has the same header and 16 bytes to each child. Every call reads a page in memory and says
-//! what of its list it answers. Pages are changed in `page_edit`.
+//! The door to slotted pages: how a page is read and judged (`page_format`), how its bytes are changed (`page_edit`), and how a page
+//! of a store is searched or read whole (`page_search`).
 #![tactic(auto)]
 
-mod check;
-mod entries;
-mod leaf;
-mod marks;
-mod root;
-mod scan;
-mod spot;
-#[cfg(test)]
-mod tests;
-mod value;
-mod work;
-
-pub use check::{leaf_used, well_formed};
-pub use entries::{child, child_key, children};
-pub use leaf::{leaf_key, leaf_rows, leaf_value, open_leaf, place_of};
-pub use root::Expect;
-pub use scan::locate;
-pub use spot::Spot;
-pub use value::Value;
-pub use work::Work;
+pub use page_edit::{
+    inner_cut, inner_insert, inner_join, inner_remove, leaf_cut, leaf_insert, leaf_join,
+    leaf_remove,
+};
+pub use page_format::{
+    Expect, Spot, Work, child, child_key, children, leaf_key, leaf_rows, leaf_used, leaf_value,
+    well_formed,
+};
+pub use page_search::{find, read_page};
+pub use rows::Value;

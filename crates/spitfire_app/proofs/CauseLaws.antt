@@ -3,18 +3,18 @@ use Rattle.std.proofs.Common.{◌≡◌, ◌≢◌, ◌⊎◌, inl, inr, ℕ, �
 use Rattle.std.proofs.lemmas.Bool.{cases_lt}
 use Rattle.devices.specs.State.{current}
 use Rattle.devices.specs.World.{Standing, NoFault, Rose, now}
-use Rattle.nvm_layout.specs.Opening.{Finding, finding, super_from}
-use Rattle.nvm_layout.specs.Opening.Finding.{another, too_small, ended, sound, fails}
-use Rattle.store_meaning.specs.Layout.{Sizes}
-use Rattle.table_catalog.specs.Catalog.{Table}
-use Rattle.recovery.specs.Opening.{Answers, IsAnswer, IsFound, FindsInLog}
-use Rattle.recovery.specs.declared.opening.Parts.{Parts}
-use Rattle.recovery.specs.declared.errors.OpenError.{OpenError}
-use Rattle.recovery.specs.declared.errors.OpenError.TheVariants.{TooSmall}
+use Rattle.flat_nvm_layout.specs.Opening.{Finding, finding, super_from}
+use Rattle.flat_nvm_layout.specs.Opening.Finding.{another, too_small, ended, sound, fails}
+use Rattle.flat_transactions.specs.Order.{Sizes}
+use Rattle.rows.specs.Tables.{Table}
+use Rattle.flat_recovery.specs.Opening.{Answers, IsAnswer, IsFound, FindsInLog}
+use Rattle.flat_recovery.specs.declared.opening.Parts.{Parts}
+use Rattle.flat_recovery.specs.declared.errors.OpenError.{OpenError}
+use Rattle.flat_recovery.specs.declared.errors.OpenError.TheVariants.{TooSmall}
 use Rattle.engine.specs.declared.engine.Engine.{Engine}
 use Rattle.engine.specs.Holds.{Holds}
 use Rattle.engine.specs.Opening.{Follows}
-use Rattle.script_run.specs.Statuses.{IsOneOf, Exactly}
+use Rattle.runner.specs.Statuses.{IsOneOf, Exactly}
 use Rattle.spitfire_app.specs.Damage.{found_in, IsDamaged}
 use Rattle.spitfire_app.specs.Promises.{Untouched, Opens, RunCauses}
 use Rattle.spitfire_app.proofs.StatusLaws.{first_or, only_one, one_of, none_of, not_one, codes_of, known_of, refusal_of, codes_found, by_finding, is_another, is_small, is_ended, is_sound, comes_by}

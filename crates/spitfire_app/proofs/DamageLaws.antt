@@ -4,31 +4,31 @@ use Rattle.std.proofs.lemmas.Bool.{cases_lt, le-ltb, eq-eqb}
 use Rattle.std.proofs.lemmas.Result.{IfErr-at_err}
 use Rattle.ssd_model.specs.Page.{zero_page}
 use Rattle.devices.specs.State.{current}
-use Rattle.devices.specs.World.{Standing, Outside, Goes, Stays, WorldCall, OnlyChanges, Rose, now, sent}
-use Rattle.devices.proofs.MomentLaws.{Goes-on}
+use Rattle.devices.specs.World.{Standing, Outside, Goes, Stays, WorldCall, OnlyChanges, IsTimed, Rose, now, sent}
+use Rattle.devices.proofs.MomentLaws.{Goes-on, Goes-sent}
 use Rattle.devices.proofs.JoinLaws.{Stays-trans}
-use Rattle.line_pages.specs.declared.stop.Evidence.{Evidence}
-use Rattle.line_pages.specs.declared.stop.Evidence.TheVariants as evidence
-use Rattle.nvm_layout.specs.Opening.{finding, super_from}
-use Rattle.nvm_layout.specs.Opening.Finding.{another, too_small, ended, sound, fails}
-use Rattle.store_meaning.specs.Layout.{Sizes, is_allowed, nvm_lines, ssd_blocks, ring_lines}
-use Rattle.store_meaning.specs.Format.{magic}
-use Rattle.store_meaning.specs.Format.Format.{whole_lines}
-use Rattle.store_meaning.specs.Recovered.{Super, super_of, image_log_check}
-use Rattle.store_meaning.specs.Checked.{SuperPasses}
-use Rattle.store_meaning.proofs.CheckLaws.{checks_none, store_passes}
-use Rattle.table_catalog.specs.Catalog.{Table}
-use Rattle.recovery.specs.Opening.{Answers, FindsInLog, HoldsStore}
-use Rattle.recovery.specs.declared.opening.Parts.{Parts}
-use Rattle.recovery.specs.declared.errors.OpenError.{OpenError}
-use Rattle.recovery.specs.declared.errors.OpenError.TheVariants.{Nvm, TooSmall, Damaged, NoMemory}
+use Rattle.damage.specs.declared.evidence.Evidence.{Evidence}
+use Rattle.damage.specs.declared.evidence.Evidence.TheVariants as evidence
+use Rattle.flat_nvm_layout.specs.Opening.{finding, super_from}
+use Rattle.flat_nvm_layout.specs.Opening.Finding.{another, too_small, ended, sound, fails}
+use Rattle.flat_store_meaning.specs.Layout.{Sizes, is_allowed, nvm_lines, ssd_blocks, ring_lines}
+use Rattle.flat_store_meaning.specs.Format.{magic}
+use Rattle.flat_store_meaning.specs.Format.Format.{whole_lines}
+use Rattle.flat_store_meaning.specs.Recovered.{Super, super_of, image_log_check}
+use Rattle.flat_store_meaning.specs.Checked.{SuperPasses}
+use Rattle.flat_store_meaning.proofs.CheckLaws.{checks_none, store_passes}
+use Rattle.rows.specs.Tables.{Table}
+use Rattle.flat_recovery.specs.Opening.{Answers, FindsInLog, HoldsStore}
+use Rattle.flat_recovery.specs.declared.opening.Parts.{Parts}
+use Rattle.flat_recovery.specs.declared.errors.OpenError.{OpenError}
+use Rattle.flat_recovery.specs.declared.errors.OpenError.TheVariants.{Nvm, TooSmall, Damaged, NoMemory}
 use Rattle.line_pages.specs.Lines.{Lines}
-use Rattle.store_laws.specs.ShownPages.{committed_in}
+use Rattle.flat_transactions.specs.OpenStore.{committed_lines}
 use Rattle.engine.specs.Holds.{Holds}
 use Rattle.engine.specs.Resting.{IsPageOf}
 use Rattle.engine.specs.Opening.{Opens as IsOpening}
-use Rattle.app_texts.specs.DamageText.{damage_text}
-use Rattle.script_run.specs.Statuses.{IsOneOf}
+use Rattle.damage.specs.DamageText.{damage_text}
+use Rattle.runner.specs.Statuses.{IsOneOf}
 use Rattle.spitfire_app.specs.Damage.{IsOpeningDamage}
 use Rattle.spitfire_app.specs.Promises.{RunCauses}
 use Rattle.spitfire_app.proofs.StatusLaws.{none_of, not_one, codes_of}
@@ -81,7 +81,7 @@ pub record Tells (kept : Evidence) (mid new : Standing) (status : ℕ) : Type 0 
   pub sink : status ≡ 9 → Rose mid.outside.sink_faults new.outside.sink_faults
   pub ends : IsTrue mid.told → status ≡ 5 → sent new ≡ sent mid ++ damage_text kept zero_page
 
-module _ (old mid : Standing) (goes : Goes old mid) (kept : Evidence) (opening : IsOpening old mid (Err (Damaged kept))) where
+module _ (old mid : Standing) (timed : IsTimed old) (goes : Goes old mid) (kept : Evidence) (opening : IsOpening old mid (Err (Damaged kept))) where
   damage_is : opening.found ≡ Err (Damaged kept)
   damage_is = found_err opening.found (Damaged kept) opening.follows
 
@@ -141,8 +141,8 @@ module _ (old mid : Standing) (goes : Goes old mid) (kept : Evidence) (opening :
         kept = kept;
         page = zero_page;
         shows = inl (opening_damage new tells.call);
-        first = λ told taken same are. no_page (committed_in (now old));
-        ends = λ told. (sent mid, tells.ends (subst IsTrue tells.call.goes.told told) is);
+        first = λ told taken same are. no_page (committed_lines old);
+        ends = λ told. ([], tells.ends (subst IsTrue tells.call.goes.told told) is ∙ ap (λ (l : List ℕ). l ++ damage_text kept zero_page) (Goes-sent timed goes mid.clock goes.clock));
       };
       refused = λ among. none_of status (5 ∷ 9 ∷ []) (3 ∷ 4 ∷ 11 ∷ 13 ∷ []) refl tells.known among;
       nvm = λ is. not_one status 6 (5 ∷ 9 ∷ []) refl tells.known is;

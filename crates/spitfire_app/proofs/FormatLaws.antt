@@ -5,10 +5,10 @@ use Rattle.std.proofs.lemmas.List.{append-nil, take-append-drop}
 use Rattle.devices.specs.State.{State as Devices, Image, Leaves, fresh}
 use Rattle.devices.specs.World.{Standing, Goes, WorldCall, IsTimed, Moments, now, sent, sent_at}
 use Rattle.devices.proofs.MomentLaws.{Goes-sent, Moments-map}
-use Rattle.store_meaning.specs.Layout.{Sizes, nvm_lines, ssd_blocks}
-use Rattle.recovery.specs.Empty.{IsEmptyStore, MayFormat as MayLeaveEmpty, Formats, MakesEmpty}
+use Rattle.flat_transactions.specs.Order.{Sizes, nvm_lines, ssd_blocks}
+use Rattle.flat_recovery.specs.Empty.{IsEmptyStore, MayFormat as MayLeaveEmpty, Formats, MakesEmpty}
 use Rattle.engine.specs.Holds.{InOrder}
-use Rattle.script_run.specs.Sent.{Writes}
+use Rattle.runner.specs.Sent.{Writes}
 use Rattle.spitfire_app.specs.Promises.{first_sizes, formatted, MayFormat, Formatted}
 use Rattle.spitfire_app.proofs.OrderLaws.{left_in_order, empty_in_order}
 

@@ -6,3 +6,4 @@ pub mod CauseLaws
 pub mod RefusalLaws
 pub mod DamageLaws
 pub mod ScriptLaws
+pub mod SettingsLaws

@@ -6,47 +6,33 @@ use Rattle.std.proofs.lemmas.Bool.{and_parts, le-leb, leb-true, le-ltb, ne_eqb}
 use Rattle.nvm_model.specs.declared.line.Line.{Line}
 use Rattle.devices.specs.State.{State, Image, Leaves, current, fresh}
 use Rattle.line_pages.specs.Lines.{Lines}
-use Rattle.store_meaning.specs.Layout.{Sizes, is_allowed, in_ranges, is_between, pages, nvm_lines, ssd_blocks}
-use Rattle.store_meaning.specs.Format.Format.{whole_lines}
-use Rattle.store_meaning.specs.Recovered.{Super, super_of, recovered, recovered_pages}
-use Rattle.store_meaning.specs.StoreFacts.{StoreFacts}
-use Rattle.store_meaning.proofs.FactsLaws.{current_leaves}
-use Rattle.store_laws.specs.OpenFacts.{keeping}
-use Rattle.store_laws.specs.Steps.{IsStoreOf}
-use Rattle.slotted_page.specs.Checks.{first_failure}
-use Rattle.page_space.specs.Space.{word}
-use Rattle.page_space.specs.Moves.{below}
-use Rattle.page_space.specs.Counted.{times}
-use Rattle.table_catalog.specs.declared.limits.Limits.{Limits}
-use Rattle.table_catalog.specs.Catalog.{Table, tables, table_of, entries, entries_from, catalog_checks, header_checks, is_entry, names_differ, name_of}
+use Rattle.flat_transactions.specs.Order.{Sizes, is_allowed, in_ranges, is_between, pages, recovered_lines}
+use Rattle.flat_transactions.proofs.OpenStoreLaws.{order_fits, current_left}
+use Rattle.damage.specs.Checks.{first_failure}
+use Rattle.page_alloc.specs.Space.{word}
+use Rattle.page_alloc.specs.Moves.{below}
+use Rattle.page_alloc.specs.Counted.{times}
+use Rattle.rows.specs.declared.limits.Limits.{Limits}
+use Rattle.table_catalog.specs.Catalog.{tables, table_of, entries, entries_from, catalog_checks, header_checks, is_entry, names_differ, name_of}
+use Rattle.rows.specs.Tables.{Table}
 use Rattle.table_catalog.specs.Stored.{IsStore, HasTree, all_pages}
-use Rattle.slotted_page.specs.Rows.{Each}
-use Rattle.recovery.specs.Empty.{catalog_line, IsEmptyStore}
-use Rattle.recovery.proofs.StandsLaws.{stands_facts}
+use Rattle.rows.specs.Rows.{Each}
+use Rattle.flat_recovery.specs.Empty.{catalog_line, IsEmptyStore}
+use Rattle.flat_recovery.proofs.OrderLaws.{order_left, empty_ordered}
 use Rattle.engine.specs.Holds.{AreLimits, HoldsTables, Holds, InOrder}
 use Rattle.engine.proofs.HoldsLaws.{image_in_order}
 
 module _ (g : Sizes) (T : List Table) (n k : ℕ) (s : State) (order : InOrder g T n k s) where
-  facts : StoreFacts (keeping (super_of (current s)).sizes (recovered whole_lines (current s)) (recovered whole_lines (current s))) s
-  facts = stands_facts n k s order.stands
-
-  left_store : (i : Image) → Leaves s i → IsStoreOf g (recovered_pages whole_lines i) i
-  left_store i left = record { is_sized = record { store = facts.stores i left; sizes = facts.sizes i left ∙ order.sizes }; pages = refl }
-
   -- what a crash leaves is in order
   pub left_in_order : (i : Image) → Leaves s i → InOrder g T n k (fresh i)
-  left_in_order i left =
-      image_in_order g T n k (recovered_pages whole_lines i) i
-      (subst (λ (x : Sizes). nvm_lines x ≤ n) order.sizes order.stands.gates.nvm_fits)
-      (subst (λ (x : Sizes). ssd_blocks x ≤ k) order.sizes order.stands.gates.ssd_fits)
-      (order.recovers i left) (left_store i left)
+  left_in_order i left = image_in_order g T n k (recovered_lines i) i (order_fits g n k s order.order) (order.recovers i left) (order_left g n k s order.order i left)
 
   -- and one reads the tables
   pub order_holds : Holds g T s
   order_holds = record {
-    lines = recovered_pages whole_lines (current s);
-    is_store = left_store (current s) (current_leaves s);
-    holds = order.recovers (current s) (current_leaves s);
+    lines = recovered_lines (current s);
+    is_store = order_left g n k s order.order (current s) (current_left s);
+    holds = order.recovers (current s) (current_left s);
   }
 
 -- ---- an empty store
@@ -118,7 +104,6 @@ empty_holds g allowed lines is =
 -- An empty store of allowed sizes is in order with no table.
 pub empty_in_order : (g : Sizes) (first n k : ℕ) (s : State) → is_allowed g ≡ true → IsEmptyStore g first n k s → InOrder g [] n k s
 empty_in_order g first n k s allowed it = record {
-  stands = it.stands;
-  sizes = ap (λ (x : Super). x.sizes) it.super_words;
-  recovers = λ i left. empty_holds g allowed (recovered_pages whole_lines i) (it.catalog i left);
+  order = empty_ordered g first n k s it;
+  recovers = λ i left. empty_holds g allowed (recovered_lines i) (it.catalog i left);
 }

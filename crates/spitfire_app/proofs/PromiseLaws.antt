@@ -5,36 +5,38 @@ use Rattle.std.proofs.Math.Seq.{get_or-append_seam}
 use Rattle.devices.specs.State.{Image, fresh}
 use Rattle.devices.specs.World.{Standing, Outside, Goes, GoesOn, IsTimed, Moments, now, sent}
 use Rattle.devices.proofs.MomentLaws.{Goes-sent}
-use Rattle.store_meaning.specs.Layout.{Sizes}
-use Rattle.table_catalog.specs.Catalog.{Table}
+use Rattle.flat_transactions.specs.Order.{Sizes}
+use Rattle.rows.specs.Tables.{Table}
 use Rattle.script.specs.Grammar.{commands}
 use Rattle.script.specs.Machine.{State, opening}
 use Rattle.script.specs.Script.{machine, replies, commits, after}
 use Rattle.script.specs.Replies.{text}
 use Rattle.texts.specs.Runs as run
-use Rattle.texts.proofs.OutputLaws.{IsWhole-empty}
 use Rattle.engine.specs.declared.engine.Engine.{Engine}
 use Rattle.engine.specs.Holds.{bounds_in, Holds, HasOnly, InOrder}
-use Rattle.engine.specs.Engine.{engine_sizes, StandsFor, IsSteadyFor}
+use Rattle.engine.specs.Engine.{engine_sizes, StandsFor, IsSteadyFor, Shows}
 use Rattle.engine.specs.Opening.{ShowsHeld}
 use Rattle.engine.proofs.DoesLaws.{engine_in_order, engine_holds}
-use Rattle.script_run.specs.Run.{Aim, Owes, IsKept, AreSafe, IsDone}
-use Rattle.script_run.proofs.RunLaws.{safe_then}
-use Rattle.script_run.proofs.TablesLaws.{shows_tables}
+use Rattle.runner.specs.Run.{Aim, aim_of as aim_of_run, IsKept, AreSafe, IsReached}
+use Rattle.runner.proofs.RunLaws.{safe_then}
 use Rattle.spitfire_app.specs.Promises.{Replies, Recovers, Survives}
+
+-- the aim of a run over a store of these sizes and devices, with these tables, this input, and behind what was sent
+abbrev pub aim_at : List ℕ → Sizes → List Table → List ℕ → ℕ → ℕ → Bool → Aim
+aim_at before g T input lines blocks sure = record {
+  before = before;
+  replies = text (replies (bounds_in g) T input);
+  versions = T ∷ run.versions (machine (bounds_in g)) (opening T) (commands input);
+  sizes = g;
+  lines = lines;
+  blocks = blocks;
+  in_order = sure;
+}
 
 module _ (g : Sizes) (T : List Table) (old : Standing) where
   -- what a run over these tables is to do
   abbrev pub aim_of : Bool → Aim
-  aim_of sure = record {
-    before = sent old;
-    replies = text (replies (bounds_in g) T old.outside.input);
-    versions = T ∷ run.versions (machine (bounds_in g)) (opening T) (commands old.outside.input);
-    sizes = g;
-    lines = old.lines;
-    blocks = old.blocks;
-    in_order = sure;
-  }
+  aim_of sure = aim_at (sent old) g T old.outside.input old.lines old.blocks sure
 
   -- while the store is opened nothing is sent
   module _ (mid : Standing) (timed : IsTimed old) (goes : Goes old mid) (sure : Bool) where
@@ -56,28 +58,14 @@ module _ (g : Sizes) (T : List Table) (old : Standing) where
       };
     }
 
-    -- and then the whole script is owed
-    pub begun : (engine : Engine) → ShowsHeld g T mid engine → (IsTrue sure → IsSteadyFor engine mid)
-        → Owes (aim_of sure) engine (opening T) [] (commands mid.outside.input) mid
-    begun engine held steady =
-        subst (λ (o : Outside). Owes (aim_of sure) engine (opening T) [] (commands o.input) mid) (sym goes.outside) (record {
-          said = [];
-          is_said = Goes-sent timed goes mid.clock goes.clock ∙ sym (append-nil (sent old));
-          to_send = refl;
-          past = [];
-          to_commit = refl;
-          counted = refl;
-          at_most = omega arith;
-          said_whole = IsWhole-empty;
-          bytes_whole = IsWhole-empty;
-          tables = shows_tables held.shows;
-          copy = tt;
-          shows = held.shows;
-          sizes = held.sizes;
-          lines = goes.lines;
-          blocks = goes.blocks;
-          steady = steady;
-        })
+    -- and then the aim of the script is that of the whole
+    pub aim_same : (engine : Engine) → engine_sizes engine ≡ g → aim_of_run engine (opening T) mid sure ≡ aim_of sure
+    aim_same engine sizes =
+        ap (λ (x : Sizes). aim_at (sent mid) x T mid.outside.input mid.lines mid.blocks sure) sizes
+        ∙ ap (λ (l : List ℕ). aim_at l g T mid.outside.input mid.lines mid.blocks sure) (Goes-sent timed goes mid.clock goes.clock)
+        ∙ ap (λ (o : Outside). aim_at (sent old) g T o.input mid.lines mid.blocks sure) goes.outside
+        ∙ ap (λ n. aim_at (sent old) g T old.outside.input n mid.blocks sure) goes.lines
+        ∙ ap (λ n. aim_at (sent old) g T old.outside.input old.lines n sure) goes.blocks
 
   -- the tables after so many commits are those that stand behind so many
   after_past : (past later : List (List Table)) (tables : List Table) → past ++ (tables ∷ later) ≡ T ∷ run.versions (machine (bounds_in g)) (opening T) (commands old.outside.input)
@@ -100,37 +88,34 @@ module _ (g : Sizes) (T : List Table) (old : Standing) where
   }
 
   -- at the end
-  module _ (sure : Bool) (engine : Engine) (new : Standing) (done : IsDone (aim_of sure) engine new) where
-    abbrev owes : Owes (aim_of sure) engine done.s [] [] new
-    owes = done.owes
-
-    last : (commits (bounds_in g) T old.outside.input ≡ length owes.past) × (after (bounds_in g) T old.outside.input (commits (bounds_in g) T old.outside.input) ≡ (done.s).tables)
+  module _ (sure : Bool) (engine : Engine) (new : Standing) (done : IsReached (aim_of sure) engine new) where
+    last : (commits (bounds_in g) T old.outside.input ≡ length done.past) × (after (bounds_in g) T old.outside.input (commits (bounds_in g) T old.outside.input) ≡ (done.s).tables)
     last =
-        let all : length owes.past + 0 ≡ commits (bounds_in g) T old.outside.input = within_past owes.past [] (done.s).tables owes.to_commit in
-        let count : commits (bounds_in g) T old.outside.input ≡ length owes.past = omega arith in
-        (count, ap (λ k. after (bounds_in g) T old.outside.input k) count ∙ after_past owes.past [] (done.s).tables owes.to_commit)
+        let all : length done.past + 0 ≡ commits (bounds_in g) T old.outside.input = within_past done.past [] (done.s).tables done.last in
+        let count : commits (bounds_in g) T old.outside.input ≡ length done.past = omega arith in
+        (count, ap (λ k. after (bounds_in g) T old.outside.input k) count ∙ after_past done.past [] (done.s).tables done.last)
 
     end_sent : sent new ≡ sent old ++ text (replies (bounds_in g) T old.outside.input)
-    end_sent = owes.is_said ∙ ap (λ (l : List ℕ). sent old ++ l) (sym (append-nil owes.said) ∙ owes.to_send)
+    end_sent = done.all_sent
 
     module _ (stands : StandsFor engine new) (told : IsTrue new.told) where
       end_holds : Holds g (after (bounds_in g) T old.outside.input (commits (bounds_in g) T old.outside.input)) (now new)
       end_holds =
           subst (λ (x : List Table). Holds g x (now new)) (sym last.1)
-          (subst (λ (x : Sizes). Holds x (done.s).tables (now new)) owes.sizes (engine_holds engine new stands told done.s owes.shows))
+          (subst (λ (x : Sizes). Holds x (done.s).tables (now new)) done.sizes (engine_holds engine new stands told done.s done.shows))
 
       end_in_order : IsTrue sure → InOrder g (after (bounds_in g) T old.outside.input (commits (bounds_in g) T old.outside.input)) old.lines old.blocks (now new)
       end_in_order in_order =
           subst (λ (x : List Table). InOrder g x old.lines old.blocks (now new)) (sym last.1)
-          (subst (λ (x : Sizes). InOrder x (done.s).tables old.lines old.blocks (now new)) owes.sizes
-          (subst (λ n. InOrder (engine_sizes engine) (done.s).tables n old.blocks (now new)) owes.lines
-          (subst (λ n. InOrder (engine_sizes engine) (done.s).tables new.lines n (now new)) owes.blocks
-          (engine_in_order engine new stands told done.s owes.shows (owes.steady in_order)))))
+          (subst (λ (x : Sizes). InOrder x (done.s).tables old.lines old.blocks (now new)) done.sizes
+          (subst (λ n. InOrder (engine_sizes engine) (done.s).tables n old.blocks (now new)) done.lines
+          (subst (λ n. InOrder (engine_sizes engine) (done.s).tables new.lines n (now new)) done.blocks
+          (engine_in_order engine new stands told done.s done.shows (done.steady in_order)))))
 
   -- Where a run stands that came to its end.
   pub record Ended (sure : Bool) (new : Standing) : Type 0 where
     pub engine : Engine
-    pub done : IsDone (aim_of sure) engine new
+    pub done : IsReached (aim_of sure) engine new
     pub stands : StandsFor engine new
     pub told : IsTrue new.told
 
@@ -153,8 +138,8 @@ module _ (g : Sizes) (T : List Table) (old : Standing) where
 -- What a script's run does behind an opening.
 pub record Runs (engine : Engine) (mid : Standing) (behind : Engine) (new : Standing) (status : ℕ) : Type 0 where
   pub goes : GoesOn mid new
-  pub safe : (aim : Aim) (s : State) → Owes aim engine s [] (commands mid.outside.input) mid → AreSafe aim mid new
-  pub ends : (aim : Aim) (s : State) → Owes aim engine s [] (commands mid.outside.input) mid → status ≡ 0 → IsDone aim behind new
+  pub safe : (s : State) (sure : Bool) → Shows engine mid s → (IsTrue sure → IsSteadyFor engine mid) → AreSafe (aim_of_run engine s mid sure) mid new
+  pub ends : (s : State) (sure : Bool) → Shows engine mid s → (IsTrue sure → IsSteadyFor engine mid) → status ≡ 0 → IsReached (aim_of_run engine s mid sure) behind new
   pub stands : status ≡ 0 → StandsFor behind new
   pub read : status ≡ 0 → new.outside.input ≡ []
 
@@ -177,7 +162,7 @@ module _ (g : Sizes) (T : List Table) (old mid : Standing) (timed : IsTimed old)
     ended : (sure : Bool) → (IsTrue sure → IsSteadyFor engine mid) → status ≡ 0 → Ended g T old sure new
     ended sure steady is = record {
       engine = behind;
-      done = runs.ends (aim_of g T old sure) (opening T) (begun g T old mid timed goes sure engine held steady) is;
+      done = subst (λ (aim : Aim). IsReached aim behind new) (aim_same g T old mid timed goes sure engine held.sizes) (runs.ends (opening T) sure held.shows steady is);
       stands = runs.stands is;
       told = told_new;
     }
@@ -185,7 +170,7 @@ module _ (g : Sizes) (T : List Table) (old mid : Standing) (timed : IsTimed old)
     safe : (sure : Bool) → (IsTrue sure → IsSteadyFor engine mid) → (IsTrue sure → Moments old mid (HasOnly g T old.lines old.blocks)) → AreSafe (aim_of g T old sure) old new
     safe sure steady moments =
         safe_then (opening_safe g T old mid timed goes sure moments) runs.goes
-        (runs.safe (aim_of g T old sure) (opening T) (begun g T old mid timed goes sure engine held steady))
+        (subst (λ (aim : Aim). AreSafe aim mid new) (aim_same g T old mid timed goes sure engine held.sizes) (runs.safe (opening T) sure held.shows steady))
 
     pub run_replies : Replies g T old new status
     run_replies = replied g T old new status (safe false (λ none. never none) (λ none. never none)) (ended false (λ none. never none)) runs.read

@@ -2,13 +2,13 @@
 use Rattle.std.proofs.Common.{◌≡◌, ◌≢◌, ◌⊎◌, inl, inr, ℕ, [], ◌∷◌, refl, sym, ◌∙◌, ap, subst, arith, Result, Ok, Err}
 use Rattle.std.proofs.lemmas.Result.{IfErr-at_err}
 use Rattle.devices.specs.World.{Standing, Outside, Goes, Stays}
-use Rattle.recovery.specs.Causes.{OpenStops}
-use Rattle.recovery.specs.Opening.{HoldsStore}
-use Rattle.recovery.specs.declared.opening.Parts.{Parts}
-use Rattle.recovery.specs.declared.errors.OpenError.{OpenError}
-use Rattle.recovery.specs.declared.errors.OpenError.TheVariants.{Nvm, Ssd, NotAStore, TooSmall, LogEnded, Damaged, NoMemory}
+use Rattle.flat_recovery.specs.Causes.{OpenStops}
+use Rattle.flat_recovery.specs.Opening.{HoldsStore}
+use Rattle.flat_recovery.specs.declared.opening.Parts.{Parts}
+use Rattle.flat_recovery.specs.declared.errors.OpenError.{OpenError}
+use Rattle.flat_recovery.specs.declared.errors.OpenError.TheVariants.{Nvm, Ssd, NotAStore, TooSmall, LogEnded, Damaged, NoMemory}
 use Rattle.engine.specs.Opening.{Opens as IsOpening}
-use Rattle.script_run.specs.Statuses.{IsOneOf}
+use Rattle.runner.specs.Statuses.{IsOneOf}
 use Rattle.spitfire_app.specs.Promises.{Untouched, RunCauses, NoFaultCame}
 use Rattle.spitfire_app.proofs.StatusLaws.{only_one, one_of, not_one, quiet, codes_of}
 use Rattle.spitfire_app.proofs.CauseLaws.{found_err, Ran, causes_of}

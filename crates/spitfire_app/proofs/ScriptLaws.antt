@@ -1,26 +1,29 @@
 -- Why a run ends that answers a script.
-use Rattle.std.proofs.Common.{◌≡◌, ◌≢◌, inl, inr, ℕ, ◌^◌, ◌<◌, ◌≤◌, List, [], ◌∷◌, length, refl, sym, ◌∙◌, ap, subst, arith, IsTrue, Result, Ok}
+use Rattle.std.proofs.Common.{◌≡◌, ◌≢◌, inl, inr, ℕ, ◌^◌, ◌<◌, ◌≤◌, List, [], ◌∷◌, ◌++◌, length, refl, sym, ◌∙◌, ap, subst, arith, IsTrue, Result, Ok}
 use Rattle.std.proofs.lemmas.Result.{IfOk-at_ok}
-use Rattle.devices.specs.World.{Standing, Outside, Goes, GoesOn, NoFault, Rose, now}
-use Rattle.nvm_layout.specs.Opening.{NoFault as NoneCame}
-use Rattle.store_meaning.specs.Layout.{Sizes}
-use Rattle.table_catalog.specs.Catalog.{Table}
+use Rattle.devices.specs.World.{Standing, Outside, Goes, GoesOn, IsTimed, NoFault, Rose, now}
+use Rattle.devices.proofs.MomentLaws.{Goes-sent}
+use Rattle.damage.specs.DamageText.{damage_text}
+use Rattle.script.specs.Replies.{text}
+use Rattle.flat_nvm_layout.specs.Opening.{NoFault as NoneCame}
+use Rattle.flat_transactions.specs.Order.{Sizes}
+use Rattle.rows.specs.Tables.{Table}
 use Rattle.script.specs.Machine.{opening as at_start}
-use Rattle.recovery.specs.declared.opening.Parts.{Parts}
-use Rattle.recovery.specs.declared.errors.OpenError.{OpenError}
+use Rattle.flat_recovery.specs.declared.opening.Parts.{Parts}
+use Rattle.flat_recovery.specs.declared.errors.OpenError.{OpenError}
 use Rattle.engine.specs.declared.engine.Engine.{Engine}
-use Rattle.store_laws.specs.ShownPages.{committed_in}
+use Rattle.flat_transactions.specs.OpenStore.{committed_lines}
 use Rattle.engine.specs.Holds.{Holds}
 use Rattle.engine.specs.Resting.{Rests}
 use Rattle.engine.specs.Opening.{Opens as IsOpening, ShowsHeld}
-use Rattle.script_run.specs.Statuses.{IsOneOf, Exactly, Told, ScriptCauses}
-use Rattle.script_run.proofs.CauseLaws.{shown_since}
+use Rattle.runner.specs.Statuses.{IsOneOf, Exactly, Told, ScriptCauses}
+use Rattle.runner.proofs.CauseLaws.{shown_since}
 use Rattle.spitfire_app.specs.Promises.{RunCauses, NoFaultCame}
 use Rattle.spitfire_app.proofs.StatusLaws.{first_or, only_one, none_of, quiet, rose_before, codes_of}
 use Rattle.spitfire_app.proofs.CauseLaws.{found_ok, Ran, causes_of}
 
-module _ (old mid : Standing) (goes : Goes old mid) (engine : Engine) (opening : IsOpening old mid (Ok engine))
-    (shows : IsTrue old.told → (g : Sizes) (T : List Table) → Holds g T (now old) → ShowsHeld g T mid engine) (rests : IsTrue old.told → Rests (committed_in (now old)) engine mid)
+module _ (old mid : Standing) (timed : IsTimed old) (goes : Goes old mid) (engine : Engine) (opening : IsOpening old mid (Ok engine))
+    (shows : IsTrue old.told → (g : Sizes) (T : List Table) → Holds g T (now old) → ShowsHeld g T mid engine) (rests : IsTrue old.told → Rests (committed_lines old) engine mid)
     (behind : Engine) (new : Standing) (next : GoesOn mid new) (status : ℕ) (script : ScriptCauses (2 ^ 32) engine mid behind new status)
     (read_all : IsTrue mid.told → status ≡ 0 → new.outside.input ≡ []) where
   found_parts : (parts : Parts) × (opening.found ≡ Ok parts)
@@ -64,8 +67,8 @@ module _ (old mid : Standing) (goes : Goes old mid) (engine : Engine) (opening :
           kept = told.kept;
           page = told.page;
           shows = inr (behind, shown_since told.page told.kept behind old mid new goes.clock told.shown);
-          first = λ is_told taken same are. told.first (told_mid is_told) (committed_in (now old)) taken (rests is_told) (ap (λ (o : Outside). o.input) same_outside ∙ same) are;
-          ends = told.ends;
+          first = λ is_told taken same are. told.first (told_mid is_told) (committed_lines old) taken (rests is_told) (ap (λ (o : Outside). o.input) same_outside ∙ same) are;
+          ends = λ is_told. ((told.ends is_told).0, (told.ends is_told).1 ∙ ap (λ (l : List ℕ). l ++ (text (told.ends is_told).0 ++ damage_text told.kept told.page)) (Goes-sent timed goes mid.clock goes.clock));
         };
     refused = λ among. none_of status (0 ∷ 5 ∷ 6 ∷ 7 ∷ 8 ∷ 9 ∷ 12 ∷ []) (3 ∷ 4 ∷ 11 ∷ 13 ∷ []) refl script.known among;
     nvm = λ is. rose_before old.nvm_faults mid.nvm_faults new.nvm_faults goes.nvm_faults (script.nvm is);

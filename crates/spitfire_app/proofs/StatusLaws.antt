@@ -3,13 +3,13 @@ use Rattle.std.proofs.Common.{◌≡◌, ◌⊎◌, inl, inr, ℕ, ◌<◌, ◌�
 use Rattle.std.specs.List.{list_any, list_all}
 use Rattle.std.proofs.lemmas.Bool.{cases_Bool, and_parts, eqb-true}
 use Rattle.devices.specs.World.{Rose, last_count}
-use Rattle.nvm_layout.specs.Opening.{Finding}
-use Rattle.nvm_layout.specs.Opening.Finding.{another, too_small, ended, sound, fails}
-use Rattle.recovery.specs.Opening.{IsAnswer}
-use Rattle.recovery.specs.declared.opening.Parts.{Parts}
-use Rattle.recovery.specs.declared.errors.OpenError.{OpenError}
-use Rattle.recovery.specs.declared.errors.OpenError.TheVariants.{Nvm, Ssd, NotAStore, TooSmall, LogEnded, Damaged, NoMemory}
-use Rattle.script_run.specs.Statuses.{IsOneOf}
+use Rattle.flat_nvm_layout.specs.Opening.{Finding}
+use Rattle.flat_nvm_layout.specs.Opening.Finding.{another, too_small, ended, sound, fails}
+use Rattle.flat_recovery.specs.Opening.{IsAnswer}
+use Rattle.flat_recovery.specs.declared.opening.Parts.{Parts}
+use Rattle.flat_recovery.specs.declared.errors.OpenError.{OpenError}
+use Rattle.flat_recovery.specs.declared.errors.OpenError.TheVariants.{Nvm, Ssd, NotAStore, TooSmall, LogEnded, Damaged, NoMemory}
+use Rattle.runner.specs.Statuses.{IsOneOf}
 use Rattle.spitfire_app.specs.Promises.{IsQuiet}
 
 -- ---- one of some

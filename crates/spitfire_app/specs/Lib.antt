@@ -1,3 +1,4 @@
 pub mod CommandLine
 pub mod Damage
 pub mod Promises
+pub mod Laws

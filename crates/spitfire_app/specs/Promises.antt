@@ -2,19 +2,19 @@
 use Rattle.std.specs.Prelude.{◌≡◌, ◌≢◌, ◌⊎◌, codes, ℕ, ◌+◌, ◌^◌, ◌<◌, ◌≤◌, List, [], ◌∷◌, ◌++◌, length, None, Some, IsTrue}
 use Rattle.devices.specs.State.{State, Image, Leaves, fresh, current}
 use Rattle.devices.specs.World.{Standing, Moments, Rose, NoFault, last_count, now, sent, sent_at}
-use Rattle.store_meaning.specs.Layout.{Sizes}
-use Rattle.store_meaning.specs.Format.Format.{whole_lines}
-use Rattle.store_meaning.specs.Recovered.{image_log_check}
-use Rattle.nvm_layout.specs.Opening.Finding.{another, too_small, ended as log_ended, sound, fails}
-use Rattle.recovery.specs.Empty.{HasNoMagic}
-use Rattle.recovery.specs.Causes.{IsTooSmall}
-use Rattle.table_catalog.specs.Catalog.{Table}
+use Rattle.flat_transactions.specs.Order.{Sizes}
+use Rattle.flat_store_meaning.specs.Format.Format.{whole_lines}
+use Rattle.flat_store_meaning.specs.Recovered.{image_log_check}
+use Rattle.flat_nvm_layout.specs.Opening.Finding.{another, too_small, ended as log_ended, sound, fails}
+use Rattle.flat_recovery.specs.Empty.{HasNoMagic}
+use Rattle.flat_recovery.specs.Causes.{IsTooSmall}
+use Rattle.rows.specs.Tables.{Table}
 use Rattle.texts.specs.Lines.{ended}
 use Rattle.texts.specs.Output.{acked, IsPrefix}
 use Rattle.script.specs.Replies.{text}
 use Rattle.script.specs.Script.{replies, commits, after}
 use Rattle.engine.specs.Holds.{bounds_in, Holds, InOrder}
-use Rattle.script_run.specs.Statuses.{IsOneOf, Exactly}
+use Rattle.runner.specs.Statuses.{IsOneOf, Exactly}
 use Rattle.spitfire_app.specs.declared.words.Task.TheVariants.{Format, Run}
 use Rattle.spitfire_app.specs.CommandLine.{task_of}
 use Rattle.spitfire_app.specs.Damage.{found_in, IsDamaged}
@@ -65,6 +65,13 @@ pub record Formatted (old new : Standing) (status : ℕ) : Type 0 where
   pub begin : (m : ℕ) → old.clock ≤ m → m ≤ new.clock → (said : List ℕ) × (sent_at new m ≡ sent old ++ said) × IsPrefix said formatted
   pub whole : status ≡ 0 → sent new ≡ sent old ++ formatted
   pub in_order : status ≡ 0 → InOrder first_sizes [] old.lines old.blocks (now new)
+
+-- ---- settings
+
+-- no settings were read
+pub record ReadsNoSettings (old new : Standing) : Type 0 where
+  pub settings : new.outside.settings ≡ old.outside.settings
+  pub faults : new.outside.settings_faults ≡ old.outside.settings_faults
 
 -- ---- statuses
 

@@ -2,24 +2,24 @@
 ghost use Rattle.std.specs.Prelude.{◌≡◌, ◌≤◌, ◌⊎◌, ◌^◌, List, [], ◌∷◌, ◌++◌, Some, true, false, IsTrue, length};
 ghost use Rattle.ssd_model.specs.Page.{zero_page};
 ghost use Rattle.devices.specs.World.{GoesOn, WorldCall, OnlyChanges, IsHonest, Rose, now, sent};
-ghost use Rattle.store_meaning.specs.Layout.{Sizes, nvm_lines, ssd_blocks};
-ghost use Rattle.recovery.specs.Opening.{HoldsStore};
-ghost use Rattle.table_catalog.specs.Catalog.{Table};
+ghost use Rattle.flat_transactions.specs.Order.{Sizes, nvm_lines, ssd_blocks};
+ghost use Rattle.flat_recovery.specs.Opening.{HoldsStore};
+ghost use Rattle.rows.specs.Tables.{Table};
 ghost use Rattle.engine.specs.Holds.{Holds, InOrder};
-ghost use Rattle.nvm_layout.specs.Sizes.{sizes_of};
-ghost use Rattle.app_texts.specs.DamageText.{damage_text};
-ghost use Rattle.script_run.specs.Statuses.{IsOneOf};
+ghost use Rattle.flat_nvm_layout.specs.Sizes.{sizes_of};
+ghost use Rattle.damage.specs.DamageText.{damage_text};
+ghost use Rattle.runner.specs.Statuses.{IsOneOf};
 ghost use Rattle.spitfire_app.specs.CommandLine.{task_of};
-ghost use Rattle.spitfire_app.specs.Promises.{first_sizes, Replies, Survives, Formatted, Causes, RunCauses, FormatCauses, NoFaultCame};
+ghost use Rattle.spitfire_app.specs.Promises.{first_sizes, Replies, Survives, Formatted, Causes, RunCauses, FormatCauses, NoFaultCame, ReadsNoSettings};
 ghost use Rattle.spitfire_app.specs.declared.words.Task.TheVariants.{Format, Run};
 
 use crate::words::{Task, Words};
+use damage::Evidence;
 use devices::{Devices, World};
 use engine::{Engine, OpenError};
-use line_pages::Evidence;
-use nvm_layout::Geometry;
-use recovery::FormatError;
-use script_run::{run_script, tell_damage, write_all};
+use flat_nvm_layout::Geometry;
+use flat_recovery::FormatError;
+use runner::{run_script, tell_damage, write_all};
 use ssd_model::PageBuf;
 use std::alloc::Global;
 
@@ -31,6 +31,8 @@ const LIMIT: u64 = 1 << 32;
 /// memory, 12 a script of more than 2^32 bytes, 13 a log whose offsets end.
 pub fn spitfire<W: World>(alloc: Global, words: &Words, world: &mut W) -> u8
     ensures goes { GoesOn (W.Devices.standing world.old) (W.Devices.standing world.new) }
+    // no settings are read
+    ensures settings { ReadsNoSettings (W.Devices.standing world.old) (W.Devices.standing world.new) }
     // why each status comes
     ensures causes { Causes words.now (W.Devices.standing world.old) (W.Devices.standing world.new) result }
     // `run` over devices that hold tables: the replies are those of plain tables
@@ -72,11 +74,12 @@ fn first_geometry() -> Geometry
 /// Makes an empty store and says so.
 fn format<W: World>(world: &mut W) -> u8
     ensures goes { GoesOn (W.Devices.standing world.old) (W.Devices.standing world.new) }
+    ensures settings { ReadsNoSettings (W.Devices.standing world.old) (W.Devices.standing world.new) }
     ensures causes { FormatCauses (W.Devices.standing world.old) (W.Devices.standing world.new) result }
     ensures formats { IsTrue (W.Devices.standing world.old).told → nvm_lines first_sizes ≤ (W.Devices.standing world.old).lines → ssd_blocks first_sizes ≤ (W.Devices.standing world.old).blocks
         → Formatted (W.Devices.standing world.old) (W.Devices.standing world.new) result }
 {
-    match recovery::format(world, &first_geometry()) {
+    match flat_recovery::format(world, &first_geometry()) {
         Ok(()) => match write_all(world, b"formatted\n") {
             Ok(()) => 0,
             Err(_) => 9,
@@ -90,6 +93,7 @@ fn format<W: World>(world: &mut W) -> u8
 /// Opens the store and answers the script.
 fn run<W: World>(alloc: Global, world: &mut W) -> u8
     ensures goes { GoesOn (W.Devices.standing world.old) (W.Devices.standing world.new) }
+    ensures settings { ReadsNoSettings (W.Devices.standing world.old) (W.Devices.standing world.new) }
     ensures causes { RunCauses (W.Devices.standing world.old) (W.Devices.standing world.new) result }
     ensures replies { (g : Sizes) (T : List Table) → IsTrue (W.Devices.standing world.old).told → Holds g T (now (W.Devices.standing world.old))
         → Replies g T (W.Devices.standing world.old) (W.Devices.standing world.new) result }

@@ -9,8 +9,6 @@ mod page;
 mod sector;
 mod sectors;
 mod state;
-#[cfg(test)]
-mod tests;
 
 pub use choice::BlockChoice;
 pub use page::PageBuf;

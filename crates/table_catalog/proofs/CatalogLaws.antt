@@ -5,13 +5,13 @@ use Rattle.std.specs.List.{list_all}
 use Rattle.std.proofs.lemmas.Bool.{cases_Bool, and_parts, leb-true, ltb-true}
 use Rattle.nvm_model.specs.declared.line.Line.{Line}
 use Rattle.line_pages.specs.Lines.{Lines}
-use Rattle.slotted_page.specs.Checks.{first_failure}
-use Rattle.page_space.specs.Space.{word, high_of}
-use Rattle.table_catalog.specs.declared.limits.Limits.{Limits}
+use Rattle.damage.specs.Checks.{first_failure}
+use Rattle.page_alloc.specs.Space.{word, high_of}
+use Rattle.rows.specs.declared.limits.Limits.{Limits}
 use Rattle.table_catalog.specs.declared.entry.Entry.{Entry}
-use Rattle.table_catalog.specs.Names.{is_name_byte}
+use Rattle.rows.specs.Names.{is_name_byte}
 use Rattle.table_catalog.specs.Catalog.{entry_in, entries_from, entries, table_count, name_in, name_of, names_differ, is_zero, is_name_field, is_listed, is_entry, header_checks, catalog_checks, FitsCatalog, FitsEntry, place_of, table_of}
-use Rattle.table_catalog.specs.Stored.{is_known}
+use Rattle.rows.specs.Tables.{is_known}
 use Rattle.table_catalog.specs.declared.entry.Place.{Place}
 
 -- each of the checks passes

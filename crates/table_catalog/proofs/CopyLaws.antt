@@ -4,7 +4,7 @@ use Rattle.nvm_model.specs.declared.line.Line.{Line}
 use Rattle.line_pages.specs.Lines.{Lines, IsLine}
 use Rattle.line_pages.specs.Bytes.{bytes_of, line_at, with_line_bytes}
 use Rattle.line_pages.proofs.ByteLaws.{line_at-written, line_at-other}
-use Rattle.page_space.proofs.FailLaws.{written_itself}
+use Rattle.page_alloc.proofs.FailLaws.{written_itself}
 
 -- the line stands in the copy, the other ones are as they were, and a copy of the page that has the line stays
 pub kept_line : (old new : List ℕ) (at : ℕ) (whole line : Line) → new ≡ with_line_bytes old at whole → whole ≡ line → length old ≡ 4096 → at < 64 → IsLine whole → line_at new at ≡ line

@@ -2,7 +2,8 @@
 use Rattle.std.proofs.Common.{◌≡◌, ℕ, ◌+◌, ◌-◌, ◌≤◌, List, [], ◌∷◌, ◌++◌, append-nil, take-add, drop-drop, take_all, length, take, drop, refl, sym, ap, ◌∙◌, arith}
 use Rattle.std.specs.Prelude.{slice_index, slice_range}
 use Rattle.nvm_model.specs.declared.line.Line.{Line}
-use Rattle.line_pages.specs.Bytes.{bytes_of_word, overwritten}
+use Rattle.line_pages.specs.Bytes.{overwritten}
+use Rattle.nvm_model.specs.LineBytes.{bytes_of_word}
 use Rattle.table_catalog.specs.Catalog.{field_in}
 
 -- four words written one after the other

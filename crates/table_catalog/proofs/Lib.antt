@@ -4,3 +4,4 @@ pub mod CopyLaws
 pub mod FailsLaws
 pub mod TableLaws
 pub mod TouchesLaws
+pub mod ReadsLaws

@@ -6,19 +6,20 @@ use Rattle.line_pages.specs.declared.stop.Stop.{Stop}
 use Rattle.line_pages.specs.declared.stop.Stop.TheVariants.{Nvm, Ssd, Damaged}
 use Rattle.line_pages.specs.Lines.{Lines}
 use Rattle.line_pages.specs.Standing.{Standing, HasCause}
-use Rattle.slotted_page.specs.Rows.{Each}
+use Rattle.rows.specs.Rows.{Each}
 use Rattle.tree_search.specs.declared.root.Root.{Root}
-use Rattle.page_space.specs.Space.{high_of}
-use Rattle.page_space.specs.Counted.{times}
+use Rattle.page_alloc.specs.Space.{high_of}
+use Rattle.page_alloc.specs.Counted.{times}
 use Rattle.tree_search.specs.Tree.{IsRooted}
-use Rattle.page_space.specs.Moves.{below}
-use Rattle.page_space.specs.Stops.{IsFault}
-use Rattle.page_space.proofs.CountedLaws.{times-append}
-use Rattle.table_catalog.specs.declared.limits.Limits.{Limits}
+use Rattle.page_alloc.specs.Moves.{below}
+use Rattle.page_alloc.specs.Stops.{IsFault}
+use Rattle.page_alloc.proofs.CountedLaws.{times-append}
+use Rattle.rows.specs.declared.limits.Limits.{Limits}
 use Rattle.table_catalog.specs.declared.entry.Entry.{Entry}
 use Rattle.table_catalog.specs.declared.entry.Place.{Place}
 use Rattle.table_catalog.specs.Catalog.{entries, name_of, table_of, place_of, entry_rows, entry_pages, FitsEntry, IsCatalogDamage}
-use Rattle.table_catalog.specs.Stored.{HasTree, all_pages, IsStore, rows_of, place_rows}
+use Rattle.table_catalog.specs.Stored.{HasTree, all_pages, IsStore, place_rows}
+use Rattle.rows.specs.Tables.{rows_of}
 
 -- a catalog in order is never damaged
 pub sound_catalog : {A T : Type 0} (limits : Limits) (count : ℕ) (lines : Lines) (told : Type 0) (buffer : List ℕ) (old new : Standing A) (result : Result T Stop) → told → IsStore limits count lines

@@ -3,17 +3,19 @@ use Rattle.std.specs.Prelude.{◌≡◌, ℕ, zero, suc, ◌+◌, ◌-◌, ◌�
 use Rattle.std.specs.List.{list_all, list_any}
 use Rattle.nvm_model.specs.declared.line.Line.{Line}
 use Rattle.line_pages.specs.Lines.{Lines}
-use Rattle.line_pages.specs.Bytes.{word_bytes, pieces, bytes_of, line_at}
+use Rattle.line_pages.specs.Bytes.{bytes_of, line_at}
+use Rattle.nvm_model.specs.LineBytes.{word_bytes, pieces}
 use Rattle.line_pages.specs.Touch.{Touch, Access, touch_of}
-use Rattle.line_pages.specs.declared.stop.Evidence.{Evidence}
-use Rattle.slotted_page.specs.Checks.{first_failure}
-use Rattle.slotted_page.specs.Rows.{Row}
-use Rattle.page_space.specs.Space.{word, high_of, IsPageEvidence}
+use Rattle.damage.specs.declared.evidence.Evidence.{Evidence}
+use Rattle.rows.specs.Tables.{Table}
+use Rattle.damage.specs.Checks.{first_failure}
+use Rattle.rows.specs.Rows.{Row}
+use Rattle.page_alloc.specs.Space.{word, high_of, IsPageEvidence}
 use Rattle.tree_search.specs.Tree.{tree_rows, tree_pages}
-use Rattle.table_catalog.specs.declared.limits.Limits.{Limits}
+use Rattle.rows.specs.declared.limits.Limits.{Limits}
 use Rattle.table_catalog.specs.declared.entry.Entry.{Entry}
 use Rattle.table_catalog.specs.declared.entry.Place.{Place}
-use Rattle.table_catalog.specs.Names.{is_name_byte}
+use Rattle.rows.specs.Names.{is_name_byte}
 
 -- the 32 bytes of words 0 to 3, which keep the name
 unfoldable pub field_in : Line → List ℕ
@@ -33,6 +35,10 @@ table_count lines = word (lines 0 0) 1
 
 unfoldable pub entries : Lines → List Entry
 entries lines = entries_from lines 2 (table_count lines)
+
+-- word 7 of an entry's line is unused: a 0 there stays 0
+abbrev pub KeepsUnused : Lines → Lines → Type 0
+KeepsUnused old new = (l : ℕ) → 2 ≤ l → word (old 0 l) 7 ≡ 0 → word (new 0 l) 7 ≡ 0
 
 -- the name in a field: byte 0 is its length, the bytes follow
 abbrev pub name_in : List ℕ → List ℕ
@@ -132,10 +138,6 @@ entry_rows lines entry = tree_rows lines (entry.levels - 1) entry.root
 
 abbrev pub entry_pages : Lines → Entry → List ℕ
 entry_pages lines entry = tree_pages lines (entry.levels - 1) entry.root
-
--- a table as its user has it: its name and its rows
-abbrev pub Table : Type 0
-Table = List ℕ × List Row
 
 abbrev pub table_of : Lines → Entry → Table
 table_of lines entry = (name_of entry, entry_rows lines entry)

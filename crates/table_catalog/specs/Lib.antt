@@ -1,4 +1,5 @@
-pub mod Names
 pub mod Catalog
+pub mod Causes
 pub mod Stored
 pub mod Lookup
+pub mod Where

@@ -1,15 +1,16 @@
 -- A store of pages in order, and its tables by name.
 use Rattle.std.specs.Prelude.{◌≡◌, ℕ, ◌-◌, Bool, true, false, List, [], ◌∷◌, ◌++◌, length, None, Option, Some, if◌then◌else◌, flat_map, bytes_eq}
 use Rattle.line_pages.specs.Lines.{Lines}
-use Rattle.slotted_page.specs.Checks.{first_failure}
-use Rattle.slotted_page.specs.Rows.{Row, Each, last_key}
-use Rattle.page_space.specs.Space.{high_of, IsFreeList}
-use Rattle.page_space.specs.Moves.{AreExactly}
+use Rattle.damage.specs.Checks.{first_failure}
+use Rattle.rows.specs.Rows.{Row, Each, last_key}
+use Rattle.page_alloc.specs.Space.{high_of, IsFreeList}
+use Rattle.page_alloc.specs.Moves.{AreExactly}
 use Rattle.tree_search.specs.Tree.{IsTree}
-use Rattle.table_catalog.specs.declared.limits.Limits.{Limits}
+use Rattle.rows.specs.declared.limits.Limits.{Limits}
 use Rattle.table_catalog.specs.declared.entry.Entry.{Entry}
 use Rattle.table_catalog.specs.declared.entry.Place.{Place}
-use Rattle.table_catalog.specs.Catalog.{entries, catalog_checks, entry_rows, entry_pages, Table}
+use Rattle.table_catalog.specs.Catalog.{entries, catalog_checks, entry_rows, entry_pages}
+use Rattle.rows.specs.Tables.{Table}
 
 -- the entry's tree is well formed, and its number of rows is right
 abbrev pub HasTree : ℕ → Lines → Entry → Type 0
@@ -27,21 +28,6 @@ pub record IsStore (limits : Limits) (count : ℕ) (lines : Lines) : Type 0 wher
   pub free : List ℕ
   pub is_free : IsFreeList lines free
   pub exact : AreExactly (high_of lines) (0 ∷ (all_pages lines (entries lines) ++ free))
-
--- whether a table has the name
-abbrev pub is_known : List ℕ → List Table → Bool
-is_known name [] = false
-is_known name (table ∷ rest) = if bytes_eq table.0 name then true else is_known name rest
-
--- the rows of the first table with the name
-abbrev pub rows_of : List ℕ → List Table → Option (List Row)
-rows_of name [] = None
-rows_of name (table ∷ rest) = if bytes_eq table.0 name then Some table.1 else rows_of name rest
-
--- the tables with other rows in the first one with the name
-abbrev pub with_rows : List ℕ → List Row → List Table → List Table
-with_rows name rows [] = []
-with_rows name rows (table ∷ rest) = if bytes_eq table.0 name then (table.0, rows) ∷ rest else table ∷ with_rows name rows rest
 
 -- the rows of the tree of an entry, if there is one
 abbrev pub place_rows : Lines → Option Place → Option (List Row)

@@ -1,22 +1,25 @@
 //! The catalog in page 0, read line by line.
 ghost use Rattle.std.specs.Prelude.{◌≡◌, ◌≢◌, ◌+◌, [], ◌∷◌, ◌++◌, ◌<◌, ◌≤◌, ℕ, length, false, None, Some, IsTrue, OnOk, IfOk, IfErr, IfSome};
+ghost use Rattle.table_catalog.specs.Causes.{CatalogCause};
+ghost use Rattle.table_catalog.specs.Where.{OnStore};
+ghost use Rattle.line_pages.specs.PagesCall.{PagesCall, PagesStop};
 ghost use Rattle.line_pages.specs.Bytes.{bytes_of, line_at};
 ghost use Rattle.line_pages.specs.Lines.{Lines};
 ghost use Rattle.line_pages.specs.Touch.{begins, touch_of};
-ghost use Rattle.line_pages.specs.Standing.{Continues, HasCause, IsCause, Never, ReadsPage};
-ghost use Rattle.slotted_page.specs.Checks.{first_failure};
-ghost use Rattle.slotted_page.specs.Search.{Keeps};
-ghost use Rattle.page_space.specs.Space.{word, IsPageEvidence};
-ghost use Rattle.page_space.specs.Stops.{IsFault};
+ghost use Rattle.line_pages.specs.Standing.{HasCause, IsCause, Never, ReadsPage, UnlessStop, UnlessFault};
+ghost use Rattle.damage.specs.Checks.{first_failure};
+ghost use Rattle.page_format.specs.Search.{Keeps};
+ghost use Rattle.page_alloc.specs.Space.{word, IsPageEvidence};
+ghost use Rattle.page_alloc.specs.Stops.{IsFault};
 ghost use Rattle.table_catalog.specs.Catalog.{entry_in as entry_of_line, header_checks, entries, tables, place_of, entry_touches, entries_read, lookup_touches, is_listed as listed, FitsCatalog, FitsEntry, FitsPlace, FitsRoot, IsCatalogDamage, FailsCatalog};
-ghost use Rattle.table_catalog.specs.Stored.{is_known, IsStore};
+ghost use Rattle.rows.specs.Tables.{is_known};
 
 use crate::entry::{Entry, Place, entry_in, has_name, is_listed};
-use crate::limits::Limits;
-use crate::name::Name;
-use line_pages::{Evidence, Pages, Stop, copy_page, set_page_line, whole_line};
+use damage::Evidence;
+use line_pages::{Pages, Stop, copy_page, set_page_line, whole_line};
 use nvm_model::Line;
-use slotted_page::Work;
+use page_format::Work;
+use rows::{Limits, Name};
 use ssd_model::PageBuf;
 
 /// Puts a line of page 0 into a copy of the page. A line of the page's bytes is written over by itself.
@@ -38,7 +41,8 @@ fn copy_catalog<P: Pages>(pages: &mut P, header: &Line, copy: &mut PageBuf) -> R
     ensures bytes { IsTrue (P.standing pages.old).told → header.now ≡ (P.standing pages.old).current 0 0 → OnOk result (copy.new ≡ bytes_of (P.standing pages.old).current 0) }
     ensures header { OnOk result (line_at copy.new 0 ≡ header.now) }
     ensures cause { HasCause Never (P.standing pages.old) (P.standing pages.new) result }
-    ensures continues { Continues (P.may_leave pages.old) (P.may_leave pages.new) (P.is_steady pages.old) (P.standing pages.old) (P.standing pages.new) }
+    ensures call { PagesCall P.Pages pages.old pages.new result }
+    ensures reads { OnOk result (ReadsPage 0 (P.standing pages.old) (P.standing pages.new)) }
     ensures again { (P.standing pages.new).visits ≤ (P.standing pages.old).visits }
 {
     copy_page(pages, 0, copy)?;
@@ -75,7 +79,8 @@ fn damaged_header<P: Pages>(
     requires fails { first_failure (header_checks limits.now (P.standing pages.old).count header.now) ≡ Some check }
     ensures cause { IsCause (λ e. IsTrue (P.standing pages.old).told → IsCatalogDamage limits.now (P.standing pages.old).count (P.standing pages.old).current work.new.page e) (P.standing pages.old) (P.standing pages.new) result }
     ensures fails { Keeps (FailsCatalog limits.now (P.standing pages.old).count work.new.page) result }
-    ensures continues { Continues (P.may_leave pages.old) (P.may_leave pages.new) (P.is_steady pages.old) (P.standing pages.old) (P.standing pages.new) }
+    ensures call { PagesStop P.Pages pages.old pages.new result }
+    ensures reads { UnlessStop result (ReadsPage 0 (P.standing pages.old) (P.standing pages.new)) }
     ensures again { (P.standing pages.new).visits ≤ (P.standing pages.old).visits }
 {
     match copy_catalog(pages, header, &mut work.page) {
@@ -104,7 +109,8 @@ fn damaged_entry<P: Pages>(
     requires fails { listed limits.now (word header.now 2) (entry_of_line entry.now) ≡ false }
     ensures cause { IsCause (λ e. IsTrue (P.standing pages.old).told → IsCatalogDamage limits.now (P.standing pages.old).count (P.standing pages.old).current work.new.page e) (P.standing pages.old) (P.standing pages.new) result }
     ensures fails { Keeps (FailsCatalog limits.now (P.standing pages.old).count work.new.page) result }
-    ensures continues { Continues (P.may_leave pages.old) (P.may_leave pages.new) (P.is_steady pages.old) (P.standing pages.old) (P.standing pages.new) }
+    ensures call { PagesStop P.Pages pages.old pages.new result }
+    ensures reads { UnlessStop result (ReadsPage 0 (P.standing pages.old) (P.standing pages.new)) }
     ensures again { (P.standing pages.new).visits ≤ (P.standing pages.old).visits }
 {
     match copy_catalog(pages, header, &mut work.page) {
@@ -142,14 +148,12 @@ pub fn read_catalog<P: Pages>(pages: &mut P, limits: &Limits, work: &mut Work) -
     requires ready { P.is_ready pages.old }
     ensures header { IsTrue (P.standing pages.old).told → IfOk result (λ line. line ≡ (P.standing pages.old).current 0 0) }
     ensures fits { IfOk result (FitsCatalog limits.now (P.standing pages.old).count) }
-    ensures cause { HasCause (λ e. IsTrue (P.standing pages.old).told → IsCatalogDamage limits.now (P.standing pages.old).count (P.standing pages.old).current work.new.page e) (P.standing pages.old) (P.standing pages.new) result }
+    ensures cause { CatalogCause P.Pages pages.old pages.new limits.now work.new.page result }
     ensures fails { IfErr result (Keeps (FailsCatalog limits.now (P.standing pages.old).count work.new.page)) }
-    ensures continues { Continues (P.may_leave pages.old) (P.may_leave pages.new) (P.is_steady pages.old) (P.standing pages.old) (P.standing pages.new) }
-    ensures reads { OnOk result (ReadsPage 0 (P.standing pages.old) (P.standing pages.new)) }
+    ensures call { PagesCall P.Pages pages.old pages.new result }
+    ensures reads { UnlessFault result (ReadsPage 0 (P.standing pages.old) (P.standing pages.new)) }
     ensures line { OnOk result ((P.standing pages.new).touches ≡ (P.standing pages.old).touches ++ touch_of (P.standing pages.old).access 0 0 false ∷ []) }
     ensures few { (P.standing pages.new).visits ≤ (P.standing pages.old).visits + 1 }
-    ensures ready { OnOk result (P.is_ready pages.new) }
-    ensures steady { P.is_steady pages.old → OnOk result (P.is_steady pages.new) }
 {
     let count = pages.page_count();
     let header = pages.read_line(0, 0)?;
@@ -175,14 +179,12 @@ fn read_entry<P: Pages>(
     requires at { at < word header.now 1 }
     ensures entry { IsTrue (P.standing pages.old).told → IfOk result (λ entry. entry ≡ entry_of_line ((P.standing pages.old).current 0 (2 + at))) }
     ensures fits { IfOk result (FitsEntry limits.now (word header.now 2)) }
-    ensures cause { HasCause (λ e. IsTrue (P.standing pages.old).told → IsCatalogDamage limits.now (P.standing pages.old).count (P.standing pages.old).current work.new.page e) (P.standing pages.old) (P.standing pages.new) result }
+    ensures cause { CatalogCause P.Pages pages.old pages.new limits.now work.new.page result }
     ensures fails { IfErr result (Keeps (FailsCatalog limits.now (P.standing pages.old).count work.new.page)) }
-    ensures continues { Continues (P.may_leave pages.old) (P.may_leave pages.new) (P.is_steady pages.old) (P.standing pages.old) (P.standing pages.new) }
-    ensures reads { OnOk result (ReadsPage 0 (P.standing pages.old) (P.standing pages.new)) }
+    ensures call { PagesCall P.Pages pages.old pages.new result }
+    ensures reads { UnlessFault result (ReadsPage 0 (P.standing pages.old) (P.standing pages.new)) }
     ensures line { OnOk result ((P.standing pages.new).touches ≡ (P.standing pages.old).touches ++ touch_of (Some (0, false)) 0 (2 + at) false ∷ []) }
     ensures again { (P.standing pages.new).visits ≤ (P.standing pages.old).visits }
-    ensures ready { OnOk result (P.is_ready pages.new) }
-    ensures steady { P.is_steady pages.old → OnOk result (P.is_steady pages.new) }
 {
     let line = pages.read_line(0, 2 + at as usize)?;
     let entry = entry_in(&line);
@@ -207,14 +209,12 @@ pub fn search<P: Pages>(
     requires fits { FitsCatalog limits.now (P.standing pages.old).count header.now }
     ensures place { IsTrue (P.standing pages.old).told → IfOk result (λ place. place ≡ place_of name.now 0 (entries (P.standing pages.old).current)) }
     ensures fits { IfOk result (λ place. IfSome place (FitsPlace limits.now header.now)) }
-    ensures cause { HasCause (λ e. IsTrue (P.standing pages.old).told → IsCatalogDamage limits.now (P.standing pages.old).count (P.standing pages.old).current work.new.page e) (P.standing pages.old) (P.standing pages.new) result }
+    ensures cause { CatalogCause P.Pages pages.old pages.new limits.now work.new.page result }
     ensures fails { IfErr result (Keeps (FailsCatalog limits.now (P.standing pages.old).count work.new.page)) }
-    ensures continues { Continues (P.may_leave pages.old) (P.may_leave pages.new) (P.is_steady pages.old) (P.standing pages.old) (P.standing pages.new) }
-    ensures reads { OnOk result (ReadsPage 0 (P.standing pages.old) (P.standing pages.new)) }
+    ensures call { PagesCall P.Pages pages.old pages.new result }
+    ensures reads { UnlessFault result (ReadsPage 0 (P.standing pages.old) (P.standing pages.new)) }
     ensures lines { IfOk result (λ place. (P.standing pages.new).touches ≡ (P.standing pages.old).touches ++ entry_touches 2 (entries_read (word header.now 1) place)) }
     ensures again { (P.standing pages.new).visits ≤ (P.standing pages.old).visits }
-    ensures ready { OnOk result (P.is_ready pages.new) }
-    ensures steady { P.is_steady pages.old → OnOk result (P.is_steady pages.new) }
 {
     for at in 0..header.words[1] {
         let entry = read_entry(pages, limits, header, at, work)?;
@@ -236,15 +236,13 @@ pub fn find_entry<P: Pages>(
     requires ready { P.is_ready pages.old }
     ensures place { IsTrue (P.standing pages.old).told → IfOk result (λ place. place ≡ place_of name.now 0 (entries (P.standing pages.old).current)) }
     ensures fits { IfOk result (λ place. IfSome place (FitsRoot limits.now (P.standing pages.old).count)) }
-    ensures sound { IsTrue (P.standing pages.old).told → IsStore limits.now (P.standing pages.old).count (P.standing pages.old).current → IfErr result IsFault }
-    ensures cause { HasCause (λ e. IsTrue (P.standing pages.old).told → IsCatalogDamage limits.now (P.standing pages.old).count (P.standing pages.old).current work.new.page e) (P.standing pages.old) (P.standing pages.new) result }
+    ensures sound { OnStore P.Pages pages.old limits.now (IfErr result IsFault) }
+    ensures cause { CatalogCause P.Pages pages.old pages.new limits.now work.new.page result }
     ensures fails { IfErr result (Keeps (FailsCatalog limits.now (P.standing pages.old).count work.new.page)) }
-    ensures continues { Continues (P.may_leave pages.old) (P.may_leave pages.new) (P.is_steady pages.old) (P.standing pages.old) (P.standing pages.new) }
-    ensures reads { OnOk result (ReadsPage 0 (P.standing pages.old) (P.standing pages.new)) }
+    ensures call { PagesCall P.Pages pages.old pages.new result }
+    ensures reads { UnlessFault result (ReadsPage 0 (P.standing pages.old) (P.standing pages.new)) }
     ensures lines { IsTrue (P.standing pages.old).told → OnOk result ((P.standing pages.new).touches ≡ (P.standing pages.old).touches ++ lookup_touches (P.standing pages.old).access (P.standing pages.old).current name.now) }
     ensures few { (P.standing pages.new).visits ≤ (P.standing pages.old).visits + 1 }
-    ensures ready { OnOk result (P.is_ready pages.new) }
-    ensures steady { P.is_steady pages.old → OnOk result (P.is_steady pages.new) }
 {
     let header = read_catalog(pages, limits, work)?;
     search(pages, limits, &header, name, work)
@@ -262,16 +260,14 @@ pub fn has_table<P: Pages>(
     // the answer
     ensures known { IsTrue (P.standing pages.old).told → IfOk result (λ known. known ≡ is_known name.now (tables (P.standing pages.old).current)) }
     // why it stops
-    ensures sound { IsTrue (P.standing pages.old).told → IsStore limits.now (P.standing pages.old).count (P.standing pages.old).current → IfErr result IsFault }
-    ensures cause { HasCause (λ e. IsTrue (P.standing pages.old).told → IsCatalogDamage limits.now (P.standing pages.old).count (P.standing pages.old).current work.new.page e) (P.standing pages.old) (P.standing pages.new) result }
+    ensures sound { OnStore P.Pages pages.old limits.now (IfErr result IsFault) }
+    ensures cause { CatalogCause P.Pages pages.old pages.new limits.now work.new.page result }
     ensures fails { IfErr result (Keeps (FailsCatalog limits.now (P.standing pages.old).count work.new.page)) }
     // what is read, and what stays
-    ensures reads { OnOk result (ReadsPage 0 (P.standing pages.old) (P.standing pages.new)) }
+    ensures reads { UnlessFault result (ReadsPage 0 (P.standing pages.old) (P.standing pages.new)) }
     ensures lines { IsTrue (P.standing pages.old).told → OnOk result ((P.standing pages.new).touches ≡ (P.standing pages.old).touches ++ lookup_touches (P.standing pages.old).access (P.standing pages.old).current name.now) }
     ensures few { (P.standing pages.new).visits ≤ (P.standing pages.old).visits + 1 }
-    ensures continues { Continues (P.may_leave pages.old) (P.may_leave pages.new) (P.is_steady pages.old) (P.standing pages.old) (P.standing pages.new) }
-    ensures ready { OnOk result (P.is_ready pages.new) }
-    ensures steady { P.is_steady pages.old → OnOk result (P.is_steady pages.new) }
+    ensures call { PagesCall P.Pages pages.old pages.new result }
 {
     let place = find_entry(pages, limits, name, work)?;
     Ok(place.is_some())

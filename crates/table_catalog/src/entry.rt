@@ -1,12 +1,12 @@
 //! One table as the catalog has it.
 ghost use Rattle.std.specs.Prelude.{◌≡◌, ◌+◌, ◌≤◌, bytes_eq, slice_index};
 ghost use Rattle.std.specs.List.{list_all};
+ghost use Rattle.page_alloc.specs.Space.{word};
 ghost use Rattle.table_catalog.specs.Catalog.{entry_in as entry_of_line, field_in as field_of_line, name_of, is_name_field as field_has_name, is_listed as listed, is_zero};
 
-use crate::limits::Limits;
-use crate::name::{Name, all_name_bytes};
 use line_pages::{get_word, put_word};
 use nvm_model::Line;
+use rows::{Limits, Name, all_name_bytes};
 use tree_search::Root;
 
 /// The entry of a table: the bytes that keep its name, its root page, the levels of its tree, and the number of its rows.
@@ -106,10 +106,11 @@ pub fn root_of(entry: &Entry) -> Root
     }
 }
 
-/// The line that keeps an entry.
+/// The line that keeps an entry, with 0 in the unused word 7.
 #[tactic(auto, using(crate::proofs::EntryLaws::four_parts))]
 pub fn line_of(entry: Entry) -> Line
-    ensures { entry_of_line result ≡ entry }
+    ensures entry { entry_of_line result ≡ entry }
+    ensures unused { word result 7 ≡ 0 }
 {
     let first = get_word(&entry.field, 0);
     let second = get_word(&entry.field, 8);

@@ -3,12 +3,6 @@
 
 mod catalog;
 mod entry;
-mod limits;
-mod name;
-#[cfg(test)]
-mod tests;
 
 pub use catalog::{find_entry, has_table, read_catalog, search};
 pub use entry::{Entry, Place, line_of, root_of};
-pub use limits::Limits;
-pub use name::Name;

@@ -5,22 +5,23 @@ use Rattle.std.proofs.lemmas.Bool.{cases_Bool, and_parts, leb-true, lt-ltb}
 use Rattle.nvm_model.specs.declared.line.Line.{Line}
 use Rattle.line_pages.specs.Lines.{Lines, with_line}
 use Rattle.line_pages.proofs.LineLaws.{with_line-here, with_line-other_page, with_line-other_line}
-use Rattle.slotted_page.specs.Rows.{Row}
-use Rattle.slotted_page.specs.Rows.{last_key}
+use Rattle.rows.specs.Rows.{Row}
+use Rattle.rows.specs.Rows.{last_key}
 use Rattle.tree_search.specs.declared.root.Root.{Root}
-use Rattle.page_space.specs.Space.{word, high_of, free_head, IsFreeFrom, IsFreeList}
-use Rattle.page_space.specs.Counted.{times, SameOn}
+use Rattle.page_alloc.specs.Space.{word, high_of, free_head, IsFreeFrom, IsFreeList}
+use Rattle.page_alloc.specs.Counted.{times, SameOn}
 use Rattle.tree_search.specs.Tree.{tree_pages}
-use Rattle.page_space.specs.Moves.{below, Moves}
+use Rattle.page_alloc.specs.Moves.{below, Moves}
 use Rattle.bplus_tree.specs.Changes.{Changes}
-use Rattle.page_space.proofs.CountedLaws.{times-append}
+use Rattle.page_alloc.proofs.CountedLaws.{times-append}
 use Rattle.tree_search.proofs.TreeLaws.{tree_rows-same, tree_pages-same, IsTree-same}
-use Rattle.page_space.proofs.SpaceLaws.{free_from-same}
-use Rattle.table_catalog.specs.declared.limits.Limits.{Limits}
+use Rattle.page_alloc.proofs.SpaceLaws.{free_from-same}
+use Rattle.rows.specs.declared.limits.Limits.{Limits}
 use Rattle.table_catalog.specs.declared.entry.Entry.{Entry}
 use Rattle.table_catalog.specs.declared.entry.Place.{Place}
 use Rattle.table_catalog.specs.Catalog.{entry_in, entries_from, entries, table_count, name_of, table_of, place_of, tables, catalog_checks, entry_rows, entry_pages}
-use Rattle.table_catalog.specs.Stored.{HasTree, all_pages, IsStore, with_rows}
+use Rattle.table_catalog.specs.Stored.{HasTree, all_pages, IsStore}
+use Rattle.rows.specs.Tables.{with_rows}
 use Rattle.table_catalog.proofs.CatalogLaws.{AllHold, all_hold}
 use Rattle.table_store.specs.Changed.{root_at}
 use Rattle.table_catalog.proofs.TableLaws.{pages_of_place}

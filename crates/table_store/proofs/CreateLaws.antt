@@ -2,23 +2,24 @@
 use Rattle.std.proofs.Common.{◌≡◌, ◌≢◌, ℕ, zero, suc, ◌+◌, ◌<◌, ◌≤◌, inl, inr, Bool, true, false, not, cond, List, [], ◌∷◌, ◌++◌, map, length, None, Some, Result, Ok, Err, OnOk, refl, sym, ap, subst, ◌∙◌, arith, nat_lt, nat_le, nat_eq}
 use Rattle.std.specs.Prelude.{bytes_eq, is_some}
 use Rattle.std.specs.List.{list_all, list_any}
-use Rattle.std.proofs.lemmas.Bool.{cases_Bool, leb-true, lt-ltb, le-ltb, le-leb, eq-eqb, and_parts, and_from}
+use Rattle.std.proofs.lemmas.Bool.{cases_Bool, cases_eq, leb-true, lt-ltb, le-ltb, le-leb, eq-eqb, and_parts, and_from}
 use Rattle.std.proofs.lemmas.List.{map-append, get_or-set_same, get_or-set_other}
 use Rattle.nvm_model.specs.declared.line.Line.{Line}
 use Rattle.line_pages.specs.declared.stop.Stop.{Stop}
 use Rattle.line_pages.specs.Lines.{Lines, with_line}
 use Rattle.line_pages.proofs.LineLaws.{with_line-here, with_line-other_page, with_line-other_line}
-use Rattle.slotted_page.specs.Rows.{Each}
-use Rattle.page_space.specs.Space.{word, with_word, kind_of, high_of, free_head, IsFreeFrom, IsFreeList}
-use Rattle.page_space.specs.Counted.{times, SameOn}
-use Rattle.page_space.specs.Moves.{below, Moves, AreExactly, SameEntries, Takes}
-use Rattle.page_space.proofs.CountedLaws.{times-append}
-use Rattle.page_space.proofs.SpaceLaws.{free_from-same}
-use Rattle.table_catalog.specs.declared.limits.Limits.{Limits}
+use Rattle.rows.specs.Rows.{Each}
+use Rattle.page_alloc.specs.Space.{word, with_word, kind_of, high_of, free_head, IsFreeFrom, IsFreeList}
+use Rattle.page_alloc.specs.Counted.{times, SameOn}
+use Rattle.page_alloc.specs.Moves.{below, Moves, AreExactly, SameEntries, Takes}
+use Rattle.page_alloc.proofs.CountedLaws.{times-append}
+use Rattle.page_alloc.proofs.SpaceLaws.{free_from-same}
+use Rattle.rows.specs.declared.limits.Limits.{Limits}
 use Rattle.table_catalog.specs.declared.entry.Entry.{Entry}
-use Rattle.table_catalog.specs.Names.{is_name}
+use Rattle.rows.specs.Names.{is_name}
 use Rattle.table_catalog.specs.Catalog.{entry_in, entries, entries_from, table_count, name_of, table_of, tables, place_of, is_entry, names_differ, catalog_checks}
-use Rattle.table_catalog.specs.Stored.{HasTree, all_pages, IsStore, is_known}
+use Rattle.table_catalog.specs.Stored.{HasTree, all_pages, IsStore}
+use Rattle.rows.specs.Tables.{is_known}
 use Rattle.table_store.specs.Created.{new_entry, leaf_line, Written, Makes, created_of, IsCreated}
 use Rattle.table_catalog.specs.declared.entry.Place.{Place}
 use Rattle.table_store.specs.declared.answer.Created.TheVariants.{Made, Present, NoSlot}
@@ -104,13 +105,19 @@ module _ (limits : Limits) (count : ℕ) (old mid new : Lines) (store : IsStore 
       ∙ with_line-other_line 0 0 (with_word 1 (at + 1) (mid 0 0)) (with_line 0 (2 + at) written.line (with_line page 0 leaf_line mid)) 0 (2 + at) (λ e. omega (arith, e))
       ∙ with_line-here 0 (2 + at) written.line (with_line page 0 leaf_line mid)
 
-  other_entries : (k : ℕ) → 2 ≤ k → k < 2 + at → new 0 k ≡ old 0 k
-  other_entries k low high =
+  last_unused : word (new 0 (2 + at)) 7 ≡ 0
+  last_unused = ap (λ (line : Line). word line 7) entry_new ∙ written.unused
+
+  other_lines : (k : ℕ) → 2 ≤ k → k ≢ 2 + at → new 0 k ≡ old 0 k
+  other_lines k low apart =
       ap (λ (all : Lines). all 0 k) written.after
       ∙ with_line-other_line 0 0 (with_word 1 (at + 1) (mid 0 0)) (with_line 0 (2 + at) written.line (with_line page 0 leaf_line mid)) 0 k (λ e. omega (arith, e, low))
-      ∙ with_line-other_line 0 (2 + at) written.line (with_line page 0 leaf_line mid) 0 k (λ e. omega (arith, e, high))
+      ∙ with_line-other_line 0 (2 + at) written.line (with_line page 0 leaf_line mid) 0 k apart
       ∙ with_line-other_line page 0 leaf_line mid 0 k (λ e. omega (arith, e, low))
       ∙ same_entries k (λ e. omega (arith, e, low))
+
+  other_entries : (k : ℕ) → 2 ≤ k → k < 2 + at → new 0 k ≡ old 0 k
+  other_entries k low high = other_lines k low (λ e. omega (arith, e, high))
 
   entries_new : entries new ≡ es ++ entry ∷ []
   unfolding entries
@@ -219,6 +226,11 @@ module _ (limits : Limits) (count : ℕ) (old mid new : Lines) (store : IsStore 
             let out : nat_lt n (high_of old) ≡ false = le-ltb n (high_of old) (omega (arith, above, high_new, moves.higher)) in
             let all = rw out at (before n) in
             other_pages n other apart ∙ moves.others n other (omega (arith, all)) (inr (omega (arith, above, high_new)));
+        unused = λ l low zero. elim (cases_eq l (2 + at)) [
+          | inl here ↦ ap (λ (k : ℕ). word (new 0 k) 7) here ∙ last_unused
+          | inr other ↦ ap (λ (line : Line). word line 7) (other_lines l low other) ∙ zero
+        ];
+        unused_last = subst (λ (k : ℕ). word (new 0 (2 + k)) 7 ≡ 0) at_is last_unused;
       }
 
 -- by the answer of the call that writes

@@ -5,7 +5,7 @@ use Rattle.std.specs.Prelude.{true, replicate, nat_le, ◌&&◌}
 use Rattle.std.specs.List.{list_all}
 use Rattle.std.proofs.lemmas.Bool.{and_parts, and_from}
 use borrow.Rule.Slice.PartMut.{post_of}
-use Rattle.table_catalog.specs.Names.{is_name, is_name_byte}
+use Rattle.rows.specs.Names.{is_name, is_name_byte}
 use Rattle.table_catalog.specs.Catalog.{name_in, is_name_field, is_zero}
 use Rattle.table_store.specs.Created.{field_of}
 

@@ -1,12 +1,12 @@
 -- The bytes that a stop for damage keeps, in the words of each call.
 use Rattle.std.proofs.Common.{◌≡◌, ℕ, inl, inr, List, refl, subst, Result, Ok, Err, IfErr}
-use Rattle.line_pages.specs.declared.stop.Evidence.{Evidence}
+use Rattle.damage.specs.declared.evidence.Evidence.{Evidence}
 use Rattle.line_pages.specs.declared.stop.Stop.{Stop}
 use Rattle.line_pages.specs.declared.stop.Stop.TheVariants.{Nvm, Ssd, Damaged}
-use Rattle.slotted_page.specs.Search.{Keeps, FailsNode}
-use Rattle.page_space.specs.Space.{FailsSpace}
+use Rattle.page_format.specs.Search.{Keeps, FailsNode}
+use Rattle.page_alloc.specs.Space.{FailsSpace}
 use Rattle.bplus_tree.specs.Damage.{FailsTree}
-use Rattle.table_catalog.specs.declared.limits.Limits.{Limits}
+use Rattle.rows.specs.declared.limits.Limits.{Limits}
 use Rattle.table_catalog.specs.Catalog.{FailsCatalog}
 use Rattle.table_store.specs.Created.{FailsCreate}
 use Rattle.table_store.specs.Getting.{FailsLookup}

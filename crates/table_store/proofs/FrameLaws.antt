@@ -3,17 +3,17 @@ use Rattle.std.proofs.Common.{◌≡◌, ◌≢◌, ℕ, zero, suc, ◌+◌, ◌
 use Rattle.std.specs.List.{list_all}
 use Rattle.std.proofs.lemmas.Bool.{ltb-true, leb-true, lt-ltb, le-ltb, le-leb, eq-eqb, and_parts, and_from, cases_lt}
 use Rattle.std.proofs.lemmas.List.{map-append}
-use Rattle.table_catalog.specs.declared.limits.Limits.{Limits}
+use Rattle.rows.specs.declared.limits.Limits.{Limits}
 use Rattle.line_pages.specs.Lines.{Lines}
-use Rattle.page_space.specs.Space.{high_of, free_head, IsFreeList}
-use Rattle.slotted_page.specs.Rows.{Each, last_key}
-use Rattle.page_space.specs.Counted.{times, SameOn}
+use Rattle.page_alloc.specs.Space.{high_of, free_head, IsFreeList}
+use Rattle.rows.specs.Rows.{Each, last_key}
+use Rattle.page_alloc.specs.Counted.{times, SameOn}
 use Rattle.tree_search.specs.Tree.{tree_pages}
 use Rattle.table_catalog.specs.declared.entry.Entry.{Entry}
 use Rattle.table_catalog.specs.Catalog.{entries, name_of, name_in, is_name_field, table_of, is_entry, names_differ, catalog_checks, entry_rows, entry_pages, tables}
 use Rattle.table_catalog.specs.Stored.{HasTree, all_pages, IsStore}
-use Rattle.page_space.specs.Moves.{below, Moves, AreExactly}
-use Rattle.page_space.proofs.CountedLaws.{times-append, SameOn-left, SameOn-right}
+use Rattle.page_alloc.specs.Moves.{below, Moves, AreExactly}
+use Rattle.page_alloc.proofs.CountedLaws.{times-append, SameOn-left, SameOn-right}
 use Rattle.tree_search.proofs.TreeLaws.{tree_rows-same, tree_pages-same, IsTree-same}
 use Rattle.table_catalog.proofs.CatalogLaws.{AllHold, all_hold, none_fails}
 

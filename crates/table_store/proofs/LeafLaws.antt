@@ -3,8 +3,8 @@ use Rattle.std.proofs.Common.{◌≡◌, ℕ, true, List, [], None, refl, sym, a
 use Rattle.line_pages.specs.Lines.{Lines}
 use Rattle.line_pages.specs.Bytes.{bytes_of, u64_at}
 use Rattle.line_pages.proofs.ByteLaws.{header_word}
-use Rattle.slotted_page.specs.Rows.{last_key}
-use Rattle.slotted_page.specs.Node.{slots, leaf_rows, first_failing}
+use Rattle.rows.specs.Rows.{last_key}
+use Rattle.page_format.specs.Node.{slots, leaf_rows, first_failing}
 use Rattle.tree_search.specs.Tree.{IsTree, tree_rows}
 use Rattle.table_store.specs.Created.{leaf_line}
 

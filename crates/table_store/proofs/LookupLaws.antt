@@ -7,16 +7,17 @@ use Rattle.line_pages.specs.Touch.{Access, begins, accesses_from, begun_from, la
 use Rattle.line_pages.specs.Standing.{Standing, ReadsPage, AddsReads}
 use Rattle.line_pages.proofs.TouchLaws.{accesses_from-begun}
 use Rattle.line_pages.proofs.StandingLaws.{page_adds, AddsReads-trans}
-use Rattle.slotted_page.specs.Rows.{Row}
+use Rattle.rows.specs.Rows.{Row}
 use Rattle.tree_search.specs.Tree.{IsRooted}
 use Rattle.tree_search.specs.Way.{IsPath}
-use Rattle.page_space.specs.Stops.{IsFault}
+use Rattle.page_alloc.specs.Stops.{IsFault}
 use Rattle.tree_search.proofs.SearchLaws.{on_ok, from_ok}
-use Rattle.table_catalog.specs.declared.limits.Limits.{Limits}
+use Rattle.rows.specs.declared.limits.Limits.{Limits}
 use Rattle.table_catalog.specs.declared.entry.Place.{Place}
 use Rattle.table_catalog.specs.Catalog.{entries, tables, place_of, entry_rows, entry_pages, FitsEntry}
 use Rattle.table_store.specs.Changed.{root_at}
-use Rattle.table_catalog.specs.Stored.{IsStore, rows_of}
+use Rattle.table_catalog.specs.Stored.{IsStore}
+use Rattle.rows.specs.Tables.{rows_of}
 use Rattle.table_store.specs.Getting.{IsLookup, place_levels, place_path}
 use Rattle.table_catalog.proofs.TableLaws.{rooted, rows_by}
 

@@ -4,10 +4,10 @@ use Rattle.std.proofs.lemmas.Bool.{and_parts, cases_eq, eqb-true, eq-eqb}
 use Rattle.line_pages.specs.declared.stop.Stop.{Stop}
 use Rattle.line_pages.specs.Lines.{Lines, with_line}
 use Rattle.line_pages.proofs.LineLaws.{with_line-other_page, with_line-other_line}
-use Rattle.slotted_page.specs.Rows.{Row}
+use Rattle.rows.specs.Rows.{Row}
 use Rattle.tree_search.specs.declared.root.Root.{Root}
 use Rattle.bplus_tree.specs.Changes.{Changes, ChangesRows}
-use Rattle.table_catalog.specs.declared.limits.Limits.{Limits}
+use Rattle.rows.specs.declared.limits.Limits.{Limits}
 use Rattle.table_catalog.specs.declared.entry.Entry.{Entry}
 use Rattle.table_catalog.specs.declared.entry.Place.{Place}
 use Rattle.table_catalog.specs.Catalog.{entry_in, entries_from, entries, table_count, place_of, entry_rows, entry_pages, FitsRoot}
@@ -65,6 +65,7 @@ stays_entered lines place root rows stays there =
           ∙ ap (λ (n : ℕ). record { field = place.entry.field; root = root.page; levels = n; rows = place.entry.rows }) levels
           ∙ ap (λ (n : ℕ). record { field = place.entry.field; root = root.page; levels = root.levels; rows = n }) number;
       after = with_itself lines (2 + place.at);
+      unused = λ zero. zero;
     }
 
 -- a change of the table's tree leaves the entry

@@ -4,14 +4,14 @@ use Rattle.std.specs.Prelude.{is_some}
 use Rattle.std.proofs.lemmas.Bool.{eq-eqb}
 use Rattle.line_pages.specs.declared.stop.Stop.{Stop}
 use Rattle.line_pages.specs.Standing.{Standing}
-use Rattle.slotted_page.specs.Rows.{Row, row_get}
+use Rattle.rows.specs.Rows.{Row, row_get}
 use Rattle.node_edit.specs.Record.{HoldsLength}
-use Rattle.page_space.specs.Written.{WritesNothing}
+use Rattle.page_alloc.specs.Written.{WritesNothing}
 use Rattle.tree_search.specs.declared.root.Root.{Root}
 use Rattle.tree_search.specs.Tree.{IsRooted, leaf_for}
 use Rattle.bplus_tree.specs.Record.{WritesRecord, PutsRecord}
 use Rattle.bplus_tree.proofs.LeafOfKey.{record_later}
-use Rattle.table_catalog.specs.declared.limits.Limits.{Limits}
+use Rattle.rows.specs.declared.limits.Limits.{Limits}
 use Rattle.table_catalog.specs.declared.entry.Place.{Place}
 use Rattle.table_catalog.specs.Catalog.{entries, place_of, entry_rows, entry_pages, FitsRoot}
 use Rattle.table_catalog.specs.Stored.{IsStore}

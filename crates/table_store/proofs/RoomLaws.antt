@@ -2,21 +2,21 @@
 use Rattle.std.proofs.Common.{◌≡◌, ◌≢◌, ◌<◌, not, None, Result, Ok, Err, IfErr, nat_eq, ◌||◌, ℕ, zero, suc, ◌+◌, ◌-◌, ◌*◌, ◌/◌, ◌≤◌, Bool, true, List, [], ◌∷◌, ◌++◌, map, length, refl, sym, ap, subst, ◌∙◌, arith, nat_le, nat_lt, ◌&&◌, length-append, suc-mul, add-mul, zero-mul, one-mul, mul-le-mul_right}
 use Rattle.std.specs.List.{list_all}
 use Rattle.std.proofs.lemmas.Bool.{leb-true, and_parts, eq-eqb, ne_eqb}
-use Rattle.table_catalog.specs.declared.limits.Limits.{Limits}
+use Rattle.rows.specs.declared.limits.Limits.{Limits}
 use Rattle.line_pages.specs.Lines.{Lines}
-use Rattle.page_space.specs.Space.{high_of, free_head, is_free_page, take_checks, IsFreeList, IsSpaceDamage}
-use Rattle.slotted_page.specs.Rows.{Each, last_key}
-use Rattle.slotted_page.specs.Checks.{first_failure}
+use Rattle.page_alloc.specs.Space.{high_of, free_head, is_free_page, take_checks, IsFreeList, IsSpaceDamage}
+use Rattle.rows.specs.Rows.{Each, last_key}
+use Rattle.damage.specs.Checks.{first_failure}
 use Rattle.table_catalog.specs.declared.entry.Entry.{Entry}
 use Rattle.line_pages.specs.declared.stop.Stop.{Stop}
 use Rattle.line_pages.specs.declared.stop.Stop.TheVariants.{Nvm, Ssd, Damaged}
 use Rattle.line_pages.specs.Standing.{Standing, HasCause}
-use Rattle.page_space.specs.Stops.{IsFault}
+use Rattle.page_alloc.specs.Stops.{IsFault}
 use Rattle.table_catalog.specs.Catalog.{entries, entries_from, table_count, name_of, is_name_field, is_entry, names_differ, catalog_checks, entry_pages}
 use Rattle.table_catalog.specs.Stored.{HasTree, all_pages, IsStore}
 use Rattle.table_catalog.proofs.CatalogLaws.{AllHold, all_hold, none_fails}
 use Rattle.tree_search.proofs.SizeLaws.{page_bound}
-use Rattle.page_space.proofs.SpaceLaws.{length-exactly}
+use Rattle.page_alloc.proofs.SpaceLaws.{length-exactly}
 
 -- the high water is the number of pages in use: page 0, those of the tables and the free ones
 pub pages_total : (limits : Limits) (count : ℕ) (lines : Lines) (store : IsStore limits count lines) → high_of lines ≡ 1 + length (all_pages lines (entries lines)) + length store.free

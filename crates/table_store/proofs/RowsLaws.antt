@@ -1,29 +1,30 @@
 -- A row that is put into a table, or taken out.
 use Rattle.std.proofs.Common.{◌≡◌, ◌≢◌, ℕ, suc, ◌+◌, ◌-◌, ◌*◌, ◌/◌, ◌<◌, ◌≤◌, inl, inr, Bool, true, false, cond, List, [], ◌∷◌, ◌++◌, length, None, Some, Result, Ok, Err, OnOk, IfErr, refl, sym, ap, subst, ◌∙◌, arith, nat_eq, nat_lt, nat_le}
 use Rattle.std.specs.Prelude.{is_some}
-use Rattle.std.proofs.lemmas.Bool.{cases_Bool, and_parts, leb-true, ltb-true, lt-ltb, le-ltb, eqb-true, ne_eqb, cases_lt}
+use Rattle.std.proofs.lemmas.Bool.{cases_Bool, and_parts, leb-true, ltb-true, lt-ltb, le-ltb, eqb-true, ne_eqb, cases_lt, cases_eq}
 use Rattle.line_pages.specs.declared.stop.Stop.{Stop}
 use Rattle.nvm_model.specs.declared.line.Line.{Line}
 use Rattle.line_pages.specs.declared.stop.Stop.TheVariants.{Nvm, Ssd, Damaged}
-use Rattle.line_pages.specs.declared.stop.Evidence.TheVariants.{Super, Frames, Log, Page, Walk}
+use Rattle.damage.specs.declared.evidence.Evidence.TheVariants.{Super, Frames, Log, Page, Walk}
 use Rattle.line_pages.specs.Lines.{Lines}
-use Rattle.line_pages.proofs.LineLaws.{with_line-here}
-use Rattle.slotted_page.specs.Rows.{Row, keys, last_key, row_get, row_put, row_delete, Ascends}
+use Rattle.line_pages.proofs.LineLaws.{with_line-here, with_line-other_line}
+use Rattle.rows.specs.Rows.{Row, keys, last_key, row_get, row_put, row_delete, Ascends}
 use Rattle.tree_search.specs.declared.root.Root.{Root}
-use Rattle.page_space.specs.Space.{kind_of, high_of, free_head, FitsHeader}
+use Rattle.page_alloc.specs.Space.{word, kind_of, high_of, free_head, FitsHeader}
 use Rattle.tree_search.specs.Tree.{IsRooted}
-use Rattle.page_space.specs.Moves.{below, ArePart}
+use Rattle.page_alloc.specs.Moves.{below, ArePart}
 use Rattle.bplus_tree.specs.Changes.{Changes, ChangesRows}
-use Rattle.page_space.specs.Stops.{IsFault, pages_at_hand}
+use Rattle.page_alloc.specs.Stops.{IsFault, pages_at_hand}
 use Rattle.bplus_tree.specs.Damage.{IsLack, StandsIn}
-use Rattle.page_space.proofs.CountedLaws.{times-append}
-use Rattle.node_edit.proofs.RowLaws.{above_bound, row_get-none_above}
+use Rattle.page_alloc.proofs.CountedLaws.{times-append}
+use Rattle.rows.proofs.RowLaws.{above_bound, row_get-none_above}
 use Rattle.tree_search.proofs.OrderLaws.{tree_rows-ascend}
-use Rattle.table_catalog.specs.declared.limits.Limits.{Limits}
+use Rattle.rows.specs.declared.limits.Limits.{Limits}
 use Rattle.table_catalog.specs.declared.entry.Entry.{Entry}
 use Rattle.table_catalog.specs.declared.entry.Place.{Place}
 use Rattle.table_catalog.specs.Catalog.{entry_in, entries, table_count, tables, place_of, catalog_checks, entry_rows, entry_pages, FitsRoot}
-use Rattle.table_catalog.specs.Stored.{all_pages, rows_of, with_rows, IsStore}
+use Rattle.table_catalog.specs.Stored.{all_pages, IsStore}
+use Rattle.rows.specs.Tables.{rows_of, with_rows}
 use Rattle.table_store.specs.Changed.{root_at, Enters, ChangesTable}
 use Rattle.table_store.specs.Putting.{stored_of}
 use Rattle.table_store.specs.Deleting.{deleted_of}
@@ -112,6 +113,17 @@ module _ (limits : Limits) (count : ℕ) (old : Lines) (store : IsStore limits c
             let out : below n (high_of old) ≡ 0 = rw (le-ltb n (high_of old) (omega (arith, above, high, change.moves.higher))) refl in
             other_pages limits count old mid new store name place found root after change enters.line entry enters.after few_after n other
             ∙ change.moves.others n other (omega (arith, are_part n, out)) (inr (omega (arith, above, high)));
+        unused = λ l low zero.
+            let at = 2 + place.at in
+            elim (cases_eq l at) [
+              | inl here ↦
+                  let was = ap (λ (line : Line). word line 7) (change.entries at (λ e. omega (arith, e))) ∙ subst (λ (k : ℕ). word (old 0 k) 7 ≡ 0) here zero in
+                  ap (λ (k : ℕ). word (new 0 k) 7) here ∙ ap (λ (all : Lines). word (all 0 at) 7) enters.after
+                  ∙ ap (λ (line : Line). word line 7) (with_line-here 0 at enters.line mid) ∙ enters.unused was
+              | inr other ↦
+                  ap (λ (all : Lines). word (all 0 l) 7) enters.after
+                  ∙ ap (λ (line : Line). word line 7) (with_line-other_line 0 at enters.line mid 0 l other ∙ change.entries l (λ e. omega (arith, e, low))) ∙ zero
+            ];
       }
 
 -- by the answer of the call that writes

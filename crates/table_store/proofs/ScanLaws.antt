@@ -6,11 +6,11 @@ use Rattle.line_pages.specs.Lines.{Lines}
 use Rattle.line_pages.specs.Touch.{Access, begins, begun_from, last_from}
 use Rattle.line_pages.specs.Standing.{Standing, ReadsPage, AddsReads}
 use Rattle.line_pages.proofs.StandingLaws.{page_adds, AddsReads-trans}
-use Rattle.slotted_page.specs.Rows.{Row, Each}
+use Rattle.rows.specs.Rows.{Row, Each}
 use Rattle.tree_search.specs.Tree.{IsRooted}
 use Rattle.tree_search.specs.Way.{AreReadsIn}
 use Rattle.tree_search.proofs.SearchLaws.{on_ok, from_ok}
-use Rattle.table_catalog.specs.declared.limits.Limits.{Limits}
+use Rattle.rows.specs.declared.limits.Limits.{Limits}
 use Rattle.table_catalog.specs.declared.entry.Place.{Place}
 use Rattle.table_catalog.specs.Catalog.{entries, place_of, entry_rows, entry_pages, FitsEntry}
 use Rattle.table_catalog.specs.Stored.{IsStore}

@@ -1,17 +1,19 @@
 -- A table that is made.
 use Rattle.std.specs.Prelude.{◌≡◌, ℕ, ◌+◌, ◌-◌, ◌<◌, ◌≤◌, true, false, List, [], ◌∷◌, ◌++◌, length, replicate, IsTrue, Option, Some, None, ◌⊎◌, nat_lt, if◌then◌else◌}
 use Rattle.nvm_model.specs.declared.line.Line.{Line}
-use Rattle.line_pages.specs.declared.stop.Evidence.{Evidence}
+use Rattle.damage.specs.declared.evidence.Evidence.{Evidence}
 use Rattle.line_pages.specs.Lines.{Lines, with_line, IsLine}
 use Rattle.line_pages.specs.Standing.{Standing, KeepsLines}
-use Rattle.page_space.specs.Space.{high_of, with_word, take_checks, IsSpaceDamage, FailsSpace}
-use Rattle.table_catalog.specs.declared.limits.Limits.{Limits}
+use Rattle.page_alloc.specs.Space.{word, high_of, with_word, take_checks, IsSpaceDamage, FailsSpace}
+use Rattle.rows.specs.declared.limits.Limits.{Limits}
 use Rattle.table_catalog.specs.declared.entry.Entry.{Entry}
 use Rattle.table_store.specs.declared.answer.Created.{Created}
 use Rattle.table_store.specs.declared.answer.Created.TheVariants.{Made, Present, NoSlot}
-use Rattle.table_catalog.specs.Names.{is_name}
-use Rattle.table_catalog.specs.Catalog.{Table, entry_in, table_count, tables, entries, place_of, IsCatalogDamage, FailsCatalog}
-use Rattle.table_catalog.specs.Stored.{IsStore, is_known}
+use Rattle.rows.specs.Names.{is_name}
+use Rattle.table_catalog.specs.Catalog.{entry_in, table_count, tables, entries, place_of, IsCatalogDamage, FailsCatalog, KeepsUnused}
+use Rattle.rows.specs.Tables.{Table}
+use Rattle.table_catalog.specs.Stored.{IsStore}
+use Rattle.rows.specs.Tables.{is_known}
 
 -- the field of a name: its length, its bytes, then zeros
 unfoldable pub field_of : List ℕ → List ℕ
@@ -31,14 +33,17 @@ pub record Written (old new : Lines) (name : List ℕ) (page at : ℕ) : Type 0 
   pub line : Line
   pub header : IsLine (old 0 0)
   pub entry : entry_in line ≡ new_entry name page
+  pub unused : word line 7 ≡ 0
   pub after : new ≡ with_line 0 0 (with_word 1 (at + 1) (old 0 0)) (with_line 0 (2 + at) line (with_line page 0 leaf_line old))
 
 -- The store is in order again: one more table, with no row, stands last, and all others are as they were. No page above
--- those in use changed.
+-- those in use changed. The unused word of the new entry is 0, and of an old one a 0 stays 0.
 pub record Makes (limits : Limits) (count : ℕ) (old new : Lines) (name : List ℕ) : Type 0 where
   pub store : IsStore limits count new
   pub tables_are : tables new ≡ tables old ++ (name, []) ∷ []
   pub beyond : (n : ℕ) → high_of new ≤ n → new n ≡ old n
+  pub unused : KeepsUnused old new
+  pub unused_last : word (new 0 (2 + table_count old)) 7 ≡ 0
 
 -- the answer, by the tables that there are
 abbrev pub created_of : Limits → List ℕ → List Table → Created

@@ -2,8 +2,8 @@
 use Rattle.std.specs.Prelude.{◌≡◌, ℕ, ◌+◌, ◌-◌, Bool, true, false, List, Option, Some, None, is_some, if◌then◌else◌}
 use Rattle.line_pages.specs.Lines.{Lines}
 use Rattle.line_pages.specs.Standing.{Standing, KeepsLines}
-use Rattle.slotted_page.specs.Rows.{Row, row_get, row_delete}
-use Rattle.table_catalog.specs.declared.limits.Limits.{Limits}
+use Rattle.rows.specs.Rows.{Row, row_get, row_delete}
+use Rattle.rows.specs.declared.limits.Limits.{Limits}
 use Rattle.table_store.specs.declared.answer.Deleted.{Deleted}
 use Rattle.table_store.specs.declared.answer.Deleted.TheVariants.{Done, Absent, NoTable}
 use Rattle.table_catalog.specs.declared.entry.Place.{Place}

@@ -1,12 +1,12 @@
 -- A look-up of a key in a table.
 use Rattle.std.specs.Prelude.{◌≡◌, ℕ, ◌-◌, Bool, true, false, List, [], ◌∷◌, length, None, Option, Some, map, ◌⊎◌}
-use Rattle.line_pages.specs.declared.stop.Evidence.{Evidence}
+use Rattle.damage.specs.declared.evidence.Evidence.{Evidence}
 use Rattle.line_pages.specs.Lines.{Lines}
 use Rattle.line_pages.specs.Touch.{Access}
-use Rattle.slotted_page.specs.Rows.{Row, row_get}
-use Rattle.slotted_page.specs.Search.{IsNodeDamage, FailsNode}
+use Rattle.rows.specs.Rows.{Row, row_get}
+use Rattle.page_format.specs.Search.{IsNodeDamage, FailsNode}
 use Rattle.tree_search.specs.Tree.{path}
-use Rattle.table_catalog.specs.declared.limits.Limits.{Limits}
+use Rattle.rows.specs.declared.limits.Limits.{Limits}
 use Rattle.table_catalog.specs.declared.entry.Place.{Place}
 use Rattle.table_store.specs.declared.answer.Got.{Got}
 use Rattle.table_store.specs.declared.answer.Got.TheVariants.{Found, Absent, NoTable}

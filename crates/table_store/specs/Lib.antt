@@ -1,3 +1,4 @@
+pub mod Causes
 pub mod Created
 pub mod Changed
 pub mod Putting

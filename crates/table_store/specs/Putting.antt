@@ -2,11 +2,11 @@
 use Rattle.std.specs.Prelude.{◌≡◌, ℕ, ◌-◌, Bool, true, false, ◌||◌, nat_lt, List, length, Option, Some, None, is_some, if◌then◌else◌}
 use Rattle.line_pages.specs.Lines.{Lines}
 use Rattle.line_pages.specs.Standing.{Standing, KeepsLines}
-use Rattle.slotted_page.specs.Rows.{Row, row_get, row_put}
+use Rattle.rows.specs.Rows.{Row, row_get, row_put}
 use Rattle.node_edit.specs.Record.{HoldsLength}
 use Rattle.tree_search.specs.Tree.{leaf_for}
 use Rattle.bplus_tree.specs.Record.{WritesRecord}
-use Rattle.table_catalog.specs.declared.limits.Limits.{Limits}
+use Rattle.rows.specs.declared.limits.Limits.{Limits}
 use Rattle.table_catalog.specs.declared.entry.Place.{Place}
 use Rattle.table_catalog.specs.Catalog.{entries, place_of, entry_rows}
 use Rattle.table_store.specs.declared.answer.Stored.{Stored}

@@ -2,7 +2,7 @@
 use Rattle.std.specs.Prelude.{◌≡◌, ℕ, Bool, true, false, nat_le, List, [], ◌∷◌, Option, Some, None, if◌then◌else◌}
 use Rattle.line_pages.specs.Lines.{Lines}
 use Rattle.line_pages.specs.Touch.{Access}
-use Rattle.slotted_page.specs.Rows as rows
+use Rattle.rows.specs.Rows as rows
 use Rattle.tree_search.specs.Way.{AreReadsIn}
 use Rattle.table_catalog.specs.declared.entry.Place.{Place}
 use Rattle.table_store.specs.declared.answer.Next.{Next}

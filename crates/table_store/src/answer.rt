@@ -1,5 +1,5 @@
 //! What the calls on tables answer.
-use slotted_page::Value;
+use rows::Value;
 
 /// The answer to the making of a table.
 #[derive(Clone, Copy, Debug, PartialEq, Eq)]

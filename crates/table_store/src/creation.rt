@@ -1,23 +1,29 @@
 //! A table that is made.
 ghost use Rattle.std.specs.Prelude.{◌≡◌, ◌++◌, ◌+◌, ◌*◌, ◌/◌, ◌<◌, ◌≤◌, None, IsTrue, OnOk, IfOk, IfErr, IfSome};
+ghost use Rattle.page_alloc.specs.Causes.{TakeCause};
+ghost use Rattle.table_catalog.specs.Causes.{CatalogCause};
+ghost use Rattle.table_store.specs.Causes.{CreateCause};
+ghost use Rattle.table_catalog.specs.Where.{OnStore};
+ghost use Rattle.line_pages.specs.PagesCall.{PagesCall};
 ghost use Rattle.line_pages.specs.Lines.{with_line};
-ghost use Rattle.line_pages.specs.Standing.{Continues, HasCause, Never, ReadsPage};
-ghost use Rattle.slotted_page.specs.Search.{Keeps};
-ghost use Rattle.page_space.specs.Space.{with_word, take_checks, IsSpaceDamage, FailsSpace};
-ghost use Rattle.page_space.specs.Moves.{Takes};
-ghost use Rattle.page_space.specs.Stops.{IsFault};
-ghost use Rattle.table_catalog.specs.Names.{is_name};
-ghost use Rattle.table_catalog.specs.Catalog.{entry_in as entry_of_line, entries, table_count, tables, lookup_touches, place_of, IsCatalogDamage, FailsCatalog};
+ghost use Rattle.line_pages.specs.Standing.{HasCause, Never, ReadsPage};
+ghost use Rattle.page_format.specs.Search.{Keeps};
+ghost use Rattle.page_alloc.specs.Space.{word, with_word, FailsSpace};
+ghost use Rattle.page_alloc.specs.Moves.{Takes};
+ghost use Rattle.page_alloc.specs.Stops.{IsFault};
+ghost use Rattle.rows.specs.Names.{is_name};
+ghost use Rattle.table_catalog.specs.Catalog.{entry_in as entry_of_line, entries, table_count, tables, lookup_touches, place_of, FailsCatalog};
 ghost use Rattle.table_catalog.specs.Stored.{IsStore};
 ghost use Rattle.table_catalog.specs.Lookup.{LooksUp};
-ghost use Rattle.table_store.specs.Created.{field_of as field_of_name, new_entry, Written, Makes, created_of, IsCreated, KeepsUnlessMade, IsSlot, IsCreateDamage, FailsCreate};
+ghost use Rattle.table_store.specs.Created.{field_of as field_of_name, new_entry, Written, Makes, created_of, IsCreated, KeepsUnlessMade, IsSlot, FailsCreate};
 
 use crate::answer::Created;
 use line_pages::{Pages, Stop};
 use nvm_model::Line;
-use page_space::take_page;
-use slotted_page::Work;
-use table_catalog::{Entry, Limits, Name, line_of, read_catalog, search};
+use page_alloc::take_page;
+use page_format::Work;
+use rows::{Limits, Name};
+use table_catalog::{Entry, line_of, read_catalog, search};
 
 /// The bytes that keep a name.
 fn field_of(name: &Name) -> [u8; 32]
@@ -35,6 +41,7 @@ fn field_of(name: &Name) -> [u8; 32]
 /// The line of the entry of a table with no row, whose tree is one leaf.
 fn entry_line(name: &Name, page: u64) -> Line
     ensures entry { entry_of_line result ≡ new_entry name.now page }
+    ensures unused { word result 7 ≡ 0 }
     ensures named { IsTrue (is_name name.now) }
 {
     let field = field_of(name);
@@ -54,11 +61,9 @@ fn write_entry<P: Pages>(pages: &mut P, header: Line, line: &Line, at: u64) -> R
     requires room { 2 ≤ (P.standing pages.old).room }
     ensures after { IsTrue (P.standing pages.old).told → OnOk result ((P.standing pages.new).current ≡ with_line 0 0 (with_word 1 (at + 1) header) (with_line 0 (2 + at) line.now (P.standing pages.old).current)) }
     ensures cause { HasCause Never (P.standing pages.old) (P.standing pages.new) result }
-    ensures continues { Continues (P.may_leave pages.old) (P.may_leave pages.new) (P.is_steady pages.old) (P.standing pages.old) (P.standing pages.new) }
+    ensures call { PagesCall P.Pages pages.old pages.new result }
     ensures room { OnOk result ((P.standing pages.old).room ≤ (P.standing pages.new).room + 2) }
     ensures few { (P.standing pages.new).visits ≤ (P.standing pages.old).visits + 2 }
-    ensures ready { OnOk result (P.is_ready pages.new) }
-    ensures steady { P.is_steady pages.old → OnOk result (P.is_steady pages.new) }
 {
     pages.write_line(0, 2 + at as usize, line)?;
     let mut after = header;
@@ -74,11 +79,9 @@ fn write_table<P: Pages>(pages: &mut P, name: &Name, page: u64, at: u64) -> Resu
     requires room { 3 ≤ (P.standing pages.old).room }
     ensures after { IsTrue (P.standing pages.old).told → OnOk result (Written (P.standing pages.old).current (P.standing pages.new).current name.now page at) }
     ensures cause { HasCause Never (P.standing pages.old) (P.standing pages.new) result }
-    ensures continues { Continues (P.may_leave pages.old) (P.may_leave pages.new) (P.is_steady pages.old) (P.standing pages.old) (P.standing pages.new) }
+    ensures call { PagesCall P.Pages pages.old pages.new result }
     ensures room { OnOk result ((P.standing pages.old).room ≤ (P.standing pages.new).room + 3) }
     ensures few { (P.standing pages.new).visits ≤ (P.standing pages.old).visits + 4 }
-    ensures ready { OnOk result (P.is_ready pages.new) }
-    ensures steady { P.is_steady pages.old → OnOk result (P.is_steady pages.new) }
 {
     let header = pages.read_line(0, 0)?;
     let leaf = Line {
@@ -97,13 +100,11 @@ fn take_one<P: Pages>(pages: &mut P, _limits: &Limits, work: &mut Work) -> Resul
     ensures taken { IsTrue (P.standing pages.old).told → IfOk result (Takes (P.standing pages.old).count (P.standing pages.old).current (P.standing pages.new).current) }
     ensures in_range { IfOk result (λ page. (1 ≤ page) × (page < (P.standing pages.old).count)) }
     ensures room { OnOk result ((P.standing pages.new).room + 1 ≡ (P.standing pages.old).room) }
-    ensures sound { IsTrue (P.standing pages.old).told → IsStore _limits.now (P.standing pages.old).count (P.standing pages.old).current → table_count (P.standing pages.old).current < _limits.now.tables → 1 + _limits.now.tables * (_limits.now.rows / 2 + 8) ≤ (P.standing pages.old).count → IfErr result IsFault }
-    ensures cause { HasCause (λ e. IsTrue (P.standing pages.old).told → IsSpaceDamage (take_checks (P.standing pages.old).count (P.standing pages.old).current) (P.standing pages.old).current work.new.page e) (P.standing pages.old) (P.standing pages.new) result }
+    ensures sound { OnStore P.Pages pages.old _limits.now (table_count (P.standing pages.old).current < _limits.now.tables → 1 + _limits.now.tables * (_limits.now.rows / 2 + 8) ≤ (P.standing pages.old).count → IfErr result IsFault) }
+    ensures cause { TakeCause P.Pages pages.old pages.new work.new.page result }
     ensures fails { IfErr result (Keeps (FailsSpace (P.standing pages.old).count work.new.page)) }
-    ensures continues { Continues (P.may_leave pages.old) (P.may_leave pages.new) (P.is_steady pages.old) (P.standing pages.old) (P.standing pages.new) }
+    ensures call { PagesCall P.Pages pages.old pages.new result }
     ensures few { (P.standing pages.new).visits ≤ (P.standing pages.old).visits + 4 }
-    ensures ready { OnOk result (P.is_ready pages.new) }
-    ensures steady { P.is_steady pages.old → OnOk result (P.is_steady pages.new) }
 {
     take_page(pages, work)
 }
@@ -121,13 +122,11 @@ fn add_table<P: Pages>(
     requires room { 4 ≤ (P.standing pages.old).room }
     ensures makes { IsTrue (P.standing pages.old).told → at ≡ table_count (P.standing pages.old).current → place_of name.now 0 (entries (P.standing pages.old).current) ≡ None → IsStore limits.now (P.standing pages.old).count (P.standing pages.old).current → OnOk result (Makes limits.now (P.standing pages.old).count (P.standing pages.old).current (P.standing pages.new).current name.now) }
     ensures sound { IsTrue (P.standing pages.old).told → at ≡ table_count (P.standing pages.old).current → IsStore limits.now (P.standing pages.old).count (P.standing pages.old).current → 1 + limits.now.tables * (limits.now.rows / 2 + 8) ≤ (P.standing pages.old).count → IfErr result IsFault }
-    ensures cause { HasCause (λ e. IsTrue (P.standing pages.old).told → IsSpaceDamage (take_checks (P.standing pages.old).count (P.standing pages.old).current) (P.standing pages.old).current work.new.page e) (P.standing pages.old) (P.standing pages.new) result }
+    ensures cause { TakeCause P.Pages pages.old pages.new work.new.page result }
     ensures fails { IfErr result (Keeps (FailsSpace (P.standing pages.old).count work.new.page)) }
-    ensures continues { Continues (P.may_leave pages.old) (P.may_leave pages.new) (P.is_steady pages.old) (P.standing pages.old) (P.standing pages.new) }
+    ensures call { PagesCall P.Pages pages.old pages.new result }
     ensures room { OnOk result ((P.standing pages.old).room ≤ (P.standing pages.new).room + 4) }
     ensures few { (P.standing pages.new).visits ≤ (P.standing pages.old).visits + 8 }
-    ensures ready { OnOk result (P.is_ready pages.new) }
-    ensures steady { P.is_steady pages.old → OnOk result (P.is_steady pages.new) }
 {
     let page = take_one(pages, limits, work)?;
     write_table(pages, name, page, at)
@@ -144,15 +143,13 @@ fn find_slot<P: Pages>(
     requires ready { P.is_ready pages.old }
     ensures slot { IsTrue (P.standing pages.old).told → IfOk result (IsSlot (P.standing pages.old).current name.now) }
     ensures at { IfOk result (λ slot. IfSome slot (λ at. at ≤ limits.now.tables)) }
-    ensures sound { IsTrue (P.standing pages.old).told → IsStore limits.now (P.standing pages.old).count (P.standing pages.old).current → IfErr result IsFault }
-    ensures cause { HasCause (λ e. IsTrue (P.standing pages.old).told → IsCatalogDamage limits.now (P.standing pages.old).count (P.standing pages.old).current work.new.page e) (P.standing pages.old) (P.standing pages.new) result }
+    ensures sound { OnStore P.Pages pages.old limits.now (IfErr result IsFault) }
+    ensures cause { CatalogCause P.Pages pages.old pages.new limits.now work.new.page result }
     ensures fails { IfErr result (Keeps (FailsCatalog limits.now (P.standing pages.old).count work.new.page)) }
-    ensures continues { Continues (P.may_leave pages.old) (P.may_leave pages.new) (P.is_steady pages.old) (P.standing pages.old) (P.standing pages.new) }
+    ensures call { PagesCall P.Pages pages.old pages.new result }
     ensures reads { OnOk result (ReadsPage 0 (P.standing pages.old) (P.standing pages.new)) }
     ensures lines { IsTrue (P.standing pages.old).told → OnOk result ((P.standing pages.new).touches ≡ (P.standing pages.old).touches ++ lookup_touches (P.standing pages.old).access (P.standing pages.old).current name.now) }
     ensures few { (P.standing pages.new).visits ≤ (P.standing pages.old).visits + 1 }
-    ensures ready { OnOk result (P.is_ready pages.new) }
-    ensures steady { P.is_steady pages.old → OnOk result (P.is_steady pages.new) }
 {
     let header = read_catalog(pages, limits, work)?;
     match search(pages, limits, &header, name, work)? {
@@ -175,14 +172,12 @@ fn create_at<P: Pages>(
     ensures created { IsTrue (P.standing pages.old).told → at ≡ table_count (P.standing pages.old).current → place_of name.now 0 (entries (P.standing pages.old).current) ≡ None → IsStore limits.now (P.standing pages.old).count (P.standing pages.old).current → IfOk result (IsCreated limits.now (P.standing pages.old).count (P.standing pages.old).current (P.standing pages.new).current name.now) }
     ensures known { IsTrue (P.standing pages.old).told → at ≡ table_count (P.standing pages.old).current → place_of name.now 0 (entries (P.standing pages.old).current) ≡ None → IfOk result (λ answer. answer ≡ created_of limits.now name.now (tables (P.standing pages.old).current)) }
     ensures sound { IsTrue (P.standing pages.old).told → at ≡ table_count (P.standing pages.old).current → IsStore limits.now (P.standing pages.old).count (P.standing pages.old).current → 1 + limits.now.tables * (limits.now.rows / 2 + 8) ≤ (P.standing pages.old).count → IfErr result IsFault }
-    ensures cause { HasCause (λ e. IsTrue (P.standing pages.old).told → IsSpaceDamage (take_checks (P.standing pages.old).count (P.standing pages.old).current) (P.standing pages.old).current work.new.page e) (P.standing pages.old) (P.standing pages.new) result }
+    ensures cause { TakeCause P.Pages pages.old pages.new work.new.page result }
     ensures fails { IfErr result (Keeps (FailsSpace (P.standing pages.old).count work.new.page)) }
     ensures keeps { IfOk result (KeepsUnlessMade (P.standing pages.old) (P.standing pages.new)) }
-    ensures continues { Continues (P.may_leave pages.old) (P.may_leave pages.new) (P.is_steady pages.old) (P.standing pages.old) (P.standing pages.new) }
+    ensures call { PagesCall P.Pages pages.old pages.new result }
     ensures room { OnOk result ((P.standing pages.old).room ≤ (P.standing pages.new).room + 4) }
     ensures few { (P.standing pages.new).visits ≤ (P.standing pages.old).visits + 8 }
-    ensures ready { OnOk result (P.is_ready pages.new) }
-    ensures steady { P.is_steady pages.old → OnOk result (P.is_steady pages.new) }
 {
     if at >= limits.tables as u64 {
         return Ok(Created::NoSlot);
@@ -202,20 +197,18 @@ pub fn create<P: Pages>(
     requires ready { P.is_ready pages.old }
     requires room { 640 ≤ (P.standing pages.old).room }
     // the answer, and what changes
-    ensures created { IsTrue (P.standing pages.old).told → IsStore limits.now (P.standing pages.old).count (P.standing pages.old).current → IfOk result (IsCreated limits.now (P.standing pages.old).count (P.standing pages.old).current (P.standing pages.new).current name.now) }
+    ensures created { OnStore P.Pages pages.old limits.now (IfOk result (IsCreated limits.now (P.standing pages.old).count (P.standing pages.old).current (P.standing pages.new).current name.now)) }
     ensures known { IsTrue (P.standing pages.old).told → IfOk result (λ answer. answer ≡ created_of limits.now name.now (tables (P.standing pages.old).current)) }
     ensures keeps { IfOk result (KeepsUnlessMade (P.standing pages.old) (P.standing pages.new)) }
     ensures lines { IsTrue (P.standing pages.old).told → OnOk result (LooksUp name.now (P.standing pages.old) (P.standing pages.new)) }
     // why it stops
-    ensures sound { IsTrue (P.standing pages.old).told → IsStore limits.now (P.standing pages.old).count (P.standing pages.old).current → 1 + limits.now.tables * (limits.now.rows / 2 + 8) ≤ (P.standing pages.old).count → IfErr result IsFault }
-    ensures cause { HasCause (λ e. IsTrue (P.standing pages.old).told → IsCreateDamage limits.now (P.standing pages.old).count (P.standing pages.old).current work.new.page e) (P.standing pages.old) (P.standing pages.new) result }
+    ensures sound { OnStore P.Pages pages.old limits.now (1 + limits.now.tables * (limits.now.rows / 2 + 8) ≤ (P.standing pages.old).count → IfErr result IsFault) }
+    ensures cause { CreateCause P.Pages pages.old pages.new limits.now work.new.page result }
     ensures fails { IfErr result (Keeps (FailsCreate limits.now (P.standing pages.old).count work.new.page)) }
     // what stays
-    ensures continues { Continues (P.may_leave pages.old) (P.may_leave pages.new) (P.is_steady pages.old) (P.standing pages.old) (P.standing pages.new) }
+    ensures call { PagesCall P.Pages pages.old pages.new result }
     ensures room { OnOk result ((P.standing pages.old).room ≤ (P.standing pages.new).room + 4) }
     ensures few { (P.standing pages.new).visits ≤ (P.standing pages.old).visits + 9 }
-    ensures ready { OnOk result (P.is_ready pages.new) }
-    ensures steady { P.is_steady pages.old → OnOk result (P.is_steady pages.new) }
 {
     match find_slot(pages, limits, name, work)? {
         None => Ok(Created::Present),

@@ -8,13 +8,12 @@ mod lookup;
 mod placed;
 mod scan;
 mod storing;
-#[cfg(test)]
-mod tests;
 
 pub use answer::{Created, Deleted, Got, Next, Stored};
 pub use creation::create;
 pub use deletion::delete;
 pub use lookup::get;
+pub use rows::{Limits, Name};
 pub use scan::scan_next;
 pub use storing::put;
-pub use table_catalog::{Limits, Name, has_table};
+pub use table_catalog::has_table;

@@ -1,21 +1,26 @@
 //! The value of a key in a table.
-ghost use Rattle.std.specs.Prelude.{◌≡◌, ◌+◌, ◌∷◌, ◌++◌, ◌<◌, ◌≤◌, ℕ, List, Some, None, true, false, not, IsTrue, OnOk, IfOk, IfErr};
+ghost use Rattle.std.specs.Prelude.{◌≡◌, ◌+◌, ◌∷◌, ◌++◌, ◌<◌, ◌≤◌, List, Some, None, true, false, not, IsTrue, OnOk, IfOk, IfErr};
+ghost use Rattle.page_search.specs.Causes.{NodeCause};
+ghost use Rattle.table_store.specs.Causes.{LookupCause};
+ghost use Rattle.table_catalog.specs.Where.{OnStore};
+ghost use Rattle.tree_search.specs.Where.{OnRooted};
+ghost use Rattle.line_pages.specs.PagesCall.{PagesCall};
 ghost use Rattle.line_pages.specs.Touch.{Touch, begins, touch_of};
-ghost use Rattle.line_pages.specs.Standing.{Continues, HasCause, KeepsLines, AddsReads};
-ghost use Rattle.slotted_page.specs.Rows.{Row, row_get};
-ghost use Rattle.slotted_page.specs.Search.{IsNodeDamage, FailsNode, Keeps};
-ghost use Rattle.tree_search.specs.Tree.{IsRooted};
-ghost use Rattle.page_space.specs.Stops.{IsFault};
+ghost use Rattle.line_pages.specs.Standing.{KeepsLines, AddsReads};
+ghost use Rattle.rows.specs.Rows.{row_get};
+ghost use Rattle.page_format.specs.Search.{FailsNode, Keeps};
+ghost use Rattle.page_alloc.specs.Stops.{IsFault};
 ghost use Rattle.tree_search.specs.Way.{IsPath};
 ghost use Rattle.table_catalog.specs.Catalog.{entries, tables, place_of};
-ghost use Rattle.table_catalog.specs.Stored.{rows_of, is_known, IsStore};
+ghost use Rattle.rows.specs.Tables.{rows_of, is_known};
 ghost use Rattle.table_catalog.specs.Lookup.{LooksUp};
-ghost use Rattle.table_store.specs.Getting.{is_no_table, found_value, got_of, place_levels, IsLookup, IsLookupDamage, FailsLookup};
+ghost use Rattle.table_store.specs.Getting.{is_no_table, found_value, got_of, place_levels, IsLookup, FailsLookup};
 
 use crate::answer::Got;
 use line_pages::{Pages, Stop};
-use slotted_page::Work;
-use table_catalog::{Limits, Name, find_entry, root_of};
+use page_format::Work;
+use rows::{Limits, Name};
+use table_catalog::{find_entry, root_of};
 use tree_search::Root;
 
 /// The value of a key in the tree of a table.
@@ -25,18 +30,16 @@ fn get_in<P: Pages>(pages: &mut P, root: &Root, key: u64, work: &mut Work) -> Re
     requires page { root.now.page < (P.standing pages.old).count }
     requires some_levels { 1 ≤ root.now.levels }
     requires few_levels { root.now.levels ≤ 4 }
-    ensures value { IsTrue (P.standing pages.old).told → (rows : List Row) (used : List ℕ) → IsRooted (P.standing pages.old).count (P.standing pages.old).current root.now rows used → IfOk result (λ got. got ≡ found_value (row_get key rows)) }
+    ensures value { OnRooted P.Pages pages.old root.now (λ rows used. IfOk result (λ got. got ≡ found_value (row_get key rows))) }
     ensures named { IfOk result (λ got. is_no_table got ≡ false) }
-    ensures sound { IsTrue (P.standing pages.old).told → (rows : List Row) (used : List ℕ) → IsRooted (P.standing pages.old).count (P.standing pages.old).current root.now rows used → IfErr result IsFault }
-    ensures cause { HasCause (λ e. IsTrue (P.standing pages.old).told → IsNodeDamage (P.standing pages.old).count (P.standing pages.old).current work.new.page e) (P.standing pages.old) (P.standing pages.new) result }
+    ensures sound { OnRooted P.Pages pages.old root.now (λ rows used. IfErr result IsFault) }
+    ensures cause { NodeCause P.Pages pages.old pages.new work.new.page result }
     ensures fails { IfErr result (Keeps (FailsNode (P.standing pages.old).count work.new.page)) }
     ensures way { IsTrue (P.standing pages.old).told → begins (P.standing pages.old).access root.now.page false ≡ true → OnOk result (AddsReads (IsPath (P.standing pages.old).count (P.standing pages.old).current root.now key) (P.standing pages.old) (P.standing pages.new)) }
     ensures visits { IsTrue (P.standing pages.old).told → begins (P.standing pages.old).access root.now.page false ≡ true → OnOk result ((P.standing pages.new).visits ≡ (P.standing pages.old).visits + root.now.levels) }
-    ensures continues { Continues (P.may_leave pages.old) (P.may_leave pages.new) (P.is_steady pages.old) (P.standing pages.old) (P.standing pages.new) }
+    ensures call { PagesCall P.Pages pages.old pages.new result }
     ensures keeps { OnOk result (KeepsLines (P.standing pages.old) (P.standing pages.new)) }
     ensures few { (P.standing pages.new).visits ≤ (P.standing pages.old).visits + 4 }
-    ensures ready { OnOk result (P.is_ready pages.new) }
-    ensures steady { P.is_steady pages.old → OnOk result (P.is_steady pages.new) }
 {
     match tree_search::get(pages, root, key, work)? {
         Some(value) => Ok(Got::Found(value)),
@@ -55,11 +58,11 @@ pub fn get<P: Pages>(
 ) -> Result<Got, Stop>
     requires ready { P.is_ready pages.old }
     // the answer
-    ensures value { IsTrue (P.standing pages.old).told → IsStore limits.now (P.standing pages.old).count (P.standing pages.old).current → IfOk result (λ got. got ≡ got_of key (rows_of name.now (tables (P.standing pages.old).current))) }
+    ensures value { OnStore P.Pages pages.old limits.now (IfOk result (λ got. got ≡ got_of key (rows_of name.now (tables (P.standing pages.old).current)))) }
     ensures known { IsTrue (P.standing pages.old).told → IfOk result (λ got. is_no_table got ≡ not (is_known name.now (tables (P.standing pages.old).current))) }
     // why it stops
-    ensures sound { IsTrue (P.standing pages.old).told → IsStore limits.now (P.standing pages.old).count (P.standing pages.old).current → IfErr result IsFault }
-    ensures cause { HasCause (λ e. IsTrue (P.standing pages.old).told → IsLookupDamage limits.now (P.standing pages.old).count (P.standing pages.old).current work.new.page e) (P.standing pages.old) (P.standing pages.new) result }
+    ensures sound { OnStore P.Pages pages.old limits.now (IfErr result IsFault) }
+    ensures cause { LookupCause P.Pages pages.old pages.new limits.now work.new.page result }
     ensures fails { IfErr result (Keeps (FailsLookup limits.now (P.standing pages.old).count work.new.page)) }
     // what is read
     ensures way { IsTrue (P.standing pages.old).told → (P.standing pages.old).access ≡ None → OnOk result (AddsReads (IsLookup limits.now (P.standing pages.old).count (P.standing pages.old).current name.now key) (P.standing pages.old) (P.standing pages.new)) }
@@ -68,10 +71,8 @@ pub fn get<P: Pages>(
     ensures lines { IsTrue (P.standing pages.old).told → OnOk result (LooksUp name.now (P.standing pages.old) (P.standing pages.new)) }
     // what stays
     ensures keeps { OnOk result (KeepsLines (P.standing pages.old) (P.standing pages.new)) }
-    ensures continues { Continues (P.may_leave pages.old) (P.may_leave pages.new) (P.is_steady pages.old) (P.standing pages.old) (P.standing pages.new) }
+    ensures call { PagesCall P.Pages pages.old pages.new result }
     ensures few { (P.standing pages.new).visits ≤ (P.standing pages.old).visits + 5 }
-    ensures ready { OnOk result (P.is_ready pages.new) }
-    ensures steady { P.is_steady pages.old → OnOk result (P.is_steady pages.new) }
 {
     match find_entry(pages, limits, name, work)? {
         None => Ok(Got::NoTable),

@@ -1,18 +1,21 @@
 //! A table at a known place of the catalog: the row of a key, and its entry written anew.
-ghost use Rattle.std.specs.Prelude.{◌≡◌, ◌+◌, ◌<◌, ◌≤◌, ℕ, List, true, is_some, IsTrue, OnOk, IfOk, IfErr};
-ghost use Rattle.line_pages.specs.Standing.{Continues, HasCause, KeepsLines, Never};
-ghost use Rattle.slotted_page.specs.Rows.{Row, row_get};
-ghost use Rattle.slotted_page.specs.Search.{Keeps};
-ghost use Rattle.tree_search.specs.Tree.{IsRooted};
-ghost use Rattle.page_space.specs.Stops.{IsFault};
-ghost use Rattle.page_space.specs.Written.{WritesNothing};
-ghost use Rattle.bplus_tree.specs.Damage.{IsTreeDamage, FailsTree};
+ghost use Rattle.std.specs.Prelude.{◌≡◌, ◌+◌, ◌<◌, ◌≤◌, true, is_some, IsTrue, OnOk, IfOk, IfErr};
+ghost use Rattle.bplus_tree.specs.Causes.{TreeCause};
+ghost use Rattle.tree_search.specs.Where.{OnRooted};
+ghost use Rattle.line_pages.specs.PagesCall.{PagesCall};
+ghost use Rattle.line_pages.specs.Standing.{HasCause, KeepsLines, Never};
+ghost use Rattle.rows.specs.Rows.{row_get};
+ghost use Rattle.page_format.specs.Search.{Keeps};
+ghost use Rattle.page_alloc.specs.Stops.{IsFault};
+ghost use Rattle.page_alloc.specs.Written.{WritesNothing};
+ghost use Rattle.bplus_tree.specs.Damage.{FailsTree};
 ghost use Rattle.table_catalog.specs.Catalog.{entry_in as entry_of_line, FitsRoot};
 ghost use Rattle.table_store.specs.Changed.{root_at, stays_as, Enters};
 
 use line_pages::{Pages, Stop};
-use slotted_page::{Value, Work};
-use table_catalog::{Entry, Limits, Place, line_of, root_of};
+use page_format::Work;
+use rows::{Limits, Value};
+use table_catalog::{Entry, Place, line_of, root_of};
 use tree_search::{Root, get};
 
 /// The value of a key of a table, with damage in the words of the calls that change a tree.
@@ -25,16 +28,14 @@ fn value_at<P: Pages>(
 ) -> Result<Option<Value>, Stop>
     requires ready { P.is_ready pages.old }
     requires fits { FitsRoot _limits.now (P.standing pages.old).count place.now }
-    ensures value { IsTrue (P.standing pages.old).told → (rows : List Row) (used : List ℕ) → IsRooted (P.standing pages.old).count (P.standing pages.old).current (root_at place.now) rows used → IfOk result (λ value. value ≡ row_get key rows) }
-    ensures sound { IsTrue (P.standing pages.old).told → (rows : List Row) (used : List ℕ) → IsRooted (P.standing pages.old).count (P.standing pages.old).current (root_at place.now) rows used → IfErr result IsFault }
-    ensures cause { HasCause (IsTreeDamage (P.standing pages.old).told (P.standing pages.old).count (P.standing pages.new).current work.new.page) (P.standing pages.old) (P.standing pages.new) result }
+    ensures value { OnRooted P.Pages pages.old (root_at place.now) (λ rows used. IfOk result (λ value. value ≡ row_get key rows)) }
+    ensures sound { OnRooted P.Pages pages.old (root_at place.now) (λ rows used. IfErr result IsFault) }
+    ensures cause { TreeCause P.Pages pages.old pages.new work.new.page result }
     ensures fails { IfErr result (Keeps (FailsTree (P.standing pages.old).count work.new.page)) }
-    ensures continues { Continues (P.may_leave pages.old) (P.may_leave pages.new) (P.is_steady pages.old) (P.standing pages.old) (P.standing pages.new) }
+    ensures call { PagesCall P.Pages pages.old pages.new result }
     ensures keeps { OnOk result (KeepsLines (P.standing pages.old) (P.standing pages.new)) }
     ensures nothing { OnOk result (WritesNothing (P.standing pages.old) (P.standing pages.new)) }
     ensures few { (P.standing pages.new).visits ≤ (P.standing pages.old).visits + 4 }
-    ensures ready { OnOk result (P.is_ready pages.new) }
-    ensures steady { P.is_steady pages.old → OnOk result (P.is_steady pages.new) }
 {
     let root = root_of(&place.entry);
     get(pages, &root, key, work)
@@ -50,16 +51,14 @@ pub(crate) fn has_row<P: Pages>(
 ) -> Result<bool, Stop>
     requires ready { P.is_ready pages.old }
     requires fits { FitsRoot _limits.now (P.standing pages.old).count place.now }
-    ensures found { IsTrue (P.standing pages.old).told → (rows : List Row) (used : List ℕ) → IsRooted (P.standing pages.old).count (P.standing pages.old).current (root_at place.now) rows used → IfOk result (λ found. found ≡ is_some (row_get key rows)) }
-    ensures sound { IsTrue (P.standing pages.old).told → (rows : List Row) (used : List ℕ) → IsRooted (P.standing pages.old).count (P.standing pages.old).current (root_at place.now) rows used → IfErr result IsFault }
-    ensures cause { HasCause (IsTreeDamage (P.standing pages.old).told (P.standing pages.old).count (P.standing pages.new).current work.new.page) (P.standing pages.old) (P.standing pages.new) result }
+    ensures found { OnRooted P.Pages pages.old (root_at place.now) (λ rows used. IfOk result (λ found. found ≡ is_some (row_get key rows))) }
+    ensures sound { OnRooted P.Pages pages.old (root_at place.now) (λ rows used. IfErr result IsFault) }
+    ensures cause { TreeCause P.Pages pages.old pages.new work.new.page result }
     ensures fails { IfErr result (Keeps (FailsTree (P.standing pages.old).count work.new.page)) }
-    ensures continues { Continues (P.may_leave pages.old) (P.may_leave pages.new) (P.is_steady pages.old) (P.standing pages.old) (P.standing pages.new) }
+    ensures call { PagesCall P.Pages pages.old pages.new result }
     ensures keeps { OnOk result (KeepsLines (P.standing pages.old) (P.standing pages.new)) }
     ensures nothing { OnOk result (WritesNothing (P.standing pages.old) (P.standing pages.new)) }
     ensures few { (P.standing pages.new).visits ≤ (P.standing pages.old).visits + 4 }
-    ensures ready { OnOk result (P.is_ready pages.new) }
-    ensures steady { P.is_steady pages.old → OnOk result (P.is_steady pages.new) }
 {
     match value_at(pages, _limits, place, key, work)? {
         Some(_) => Ok(true),
@@ -80,11 +79,9 @@ pub(crate) fn write_place<P: Pages>(
     requires room { 1 ≤ (P.standing pages.old).room }
     ensures after { IsTrue (P.standing pages.old).told → OnOk result (Enters (P.standing pages.old).current (P.standing pages.new).current place.now root.now rows) }
     ensures cause { HasCause Never (P.standing pages.old) (P.standing pages.new) result }
-    ensures continues { Continues (P.may_leave pages.old) (P.may_leave pages.new) (P.is_steady pages.old) (P.standing pages.old) (P.standing pages.new) }
+    ensures call { PagesCall P.Pages pages.old pages.new result }
     ensures room { OnOk result ((P.standing pages.new).room + 1 ≡ (P.standing pages.old).room) }
     ensures few { (P.standing pages.new).visits ≤ (P.standing pages.old).visits + 1 }
-    ensures ready { OnOk result (P.is_ready pages.new) }
-    ensures steady { P.is_steady pages.old → OnOk result (P.is_steady pages.new) }
 {
     let entry = Entry {
         field: place.entry.field,
@@ -118,11 +115,9 @@ pub(crate) fn update_place<P: Pages>(
     ensures after { IsTrue (P.standing pages.old).told → entry_of_line ((P.standing pages.old).current 0 (2 + place.now.at)) ≡ place.now.entry → OnOk result (Enters (P.standing pages.old).current (P.standing pages.new).current place.now root.now rows) }
     ensures unwritten { stays_as place.now root.now rows ≡ true → (P.standing pages.new).touches ≡ (P.standing pages.old).touches }
     ensures cause { HasCause Never (P.standing pages.old) (P.standing pages.new) result }
-    ensures continues { Continues (P.may_leave pages.old) (P.may_leave pages.new) (P.is_steady pages.old) (P.standing pages.old) (P.standing pages.new) }
+    ensures call { PagesCall P.Pages pages.old pages.new result }
     ensures room { OnOk result ((P.standing pages.old).room ≤ (P.standing pages.new).room + 1) }
     ensures few { (P.standing pages.new).visits ≤ (P.standing pages.old).visits + 1 }
-    ensures ready { OnOk result (P.is_ready pages.new) }
-    ensures steady { P.is_steady pages.old → OnOk result (P.is_steady pages.new) }
 {
     if stays(place, root, rows) {
         return Ok(());

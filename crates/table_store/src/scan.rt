@@ -1,22 +1,28 @@
 //! The next row of a table.
-ghost use Rattle.std.specs.Prelude.{◌≡◌, ◌+◌, ◌∷◌, ◌++◌, ◌<◌, ◌≤◌, ℕ, List, None, Some, false, not, IsTrue, OnOk, IfOk, IfErr};
+ghost use Rattle.std.specs.Prelude.{◌≡◌, ◌+◌, ◌∷◌, ◌++◌, ◌<◌, ◌≤◌, List, None, Some, false, not, IsTrue, OnOk, IfOk, IfErr};
+ghost use Rattle.page_search.specs.Causes.{NodeCause};
+ghost use Rattle.table_store.specs.Causes.{LookupCause};
+ghost use Rattle.table_catalog.specs.Where.{OnStore};
+ghost use Rattle.tree_search.specs.Where.{OnRooted};
+ghost use Rattle.line_pages.specs.PagesCall.{PagesCall};
 ghost use Rattle.line_pages.specs.Touch.{Touch, touch_of};
-ghost use Rattle.line_pages.specs.Standing.{Continues, HasCause, KeepsLines, AddsReads};
-ghost use Rattle.slotted_page.specs.Rows.{Row, row_next};
-ghost use Rattle.slotted_page.specs.Search.{IsNodeDamage, FailsNode, Keeps};
-ghost use Rattle.tree_search.specs.Tree.{IsRooted};
+ghost use Rattle.line_pages.specs.Standing.{KeepsLines, AddsReads};
+ghost use Rattle.rows.specs.Rows.{Row, row_next};
+ghost use Rattle.page_format.specs.Search.{FailsNode, Keeps};
 ghost use Rattle.tree_search.specs.Way.{AreReadsIn};
-ghost use Rattle.page_space.specs.Stops.{IsFault};
+ghost use Rattle.page_alloc.specs.Stops.{IsFault};
 ghost use Rattle.table_catalog.specs.Catalog.{tables};
-ghost use Rattle.table_catalog.specs.Stored.{rows_of, is_known, IsStore};
+ghost use Rattle.table_catalog.specs.Stored.{IsStore};
+ghost use Rattle.rows.specs.Tables.{rows_of, is_known};
 ghost use Rattle.table_catalog.specs.Lookup.{LooksUp};
-ghost use Rattle.table_store.specs.Getting.{IsLookupDamage, FailsLookup};
+ghost use Rattle.table_store.specs.Getting.{FailsLookup};
 ghost use Rattle.table_store.specs.Scanning.{row_up_to, next_of, is_no_table, IsScan};
 
 use crate::answer::Next;
 use line_pages::{Pages, Stop};
-use slotted_page::Work;
-use table_catalog::{Limits, Name, find_entry, root_of};
+use page_format::Work;
+use rows::{Limits, Name};
+use table_catalog::{find_entry, root_of};
 use tree_search::{Root, next_from};
 
 /// The first row from a key on in the tree of a table, unless its key is above `to`.
@@ -32,17 +38,15 @@ fn next_in<P: Pages>(
     requires page { root.now.page < (P.standing pages.old).count }
     requires some_levels { 1 ≤ root.now.levels }
     requires few_levels { root.now.levels ≤ 4 }
-    ensures row { IsTrue (P.standing pages.old).told → (rows : List Row) (used : List ℕ) → IsRooted (P.standing pages.old).count (P.standing pages.old).current root.now rows used → IfOk result (λ next. next ≡ row_up_to to (row_next from rows)) }
-    ensures touches { IsTrue (P.standing pages.old).told → (rows : List Row) (used : List ℕ) → IsRooted (P.standing pages.old).count (P.standing pages.old).current root.now rows used → OnOk result (AddsReads (AreReadsIn used) (P.standing pages.old) (P.standing pages.new)) }
+    ensures row { OnRooted P.Pages pages.old root.now (λ rows used. IfOk result (λ next. next ≡ row_up_to to (row_next from rows))) }
+    ensures touches { OnRooted P.Pages pages.old root.now (λ rows used. OnOk result (AddsReads (AreReadsIn used) (P.standing pages.old) (P.standing pages.new))) }
     ensures named { IfOk result (λ next. is_no_table next ≡ false) }
-    ensures sound { IsTrue (P.standing pages.old).told → (rows : List Row) (used : List ℕ) → IsRooted (P.standing pages.old).count (P.standing pages.old).current root.now rows used → IfErr result IsFault }
-    ensures cause { HasCause (λ e. IsTrue (P.standing pages.old).told → IsNodeDamage (P.standing pages.old).count (P.standing pages.old).current work.new.page e) (P.standing pages.old) (P.standing pages.new) result }
+    ensures sound { OnRooted P.Pages pages.old root.now (λ rows used. IfErr result IsFault) }
+    ensures cause { NodeCause P.Pages pages.old pages.new work.new.page result }
     ensures fails { IfErr result (Keeps (FailsNode (P.standing pages.old).count work.new.page)) }
-    ensures continues { Continues (P.may_leave pages.old) (P.may_leave pages.new) (P.is_steady pages.old) (P.standing pages.old) (P.standing pages.new) }
+    ensures call { PagesCall P.Pages pages.old pages.new result }
     ensures keeps { OnOk result (KeepsLines (P.standing pages.old) (P.standing pages.new)) }
     ensures few { (P.standing pages.new).visits ≤ (P.standing pages.old).visits + 22 }
-    ensures ready { OnOk result (P.is_ready pages.new) }
-    ensures steady { P.is_steady pages.old → OnOk result (P.is_steady pages.new) }
 {
     match next_from(pages, root, from, work)? {
         Some((key, value)) => {
@@ -68,21 +72,19 @@ pub fn scan_next<P: Pages>(
 ) -> Result<Next, Stop>
     requires ready { P.is_ready pages.old }
     // the answer
-    ensures row { IsTrue (P.standing pages.old).told → IsStore limits.now (P.standing pages.old).count (P.standing pages.old).current → IfOk result (λ next. next ≡ next_of from to (rows_of name.now (tables (P.standing pages.old).current))) }
+    ensures row { OnStore P.Pages pages.old limits.now (IfOk result (λ next. next ≡ next_of from to (rows_of name.now (tables (P.standing pages.old).current)))) }
     ensures known { IsTrue (P.standing pages.old).told → IfOk result (λ next. is_no_table next ≡ not (is_known name.now (tables (P.standing pages.old).current))) }
     // why it stops
-    ensures sound { IsTrue (P.standing pages.old).told → IsStore limits.now (P.standing pages.old).count (P.standing pages.old).current → IfErr result IsFault }
-    ensures cause { HasCause (λ e. IsTrue (P.standing pages.old).told → IsLookupDamage limits.now (P.standing pages.old).count (P.standing pages.old).current work.new.page e) (P.standing pages.old) (P.standing pages.new) result }
+    ensures sound { OnStore P.Pages pages.old limits.now (IfErr result IsFault) }
+    ensures cause { LookupCause P.Pages pages.old pages.new limits.now work.new.page result }
     ensures fails { IfErr result (Keeps (FailsLookup limits.now (P.standing pages.old).count work.new.page)) }
     // what is read, and what stays
     ensures touches { IsTrue (P.standing pages.old).told → (P.standing pages.old).access ≡ None → IsStore limits.now (P.standing pages.old).count (P.standing pages.old).current → OnOk result (AddsReads (IsScan (P.standing pages.old).current name.now) (P.standing pages.old) (P.standing pages.new)) }
     ensures first { IsTrue (P.standing pages.old).told → OnOk result ((rest : List Touch) × ((P.standing pages.new).touches ≡ (P.standing pages.old).touches ++ touch_of (P.standing pages.old).access 0 0 false ∷ rest)) }
     ensures lines { IsTrue (P.standing pages.old).told → OnOk result (LooksUp name.now (P.standing pages.old) (P.standing pages.new)) }
     ensures keeps { OnOk result (KeepsLines (P.standing pages.old) (P.standing pages.new)) }
-    ensures continues { Continues (P.may_leave pages.old) (P.may_leave pages.new) (P.is_steady pages.old) (P.standing pages.old) (P.standing pages.new) }
+    ensures call { PagesCall P.Pages pages.old pages.new result }
     ensures few { (P.standing pages.new).visits ≤ (P.standing pages.old).visits + 23 }
-    ensures ready { OnOk result (P.is_ready pages.new) }
-    ensures steady { P.is_steady pages.old → OnOk result (P.is_steady pages.new) }
 {
     match find_entry(pages, limits, name, work)? {
         None => Ok(Next::NoTable),

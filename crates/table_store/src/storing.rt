@@ -1,23 +1,28 @@
 //! A row that is put into a table.
 ghost use Rattle.std.specs.Prelude.{◌≡◌, ◌+◌, ◌*◌, ◌/◌, ◌≤◌, ℕ, List, length, Some, true, false, not, is_some, IsTrue, OnOk, IfOk, IfErr, if◌then◌else◌};
-ghost use Rattle.line_pages.specs.Standing.{Continues, HasCause};
-ghost use Rattle.slotted_page.specs.Rows.{row_get, row_put};
-ghost use Rattle.slotted_page.specs.Search.{Keeps};
-ghost use Rattle.page_space.specs.Stops.{IsFault};
-ghost use Rattle.bplus_tree.specs.Damage.{IsTreeDamage, FailsTree};
+ghost use Rattle.table_store.specs.Causes.{ChangeCause};
+ghost use Rattle.bplus_tree.specs.Causes.{TreeCause};
+ghost use Rattle.table_catalog.specs.Where.{OnStore};
+ghost use Rattle.line_pages.specs.PagesCall.{PagesCall};
+ghost use Rattle.rows.specs.Rows.{row_get, row_put};
+ghost use Rattle.page_format.specs.Search.{Keeps};
+ghost use Rattle.page_alloc.specs.Stops.{IsFault};
+ghost use Rattle.bplus_tree.specs.Damage.{FailsTree};
 ghost use Rattle.bplus_tree.specs.Record.{PutsRecord};
 ghost use Rattle.table_catalog.specs.Catalog.{entries, tables, place_of, entry_rows, FitsRoot};
-ghost use Rattle.table_catalog.specs.Stored.{is_known, rows_of, IsStore};
+ghost use Rattle.table_catalog.specs.Stored.{IsStore};
+ghost use Rattle.rows.specs.Tables.{is_known, rows_of};
 ghost use Rattle.table_catalog.specs.Lookup.{LooksUp};
-ghost use Rattle.table_store.specs.Changed.{root_at, ChangesTable, IsChangeDamage, FailsChange};
+ghost use Rattle.table_store.specs.Changed.{root_at, ChangesTable, FailsChange};
 ghost use Rattle.table_store.specs.Putting.{stored_of, is_no_table, PutsIfDone, KeepsUnlessDone, RewritesRecord};
 
 use crate::answer::Stored;
 use crate::placed::{has_row, update_place};
 use bplus_tree::put_row;
 use line_pages::{Pages, Stop};
-use slotted_page::{Value, Work};
-use table_catalog::{Limits, Name, Place, find_entry, root_of};
+use page_format::Work;
+use rows::{Limits, Name, Value};
+use table_catalog::{Place, find_entry, root_of};
 
 /// How many rows there are after a put, the key being found or new.
 fn rows_after(rows: u64, found: bool) -> u64
@@ -44,13 +49,11 @@ fn store_row<P: Pages>(
     ensures changed { IsTrue (P.standing pages.old).told → (name : List ℕ) → IsStore limits.now (P.standing pages.old).count (P.standing pages.old).current → place_of name 0 (entries (P.standing pages.old).current) ≡ Some place.now → found ≡ is_some (row_get key (entry_rows (P.standing pages.old).current place.now.entry)) → OnOk result (ChangesTable limits.now (P.standing pages.old).count (P.standing pages.old).current (P.standing pages.new).current name (row_put key value.now)) }
     ensures again { IsTrue (P.standing pages.old).told → OnOk result (found ≡ true → PutsRecord (root_at place.now) key (length value.now) (P.standing pages.old) (P.standing pages.new)) }
     ensures sound { IsTrue (P.standing pages.old).told → (name : List ℕ) → IsStore limits.now (P.standing pages.old).count (P.standing pages.old).current → place_of name 0 (entries (P.standing pages.old).current) ≡ Some place.now → found ≡ is_some (row_get key (entry_rows (P.standing pages.old).current place.now.entry)) → 1 + limits.now.tables * (limits.now.rows / 2 + 8) ≤ (P.standing pages.old).count → IfErr result IsFault }
-    ensures cause { HasCause (IsTreeDamage (P.standing pages.old).told (P.standing pages.old).count (P.standing pages.new).current work.new.page) (P.standing pages.old) (P.standing pages.new) result }
+    ensures cause { TreeCause P.Pages pages.old pages.new work.new.page result }
     ensures fails { IfErr result (Keeps (FailsTree (P.standing pages.old).count work.new.page)) }
-    ensures continues { Continues (P.may_leave pages.old) (P.may_leave pages.new) (P.is_steady pages.old) (P.standing pages.old) (P.standing pages.new) }
+    ensures call { PagesCall P.Pages pages.old pages.new result }
     ensures room { OnOk result ((P.standing pages.old).room ≤ (P.standing pages.new).room + 601) }
     ensures few { (P.standing pages.new).visits ≤ (P.standing pages.old).visits + 59 }
-    ensures ready { OnOk result (P.is_ready pages.new) }
-    ensures steady { P.is_steady pages.old → OnOk result (P.is_steady pages.new) }
 {
     let mut root = root_of(&place.entry);
     put_row(pages, &mut root, key, value.bytes(), work)?;
@@ -76,13 +79,11 @@ fn put_at<P: Pages>(
     ensures keeps { IfOk result (KeepsUnlessDone (P.standing pages.old) (P.standing pages.new)) }
     ensures again { IsTrue (P.standing pages.old).told → OnOk result (PutsRecord (root_at place.now) key (length value.now) (P.standing pages.old) (P.standing pages.new)) }
     ensures sound { IsTrue (P.standing pages.old).told → (name : List ℕ) → IsStore limits.now (P.standing pages.old).count (P.standing pages.old).current → place_of name 0 (entries (P.standing pages.old).current) ≡ Some place.now → 1 + limits.now.tables * (limits.now.rows / 2 + 8) ≤ (P.standing pages.old).count → IfErr result IsFault }
-    ensures cause { HasCause (IsTreeDamage (P.standing pages.old).told (P.standing pages.old).count (P.standing pages.new).current work.new.page) (P.standing pages.old) (P.standing pages.new) result }
+    ensures cause { TreeCause P.Pages pages.old pages.new work.new.page result }
     ensures fails { IfErr result (Keeps (FailsTree (P.standing pages.old).count work.new.page)) }
-    ensures continues { Continues (P.may_leave pages.old) (P.may_leave pages.new) (P.is_steady pages.old) (P.standing pages.old) (P.standing pages.new) }
+    ensures call { PagesCall P.Pages pages.old pages.new result }
     ensures room { OnOk result ((P.standing pages.old).room ≤ (P.standing pages.new).room + 601) }
     ensures few { (P.standing pages.new).visits ≤ (P.standing pages.old).visits + 63 }
-    ensures ready { OnOk result (P.is_ready pages.new) }
-    ensures steady { P.is_steady pages.old → OnOk result (P.is_steady pages.new) }
 {
     let found = has_row(pages, limits, place, key, work)?;
     if !found && place.entry.rows >= limits.rows {
@@ -106,23 +107,21 @@ pub fn put<P: Pages>(
     requires ready { P.is_ready pages.old }
     requires room { 640 ≤ (P.standing pages.old).room }
     // the answer, and what changes
-    ensures answer { IsTrue (P.standing pages.old).told → IsStore limits.now (P.standing pages.old).count (P.standing pages.old).current → IfOk result (λ answer. answer ≡ stored_of limits.now key (rows_of name.now (tables (P.standing pages.old).current))) }
+    ensures answer { OnStore P.Pages pages.old limits.now (IfOk result (λ answer. answer ≡ stored_of limits.now key (rows_of name.now (tables (P.standing pages.old).current)))) }
     ensures known { IsTrue (P.standing pages.old).told → IfOk result (λ answer. is_no_table answer ≡ not (is_known name.now (tables (P.standing pages.old).current))) }
-    ensures changed { IsTrue (P.standing pages.old).told → IsStore limits.now (P.standing pages.old).count (P.standing pages.old).current → IfOk result (PutsIfDone limits.now (P.standing pages.old).count (P.standing pages.old).current (P.standing pages.new).current name.now key value.now) }
+    ensures changed { OnStore P.Pages pages.old limits.now (IfOk result (PutsIfDone limits.now (P.standing pages.old).count (P.standing pages.old).current (P.standing pages.new).current name.now key value.now)) }
     ensures keeps { IfOk result (KeepsUnlessDone (P.standing pages.old) (P.standing pages.new)) }
     ensures lines { IsTrue (P.standing pages.old).told → OnOk result (LooksUp name.now (P.standing pages.old) (P.standing pages.new)) }
     // where the key has a value of this length, lines of its record are written alone, and none of page 0
-    ensures again { IsTrue (P.standing pages.old).told → IsStore limits.now (P.standing pages.old).count (P.standing pages.old).current → OnOk result (RewritesRecord name.now key (length value.now) (P.standing pages.old) (P.standing pages.new)) }
+    ensures again { OnStore P.Pages pages.old limits.now (OnOk result (RewritesRecord name.now key (length value.now) (P.standing pages.old) (P.standing pages.new))) }
     // why it stops
-    ensures sound { IsTrue (P.standing pages.old).told → IsStore limits.now (P.standing pages.old).count (P.standing pages.old).current → 1 + limits.now.tables * (limits.now.rows / 2 + 8) ≤ (P.standing pages.old).count → IfErr result IsFault }
-    ensures cause { HasCause (IsChangeDamage (P.standing pages.old).told limits.now (P.standing pages.old).count (P.standing pages.old).current (P.standing pages.new).current work.new.page) (P.standing pages.old) (P.standing pages.new) result }
+    ensures sound { OnStore P.Pages pages.old limits.now (1 + limits.now.tables * (limits.now.rows / 2 + 8) ≤ (P.standing pages.old).count → IfErr result IsFault) }
+    ensures cause { ChangeCause P.Pages pages.old pages.new limits.now work.new.page result }
     ensures fails { IfErr result (Keeps (FailsChange limits.now (P.standing pages.old).count work.new.page)) }
     // what stays
-    ensures continues { Continues (P.may_leave pages.old) (P.may_leave pages.new) (P.is_steady pages.old) (P.standing pages.old) (P.standing pages.new) }
+    ensures call { PagesCall P.Pages pages.old pages.new result }
     ensures room { OnOk result ((P.standing pages.old).room ≤ (P.standing pages.new).room + 601) }
     ensures few { (P.standing pages.new).visits ≤ (P.standing pages.old).visits + 64 }
-    ensures ready { OnOk result (P.is_ready pages.new) }
-    ensures steady { P.is_steady pages.old → OnOk result (P.is_steady pages.new) }
 {
     match find_entry(pages, limits, name, work)? {
         None => Ok(Stored::NoTable),

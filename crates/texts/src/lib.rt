@@ -4,8 +4,6 @@
 mod fields;
 mod lines;
 mod numbers;
-#[cfg(test)]
-mod tests;
 mod writing;
 
 pub use fields::{cut, is_word, key_field};

@@ -6,11 +6,11 @@ use Rattle.line_pages.specs.Bytes.{bytes_of, u16_at}
 use Rattle.line_pages.specs.Standing.{Standing}
 use Rattle.line_pages.specs.Cost.{lines_of, AddsLines, Costs}
 use Rattle.line_pages.proofs.CostLaws.{Costs-trans, Costs-weaker, length-lines_of}
-use Rattle.slotted_page.specs.declared.root.Expect.{Expect}
-use Rattle.slotted_page.specs.declared.spot.Spot.TheVariants.{Child}
-use Rattle.slotted_page.specs.Rows.{last_key}
-use Rattle.slotted_page.specs.Sound.{slot_of}
-use Rattle.slotted_page.specs.Search.{IsSpot, IsSafeSpot}
+use Rattle.page_format.specs.declared.root.Expect.{Expect}
+use Rattle.page_format.specs.declared.spot.Spot.TheVariants.{Child}
+use Rattle.rows.specs.Rows.{last_key}
+use Rattle.page_format.specs.Sound.{slot_of}
+use Rattle.page_format.specs.Search.{IsSpot, IsSafeSpot}
 use Rattle.page_search.specs.Cost.{search_lines}
 use Rattle.page_search.proofs.ProbeLaws.{then_lines}
 use Rattle.tree_search.specs.Tree.{IsTree}

@@ -5,15 +5,15 @@ use Rattle.std.proofs.lemmas.List.{map-append}
 use Rattle.std.proofs.lemmas.List.Concat.{flat_map-append}
 use Rattle.line_pages.specs.Lines.{Lines}
 use Rattle.line_pages.specs.Bytes.{bytes_of}
-use Rattle.slotted_page.specs.Rows.{Row, keys, row_put, row_delete, Ascends, Each, AllBelow, AllAbove}
-use Rattle.slotted_page.specs.Node.{Child, children, first_keys, IsWellFormed}
-use Rattle.page_space.specs.Counted.{times, SameOn}
+use Rattle.rows.specs.Rows.{Row, keys, row_put, row_delete, Ascends, Each, AllBelow, AllAbove}
+use Rattle.page_format.specs.Node.{Child, children, first_keys, IsWellFormed}
+use Rattle.page_alloc.specs.Counted.{times, SameOn}
 use Rattle.tree_search.specs.Tree.{IsTree, tree_rows, tree_pages, Tree}
-use Rattle.slotted_page.specs.Spans.{Span, reach, spans}
-use Rattle.node_edit.proofs.RowLaws.{below_bound, above_bound, Each-append, row_put-amid, row_delete-amid}
-use Rattle.page_space.proofs.CountedLaws.{times-append}
+use Rattle.page_format.specs.Spans.{Span, reach, spans}
+use Rattle.rows.proofs.RowLaws.{below_bound, above_bound, Each-append, row_put-amid, row_delete-amid}
+use Rattle.page_alloc.proofs.CountedLaws.{times-append}
 use Rattle.tree_search.proofs.TreeLaws.{Each-map, Each-both, Each-spans, flat_map-same, each_same, tree_rows-same, tree_pages-same, IsTree-same}
-use Rattle.slotted_page.proofs.PageFacts.{inner_facts}
+use Rattle.page_format.proofs.PageFacts.{inner_facts}
 use Rattle.tree_search.proofs.OrderLaws.{IsChildTree, Ascends-fan, tree_rows-ascend}
 
 pub spans-append : (xs ys : List Child) (high : ℕ) → spans (xs ++ ys) high ≡ spans xs (reach ys high) ++ spans ys high

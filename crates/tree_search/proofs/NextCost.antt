@@ -5,11 +5,11 @@ use Rattle.line_pages.specs.Bytes.{bytes_of}
 use Rattle.line_pages.specs.Standing.{Standing}
 use Rattle.line_pages.specs.Cost.{lines_of, AddsLines, Costs}
 use Rattle.line_pages.proofs.CostLaws.{AddsLines-weaker, Costs-trans, Costs-weaker, length-lines_of}
-use Rattle.slotted_page.specs.declared.root.Expect.{Expect}
-use Rattle.slotted_page.specs.Rows.{Row, row_next}
-use Rattle.slotted_page.specs.Spans.{spans}
-use Rattle.slotted_page.specs.Node.{children}
-use Rattle.slotted_page.proofs.PageFacts.{inner_facts}
+use Rattle.page_format.specs.declared.root.Expect.{Expect}
+use Rattle.rows.specs.Rows.{Row, row_next}
+use Rattle.page_format.specs.Spans.{spans}
+use Rattle.page_format.specs.Node.{children}
+use Rattle.page_format.proofs.PageFacts.{inner_facts}
 use Rattle.page_search.specs.Cost.{search_lines}
 use Rattle.tree_search.specs.Tree.{IsTree, tree_rows}
 use Rattle.tree_search.specs.Next.{Reaches, lines_for, next_lines, first_lines}

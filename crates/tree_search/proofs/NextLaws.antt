@@ -4,14 +4,14 @@ use Rattle.std.proofs.lemmas.Bool.{lt-ltb, le-ltb}
 use Rattle.std.proofs.lemmas.List.Concat.{flat_map-append}
 use Rattle.line_pages.specs.Lines.{Lines}
 use Rattle.line_pages.specs.Bytes.{bytes_of}
-use Rattle.slotted_page.specs.declared.root.Expect.{Expect}
-use Rattle.slotted_page.specs.Rows.{Row, keys, row_next, Ascends, AllBelow, AllAbove}
-use Rattle.slotted_page.specs.Spans.{Span, reach, spans}
-use Rattle.slotted_page.specs.Node.{Child, children, first_keys}
-use Rattle.slotted_page.proofs.PageFacts.{inner_facts}
+use Rattle.page_format.specs.declared.root.Expect.{Expect}
+use Rattle.rows.specs.Rows.{Row, keys, row_next, Ascends, AllBelow, AllAbove}
+use Rattle.page_format.specs.Spans.{Span, reach, spans}
+use Rattle.page_format.specs.Node.{Child, children, first_keys}
+use Rattle.page_format.proofs.PageFacts.{inner_facts}
 use Rattle.tree_search.specs.Tree.{IsTree, tree_rows, rows_of}
 use Rattle.tree_search.specs.Next.{Reaches, most_visits}
-use Rattle.node_edit.proofs.RowLaws.{row_next-behind, row_next-append, or_else, below_bound}
+use Rattle.rows.proofs.RowLaws.{row_next-behind, row_next-append, or_else, below_bound}
 use Rattle.tree_search.proofs.OrderLaws.{IsChildTree, Each-get, tree_rows-ascend, located}
 use Rattle.tree_search.proofs.FanLaws.{beside}
 use Rattle.tree_search.proofs.SizeLaws.{rows_below}

@@ -8,14 +8,14 @@ use Rattle.line_pages.specs.Touch.{Touch, Access, begins, accesses, accesses_fro
 use Rattle.line_pages.specs.Standing.{Standing, ReadsPage, AddsReads}
 use Rattle.line_pages.proofs.TouchLaws.{same_access, accesses_from-begun, stays_open, alone_reads}
 use Rattle.line_pages.proofs.StandingLaws.{page_adds, AddsReads-trans}
-use Rattle.slotted_page.specs.declared.root.Expect.{Expect}
-use Rattle.slotted_page.specs.Rows.{Each}
-use Rattle.slotted_page.specs.Spans.{spans}
-use Rattle.slotted_page.specs.Node.{Child, children}
-use Rattle.page_space.specs.Counted.{times}
+use Rattle.page_format.specs.declared.root.Expect.{Expect}
+use Rattle.rows.specs.Rows.{Each}
+use Rattle.page_format.specs.Spans.{spans}
+use Rattle.page_format.specs.Node.{Child, children}
+use Rattle.page_alloc.specs.Counted.{times}
 use Rattle.tree_search.specs.Tree.{IsTree, tree_pages}
 use Rattle.tree_search.specs.Way.{AreReadsIn}
-use Rattle.page_space.proofs.CountedLaws.{times-append}
+use Rattle.page_alloc.proofs.CountedLaws.{times-append}
 use Rattle.tree_search.proofs.OrderLaws.{located, IsChildTree, Each-get}
 
 reads-append : (pages : List ℕ) (xs ys : List Access) → AreReadsIn pages xs → AreReadsIn pages ys → AreReadsIn pages (xs ++ ys)

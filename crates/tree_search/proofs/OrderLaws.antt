@@ -4,12 +4,12 @@ use Rattle.std.proofs.lemmas.Bool.{lt-ltb, le-ltb, eqb-true, eq-eqb, cases_lt}
 use Rattle.std.proofs.lemmas.List.{map-append}
 use Rattle.line_pages.specs.Lines.{Lines}
 use Rattle.line_pages.specs.Bytes.{bytes_of}
-use Rattle.slotted_page.specs.Rows.{Row, keys, key_of, row_get, row_next, Ascends, Each, AllBelow, AllAbove}
-use Rattle.slotted_page.specs.Node.{Child, children, leaf_rows, children_from, entry_count, begins_at, first_keys}
-use Rattle.slotted_page.specs.Spans.{Span, spans, reach}
+use Rattle.rows.specs.Rows.{Row, keys, key_of, row_get, row_next, Ascends, Each, AllBelow, AllAbove}
+use Rattle.page_format.specs.Node.{Child, children, leaf_rows, children_from, entry_count, begins_at, first_keys}
+use Rattle.page_format.specs.Spans.{Span, spans, reach}
 use Rattle.tree_search.specs.Tree.{IsTree, tree_rows, child_for, path}
-use Rattle.node_edit.proofs.RowLaws.{Ascends-append, below_bound, above_bound, Each-append, row_get-amid, or_else, row_next-behind, row_next-append}
-use Rattle.slotted_page.proofs.PageFacts.{leaf_facts, inner_facts}
+use Rattle.rows.proofs.RowLaws.{Ascends-append, below_bound, above_bound, Each-append, row_get-amid, or_else, row_next-behind, row_next-append}
+use Rattle.page_format.proofs.PageFacts.{leaf_facts, inner_facts}
 use Rattle.tree_search.proofs.TreeLaws.{Each-map}
 
 -- rows that ascend in each span ascend in a row

@@ -4,16 +4,18 @@ use Rattle.std.proofs.lemmas.Bool.{cases_lt}
 use Rattle.std.proofs.lemmas.List.{length-take-le, get_or_append_left}
 use Rattle.nvm_model.specs.declared.line.Line.{Line}
 use Rattle.ssd_model.specs.Page.{Same}
-use Rattle.slotted_page.specs.Rows.{Row}
-use Rattle.slotted_page.specs.Node.{Slot}
-use Rattle.slotted_page.specs.Value.{value_of}
+use Rattle.rows.specs.Rows.{Row}
+use Rattle.page_format.specs.Node.{Slot}
+use Rattle.rows.specs.Value.{value_of}
 use Rattle.page_edit.proofs.InsertLemmas.{row_in-same}
 use Rattle.tree_search.specs.Record.{is_record, with_key, row_found}
 use Rattle.line_pages.specs.Touch.{begins}
 use Rattle.line_pages.specs.Standing.{Standing, ReadsPage}
 use Rattle.line_pages.proofs.TouchLaws.{goes_on}
-use Rattle.line_pages.specs.Bytes.{overwritten, line_bytes, page_bytes, with_line_bytes}
-use Rattle.line_pages.proofs.ByteLaws.{length-line_bytes, get_or-pieces}
+use Rattle.line_pages.specs.Bytes.{overwritten, page_bytes, with_line_bytes}
+use Rattle.nvm_model.specs.LineBytes.{line_bytes}
+use Rattle.line_pages.proofs.ByteLaws.{length-line_bytes}
+use Rattle.nvm_model.proofs.PieceLaws.{get_or-pieces}
 
 put_in : (xs new : List ℕ) (at j : ℕ) → at ≤ length xs → j < length new → get_or (overwritten xs at new) (at + j) 0 ≡ get_or new j 0
 put_in xs new at j fits within =

@@ -2,13 +2,14 @@
 use Rattle.std.proofs.Common.{◌≡◌, ℕ, zero, suc, ◌+◌, ◌-◌, ◌<◌, ◌≤◌, Bool, true, List, [], ◌∷◌, length, get_or, Some, None, sym, ap, ◌∙◌, arith, slice_get, nat_le, cond, drop, length-take}
 use Rattle.std.specs.List.{list_all}
 use Rattle.std.proofs.lemmas.Bool.{le-leb, and_parts, and_from}
-use Rattle.slotted_page.specs.declared.root.Expect.{Expect}
-use Rattle.slotted_page.specs.Rows.{Row}
-use Rattle.slotted_page.specs.Node.{entry_count, heap_start, slots, leaf_rows, row_in, is_in_heap, is_printable, has_printable_value, IsWellFormed}
-use Rattle.slotted_page.specs.Sound.{slot_of, InHeap}
-use Rattle.slotted_page.specs.Value.{is_value, value_of}
-use Rattle.slotted_page.proofs.PageFacts.{leaf_facts}
-use Rattle.slotted_page.proofs.SlotLemmas.{length-slots, length_rows, slot_at, row_at, in_heap_one, each_in_heap}
+use Rattle.page_format.specs.declared.root.Expect.{Expect}
+use Rattle.rows.specs.Rows.{Row}
+use Rattle.page_format.specs.Node.{entry_count, heap_start, slots, leaf_rows, row_in, is_in_heap, has_printable_value, IsWellFormed}
+use Rattle.rows.specs.Value.{is_printable}
+use Rattle.page_format.specs.Sound.{slot_of, InHeap}
+use Rattle.rows.specs.Value.{is_value, value_of}
+use Rattle.page_format.proofs.PageFacts.{leaf_facts}
+use Rattle.page_format.proofs.SlotLemmas.{length-slots, length_rows, slot_at, row_at, in_heap_one, each_in_heap}
 use Rattle.tree_search.specs.Record.{is_record, with_key, row_found}
 
 pub record Got {X : Type 0} (xs : List X) (at : ℕ) (x : X) : Type 0 where

@@ -2,23 +2,23 @@
 use Rattle.std.proofs.Common.{◌≡◌, ◌≢◌, ℕ, zero, suc, ◌+◌, ◌-◌, ◌≤◌, Bool, true, false, not, cond, List, [], ◌∷◌, ◌++◌, map, length, take, drop, Option, Some, None, Result, Ok, Err, IfOk, IfErr, OnOk, refl, sym, ap, subst, ◌∙◌, arith, nat_eq, take-append-drop, slice_get}
 use Rattle.std.proofs.lemmas.Bool.{eq-eqb, ne_eqb, and_left}
 use Rattle.line_pages.specs.declared.stop.Stop.{Stop}
-use Rattle.slotted_page.specs.declared.root.Expect.{Expect}
-use Rattle.slotted_page.specs.declared.spot.Spot.TheVariants.{Row, Gap, Child}
+use Rattle.page_format.specs.declared.root.Expect.{Expect}
+use Rattle.page_format.specs.declared.spot.Spot.TheVariants.{Row, Gap, Child}
 use Rattle.line_pages.specs.Touch.{Access, begins, begun_from, last_from}
 use Rattle.line_pages.proofs.StandingLaws.{page_adds, AddsReads-trans, ReadsPage-trans}
 use Rattle.line_pages.proofs.TouchLaws.{accesses_from-begun}
-use Rattle.slotted_page.proofs.PageFacts.{leaf_facts}
-use Rattle.page_space.specs.Stops.{IsFault}
+use Rattle.page_format.proofs.PageFacts.{leaf_facts}
+use Rattle.page_alloc.specs.Stops.{IsFault}
 use Rattle.line_pages.specs.Lines.{Lines}
 use Rattle.line_pages.specs.Standing.{Standing, ReadsPage, AddsReads}
 use Rattle.line_pages.specs.Bytes.{bytes_of}
-use Rattle.slotted_page.specs.Rows.{keys, row_get, Ascends}
-use Rattle.slotted_page.specs.Rows as rows
-use Rattle.slotted_page.specs.Node.{leaf_rows, IsWellFormed, page_level}
+use Rattle.rows.specs.Rows.{keys, row_get, Ascends}
+use Rattle.rows.specs.Rows as rows
+use Rattle.page_format.specs.Node.{leaf_rows, IsWellFormed, page_level}
 use Rattle.tree_search.specs.Tree.{IsTree, tree_rows, path}
-use Rattle.slotted_page.specs.Search.{IsSpot, IsSafeSpot}
+use Rattle.page_format.specs.Search.{IsSpot, IsSafeSpot}
 use Rattle.tree_search.specs.Way.{IsWay}
-use Rattle.node_edit.proofs.RowLaws.{row_get-behind, row_get-none_above}
+use Rattle.rows.proofs.RowLaws.{row_get-behind, row_get-none_above}
 use Rattle.tree_search.proofs.OrderLaws.{Descends, descends}
 
 pub on_ok : {T E P : Type 0} (r : Result T E) → ((v : T) → r ≡ Ok v → P) → OnOk r P

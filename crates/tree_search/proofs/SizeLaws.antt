@@ -6,11 +6,11 @@ use Rattle.std.proofs.lemmas.List.{length-map}
 use Rattle.std.proofs.lemmas.List.Sums.{sum_by-cons}
 use Rattle.line_pages.specs.Lines.{Lines}
 use Rattle.line_pages.specs.Bytes.{bytes_of}
-use Rattle.slotted_page.specs.Node.{Slot, Child, slots, leaf_rows, row_in, children, bytes_used, is_in_heap, entry_count, heap_start}
-use Rattle.slotted_page.specs.Rows.{Each}
-use Rattle.slotted_page.specs.Spans.{Span, spans}
+use Rattle.page_format.specs.Node.{Slot, Child, slots, leaf_rows, row_in, children, bytes_used, is_in_heap, entry_count, heap_start}
+use Rattle.rows.specs.Rows.{Each}
+use Rattle.page_format.specs.Spans.{Span, spans}
 use Rattle.tree_search.specs.Tree.{IsTree, tree_rows, tree_pages}
-use Rattle.slotted_page.proofs.PageFacts.{leaf_facts, inner_facts}
+use Rattle.page_format.proofs.PageFacts.{leaf_facts, inner_facts}
 use Rattle.tree_search.proofs.TreeLaws.{Each-map}
 use Rattle.tree_search.proofs.OrderLaws.{length-children, IsChildTree}
 

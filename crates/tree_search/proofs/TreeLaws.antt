@@ -2,12 +2,12 @@
 use Rattle.std.proofs.Common.{◌≡◌, ℕ, zero, suc, Bool, false, List, [], ◌∷◌, refl, ap, flat_map}
 use Rattle.line_pages.specs.Lines.{Lines}
 use Rattle.line_pages.specs.Bytes.{bytes_of}
-use Rattle.slotted_page.specs.Node.{Child, children}
-use Rattle.page_space.specs.Counted.{SameOn}
+use Rattle.page_format.specs.Node.{Child, children}
+use Rattle.page_alloc.specs.Counted.{SameOn}
 use Rattle.tree_search.specs.Tree.{IsTree, tree_rows, tree_pages}
-use Rattle.slotted_page.specs.Rows.{Each}
-use Rattle.slotted_page.specs.Spans.{Span, spans}
-use Rattle.page_space.proofs.CountedLaws.{SameOn-left, SameOn-right, SameOn-first, SameOn-rest}
+use Rattle.rows.specs.Rows.{Each}
+use Rattle.page_format.specs.Spans.{Span, spans}
+use Rattle.page_alloc.proofs.CountedLaws.{SameOn-left, SameOn-right, SameOn-first, SameOn-rest}
 
 pub flat_map-same : {X Y : Type 0} (f g : X → List Y) (xs : List X) → Each (λ x. f x ≡ g x) xs → flat_map f xs ≡ flat_map g xs
 flat_map-same f g [] same = refl

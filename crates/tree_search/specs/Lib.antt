@@ -2,3 +2,4 @@ pub mod Tree
 pub mod Way
 pub mod Record
 pub mod Next
+pub mod Where

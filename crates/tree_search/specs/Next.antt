@@ -1,8 +1,8 @@
 -- What the search for the next row needs.
 use Rattle.std.specs.Prelude.{◌≡◌, ℕ, zero, suc, ◌+◌, ◌*◌, List, ◌∷◌, ◌++◌, Option, Some, None}
-use Rattle.slotted_page.specs.Rows.{Row}
-use Rattle.slotted_page.specs.Spans.{reach}
-use Rattle.slotted_page.specs.Node.{Child}
+use Rattle.rows.specs.Rows.{Row}
+use Rattle.page_format.specs.Spans.{reach}
+use Rattle.page_format.specs.Node.{Child}
 
 -- a child reaches up to this key
 pub record Reaches (cs : List Child) (most high : ℕ) : Type 0 where

@@ -1,10 +1,10 @@
 -- A row by its record alone.
 use Rattle.std.specs.Prelude.{ℕ, ◌+◌, ◌*◌, ◌++◌, Bool, List, Option, Some, None, nat_le, ◌&&◌, if◌then◌else◌}
 use Rattle.line_pages.specs.Cost.{lines_of}
-use Rattle.slotted_page.specs.Rows.{Row}
-use Rattle.slotted_page.specs.Node.{Slot, row_in}
-use Rattle.slotted_page.specs.Sound.{slot_of}
-use Rattle.slotted_page.specs.Value.{value_of}
+use Rattle.rows.specs.Rows.{Row}
+use Rattle.page_format.specs.Node.{Slot, row_in}
+use Rattle.page_format.specs.Sound.{slot_of}
+use Rattle.rows.specs.Value.{value_of}
 
 -- the record has a key and lies in the page
 abbrev pub is_record : Slot → Bool

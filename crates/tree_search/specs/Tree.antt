@@ -3,10 +3,10 @@ use Rattle.std.specs.Prelude.{◌≡◌, ℕ, zero, suc, ◌-◌, ◌≤◌, Boo
 use Rattle.tree_search.specs.declared.root.Root.{Root}
 use Rattle.line_pages.specs.Lines.{Lines}
 use Rattle.line_pages.specs.Bytes.{bytes_of}
-use Rattle.slotted_page.specs.Rows.{Each, last_key, Row}
-use Rattle.slotted_page.specs.Spans.{Span, spans}
-use Rattle.slotted_page.specs.Node.{Child, leaf_rows, children, IsWellFormed}
-use Rattle.page_space.specs.Counted.{times}
+use Rattle.rows.specs.Rows.{Each, last_key, Row}
+use Rattle.page_format.specs.Spans.{Span, spans}
+use Rattle.page_format.specs.Node.{Child, leaf_rows, children, IsWellFormed}
+use Rattle.page_alloc.specs.Counted.{times}
 
 -- The page heads a well-formed tree of this level, which stands among `count` pages. A leaf has level 0.
 abbrev pub IsTree : ℕ → Lines → ℕ → ℕ → ℕ → ℕ → Bool → Type 0

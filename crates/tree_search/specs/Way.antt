@@ -2,10 +2,10 @@
 use Rattle.std.specs.Prelude.{◌≡◌, ℕ, ◌+◌, ◌-◌, ◌≤◌, false, List, ◌∷◌, length, map}
 use Rattle.line_pages.specs.Touch.{Access}
 use Rattle.line_pages.specs.Lines.{Lines}
-use Rattle.slotted_page.specs.declared.root.Expect.{Expect}
-use Rattle.slotted_page.specs.Rows.{Row, Each}
+use Rattle.page_format.specs.declared.root.Expect.{Expect}
+use Rattle.rows.specs.Rows.{Row, Each}
 use Rattle.tree_search.specs.declared.root.Root.{Root}
-use Rattle.page_space.specs.Counted.{times}
+use Rattle.page_alloc.specs.Counted.{times}
 use Rattle.tree_search.specs.Tree.{IsTree, IsRooted, path}
 
 -- The accesses of a search through the levels under a page: one to each level, and on a tree to each page of the

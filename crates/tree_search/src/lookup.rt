@@ -1,23 +1,27 @@
 //! The value of a key in a tree.
-ghost use Rattle.std.specs.Prelude.{◌≡◌, ◌+◌, ◌-◌, ◌*◌, ◌<◌, ◌≤◌, ℕ, List, slice_get, Some, None, true, false, IsTrue, OnOk, IfOk, IfErr};
+ghost use Rattle.std.specs.Prelude.{◌≡◌, ◌+◌, ◌-◌, ◌*◌, ◌<◌, ◌≤◌, slice_get, Some, None, true, false, IsTrue, OnOk, IfOk, IfErr};
+ghost use Rattle.page_search.specs.Causes.{NodeCause, OnPage};
+ghost use Rattle.tree_search.specs.Where.{OnRooted, OnTree};
+ghost use Rattle.line_pages.specs.PagesCall.{PagesCall};
 ghost use Rattle.line_pages.specs.Bytes.{bytes_of};
 ghost use Rattle.line_pages.specs.Cost.{Costs};
 ghost use Rattle.line_pages.specs.Touch.{begins};
-ghost use Rattle.line_pages.specs.Standing.{Continues, HasCause, ReadsPage, KeepsLines, AddsReads};
-ghost use Rattle.slotted_page.specs.Rows.{Row, row_get, last_key};
-ghost use Rattle.slotted_page.specs.Node.{IsWellFormed, leaf_rows, page_level};
-ghost use Rattle.slotted_page.specs.Search.{is_root_span, IsNodeDamage, FailsNode, Keeps, Unchanged};
+ghost use Rattle.line_pages.specs.Standing.{ReadsPage, KeepsLines, AddsReads};
+ghost use Rattle.rows.specs.Rows.{Row, row_get, last_key};
+ghost use Rattle.page_format.specs.Node.{leaf_rows, page_level};
+ghost use Rattle.page_format.specs.Search.{is_root_span, FailsNode, Keeps, Unchanged};
 ghost use Rattle.page_search.specs.Answers.{ShowsDamage};
-ghost use Rattle.tree_search.specs.Tree.{IsTree, IsRooted, tree_rows};
-ghost use Rattle.page_space.specs.Stops.{IsFault};
-ghost use Rattle.page_space.specs.Written.{WritesNothing};
+ghost use Rattle.tree_search.specs.Tree.{tree_rows};
+ghost use Rattle.page_alloc.specs.Stops.{IsFault};
+ghost use Rattle.page_alloc.specs.Written.{WritesNothing};
 ghost use Rattle.tree_search.specs.Way.{IsWay, IsPath};
 
 use crate::root::{Root, child_expect, root_expect};
 use crate::row::row_at;
 use line_pages::{Pages, Stop};
+use page_format::{Expect, Spot, Work};
 use page_search::find;
-use slotted_page::{Expect, Spot, Value, Work};
+use rows::Value;
 
 /// The value of the row at a place of a leaf, whose access is open.
 fn value_at<P: Pages>(
@@ -33,17 +37,15 @@ fn value_at<P: Pages>(
     requires root { is_root_span expect.now.low expect.now.high ≡ true → expect.now.root ≡ true }
     requires level { expect.now.level ≡ 0 }
     requires open { (P.standing pages.old).access ≡ Some (page, false) }
-    ensures value { IsTrue (P.standing pages.old).told → IsWellFormed (bytes_of (P.standing pages.old).current page) expect.now → (r : Row) → slice_get (leaf_rows (bytes_of (P.standing pages.old).current page)) at ≡ Some r → IfOk result (λ value. value ≡ Some r.1) }
+    ensures value { OnPage P.Pages pages.old page expect.now ((r : Row) → slice_get (leaf_rows (bytes_of (P.standing pages.old).current page)) at ≡ Some r → IfOk result (λ value. value ≡ Some r.1)) }
     ensures damage { IsTrue (P.standing pages.old).told → IfErr result (ShowsDamage page expect.now (bytes_of (P.standing pages.old).current page)) }
-    ensures cause { HasCause (λ e. IsTrue (P.standing pages.old).told → IsNodeDamage (P.standing pages.old).count (P.standing pages.old).current work.new.page e) (P.standing pages.old) (P.standing pages.new) result }
+    ensures cause { NodeCause P.Pages pages.old pages.new work.new.page result }
     ensures fails { IfErr result (Keeps (FailsNode (P.standing pages.old).count work.new.page)) }
     ensures unchanged { IfErr result (Unchanged (P.standing pages.old) (P.standing pages.new)) }
-    ensures continues { Continues (P.may_leave pages.old) (P.may_leave pages.new) (P.is_steady pages.old) (P.standing pages.old) (P.standing pages.new) }
+    ensures call { PagesCall P.Pages pages.old pages.new result }
     ensures reads { OnOk result (ReadsPage page (P.standing pages.old) (P.standing pages.new)) }
-    ensures cost { IsTrue (P.standing pages.old).told → IsWellFormed (bytes_of (P.standing pages.old).current page) expect.now → (r : Row) → slice_get (leaf_rows (bytes_of (P.standing pages.old).current page)) at ≡ Some r → OnOk result (Costs 11 (P.standing pages.old) (P.standing pages.new)) }
+    ensures cost { OnPage P.Pages pages.old page expect.now ((r : Row) → slice_get (leaf_rows (bytes_of (P.standing pages.old).current page)) at ≡ Some r → OnOk result (Costs 11 (P.standing pages.old) (P.standing pages.new))) }
     ensures again { (P.standing pages.new).visits ≤ (P.standing pages.old).visits }
-    ensures ready { OnOk result (P.is_ready pages.new) }
-    ensures steady { P.is_steady pages.old → OnOk result (P.is_steady pages.new) }
 {
     match row_at(pages, page, expect, at, work)? {
         Some((_, value)) => Ok(Some(value)),
@@ -52,7 +54,7 @@ fn value_at<P: Pages>(
 }
 
 /// The value of a key in the tree under a page. The levels below are gone through by recursion.
-#[tactic(auto, using(page_space::proofs::TouchedLaws::nothing_read, page_space::proofs::TouchedLaws::nothing_then))]
+#[tactic(auto, using(page_alloc::proofs::TouchedLaws::nothing_read, page_alloc::proofs::TouchedLaws::nothing_then))]
 fn get_in<P: Pages>(
     pages: &mut P,
     page: u64,
@@ -66,20 +68,18 @@ fn get_in<P: Pages>(
     requires root { is_root_span expect.now.low expect.now.high ≡ true → expect.now.root ≡ true }
     requires above { expect.now.low ≤ key }
     requires within { key ≤ expect.now.high }
-    ensures value { IsTrue (P.standing pages.old).told → IsTree expect.now.pages (P.standing pages.old).current expect.now.level page expect.now.low expect.now.high expect.now.root → IfOk result (λ value. value ≡ row_get key (tree_rows (P.standing pages.old).current expect.now.level page)) }
-    ensures sound { IsTrue (P.standing pages.old).told → IsTree expect.now.pages (P.standing pages.old).current expect.now.level page expect.now.low expect.now.high expect.now.root → IfErr result IsFault }
+    ensures value { OnTree P.Pages pages.old page expect.now (IfOk result (λ value. value ≡ row_get key (tree_rows (P.standing pages.old).current expect.now.level page))) }
+    ensures sound { OnTree P.Pages pages.old page expect.now (IfErr result IsFault) }
     ensures level { IsTrue (P.standing pages.old).told → OnOk result (page_level (bytes_of (P.standing pages.old).current page) ≡ expect.now.level) }
-    ensures cost { IsTrue (P.standing pages.old).told → IsTree expect.now.pages (P.standing pages.old).current expect.now.level page expect.now.low expect.now.high expect.now.root → OnOk result (Costs (10 * expect.now.level + 39) (P.standing pages.old) (P.standing pages.new)) }
+    ensures cost { OnTree P.Pages pages.old page expect.now (OnOk result (Costs (10 * expect.now.level + 39) (P.standing pages.old) (P.standing pages.new))) }
     ensures way { IsTrue (P.standing pages.old).told → begins (P.standing pages.old).access page false ≡ true → OnOk result (AddsReads (IsWay (P.standing pages.old).current page expect.now key) (P.standing pages.old) (P.standing pages.new)) }
     ensures nothing { OnOk result (WritesNothing (P.standing pages.old) (P.standing pages.new)) }
-    ensures cause { HasCause (λ e. IsTrue (P.standing pages.old).told → IsNodeDamage (P.standing pages.old).count (P.standing pages.old).current work.new.page e) (P.standing pages.old) (P.standing pages.new) result }
+    ensures cause { NodeCause P.Pages pages.old pages.new work.new.page result }
     ensures fails { IfErr result (Keeps (FailsNode (P.standing pages.old).count work.new.page)) }
     ensures unchanged { IfErr result (Unchanged (P.standing pages.old) (P.standing pages.new)) }
-    ensures continues { Continues (P.may_leave pages.old) (P.may_leave pages.new) (P.is_steady pages.old) (P.standing pages.old) (P.standing pages.new) }
+    ensures call { PagesCall P.Pages pages.old pages.new result }
     ensures keeps { OnOk result (KeepsLines (P.standing pages.old) (P.standing pages.new)) }
     ensures few { (P.standing pages.new).visits ≤ (P.standing pages.old).visits + expect.now.level + 1 }
-    ensures ready { OnOk result (P.is_ready pages.new) }
-    ensures steady { P.is_steady pages.old → OnOk result (P.is_steady pages.new) }
 {
     match find(pages, page, expect, key, work)? {
         Spot::Row(at) => value_at(pages, page, expect, at, work),
@@ -106,23 +106,21 @@ pub fn get<P: Pages>(
     requires some_levels { 1 ≤ root.now.levels }
     requires few_levels { root.now.levels ≤ 4 }
     // the value
-    ensures value { IsTrue (P.standing pages.old).told → (rows : List Row) (used : List ℕ) → IsRooted (P.standing pages.old).count (P.standing pages.old).current root.now rows used → IfOk result (λ value. value ≡ row_get key rows) }
+    ensures value { OnRooted P.Pages pages.old root.now (λ rows used. IfOk result (λ value. value ≡ row_get key rows)) }
     // why it stops
-    ensures sound { IsTrue (P.standing pages.old).told → (rows : List Row) (used : List ℕ) → IsRooted (P.standing pages.old).count (P.standing pages.old).current root.now rows used → IfErr result IsFault }
+    ensures sound { OnRooted P.Pages pages.old root.now (λ rows used. IfErr result IsFault) }
     ensures nothing { OnOk result (WritesNothing (P.standing pages.old) (P.standing pages.new)) }
-    ensures cause { HasCause (λ e. IsTrue (P.standing pages.old).told → IsNodeDamage (P.standing pages.old).count (P.standing pages.old).current work.new.page e) (P.standing pages.old) (P.standing pages.new) result }
+    ensures cause { NodeCause P.Pages pages.old pages.new work.new.page result }
     ensures fails { IfErr result (Keeps (FailsNode (P.standing pages.old).count work.new.page)) }
     ensures unchanged { IfErr result (Unchanged (P.standing pages.old) (P.standing pages.new)) }
     // what is read
     ensures way { IsTrue (P.standing pages.old).told → begins (P.standing pages.old).access root.now.page false ≡ true → OnOk result (AddsReads (IsPath (P.standing pages.old).count (P.standing pages.old).current root.now key) (P.standing pages.old) (P.standing pages.new)) }
     ensures visits { IsTrue (P.standing pages.old).told → begins (P.standing pages.old).access root.now.page false ≡ true → OnOk result ((P.standing pages.new).visits ≡ (P.standing pages.old).visits + root.now.levels) }
-    ensures cost { IsTrue (P.standing pages.old).told → (rows : List Row) (used : List ℕ) → IsRooted (P.standing pages.old).count (P.standing pages.old).current root.now rows used → OnOk result (Costs (10 * root.now.levels + 29) (P.standing pages.old) (P.standing pages.new)) }
+    ensures cost { OnRooted P.Pages pages.old root.now (λ rows used. OnOk result (Costs (10 * root.now.levels + 29) (P.standing pages.old) (P.standing pages.new))) }
     // what stays
-    ensures continues { Continues (P.may_leave pages.old) (P.may_leave pages.new) (P.is_steady pages.old) (P.standing pages.old) (P.standing pages.new) }
+    ensures call { PagesCall P.Pages pages.old pages.new result }
     ensures keeps { OnOk result (KeepsLines (P.standing pages.old) (P.standing pages.new)) }
     ensures few { (P.standing pages.new).visits ≤ (P.standing pages.old).visits + 4 }
-    ensures ready { OnOk result (P.is_ready pages.new) }
-    ensures steady { P.is_steady pages.old → OnOk result (P.is_steady pages.new) }
 {
     let expect = root_expect(root, pages.page_count());
     get_in(pages, root.page, &expect, key, work)

@@ -1,8 +1,8 @@
 //! The root of a tree, and what is expected of the pages under it.
 ghost use Rattle.std.specs.Prelude.{◌≡◌, ◌-◌, ◌≤◌, true, false};
-ghost use Rattle.slotted_page.specs.Rows.{last_key};
+ghost use Rattle.rows.specs.Rows.{last_key};
 
-use slotted_page::Expect;
+use page_format::Expect;
 
 /// The root page of a tree and the number of its levels, 1 to 4.
 #[derive(Clone, Copy, Debug, PartialEq, Eq)]

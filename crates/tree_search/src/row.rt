@@ -1,20 +1,23 @@
 //! One row of a leaf, read by the lines of its slot and its record.
-ghost use Rattle.std.specs.Prelude.{◌≡◌, ◌+◌, ◌-◌, ◌*◌, ◌<◌, ◌≤◌, ℕ, length, slice_get, Some, None, true, false, IsTrue, OnOk, IfOk, IfErr};
+ghost use Rattle.std.specs.Prelude.{◌≡◌, ◌+◌, ◌-◌, ◌*◌, ◌<◌, ◌≤◌, length, slice_get, Some, None, true, false, IsTrue, OnOk, IfOk, IfErr};
 ghost use Rattle.ssd_model.specs.Page.{Same};
+ghost use Rattle.page_search.specs.Causes.{NodeCause, OnPage};
+ghost use Rattle.line_pages.specs.PagesCall.{PagesCall};
 ghost use Rattle.line_pages.specs.Bytes.{bytes_of};
 ghost use Rattle.line_pages.specs.Cost.{lines_from, lines_of, AddsLines, Costs};
-ghost use Rattle.line_pages.specs.Standing.{Continues, HasCause, Never, ReadsPage};
+ghost use Rattle.line_pages.specs.Standing.{HasCause, Never, ReadsPage};
 ghost use Rattle.line_pages.specs.Touch.{begins};
-ghost use Rattle.slotted_page.specs.Rows.{Row};
-ghost use Rattle.slotted_page.specs.Node.{IsWellFormed, leaf_rows};
-ghost use Rattle.slotted_page.specs.Sound.{slot_of};
-ghost use Rattle.slotted_page.specs.Search.{is_root_span, IsNodeDamage, FailsNode, Keeps, Unchanged};
+ghost use Rattle.rows.specs.Rows.{Row};
+ghost use Rattle.page_format.specs.Node.{leaf_rows};
+ghost use Rattle.page_format.specs.Sound.{slot_of};
+ghost use Rattle.page_format.specs.Search.{is_root_span, FailsNode, Keeps, Unchanged};
 ghost use Rattle.page_search.specs.Answers.{ShowsDamage};
 ghost use Rattle.tree_search.specs.Record.{row_found, row_lines};
 
 use line_pages::{Pages, Stop, page_word, read_half, set_page_line};
+use page_format::{Expect, Work};
 use page_search::read_page;
-use slotted_page::{Expect, Value, Work};
+use rows::Value;
 use ssd_model::PageBuf;
 
 /// Reads lines of a page whose access is open to their places in a buffer.
@@ -32,12 +35,10 @@ fn read_lines<P: Pages>(
     ensures bytes { IsTrue (P.standing pages.old).told → OnOk result (Same (64 * first) (64 * end) (bytes_of (P.standing pages.old).current page) into.new) }
     ensures size { length into.new ≡ 4096 }
     ensures cause { HasCause Never (P.standing pages.old) (P.standing pages.new) result }
-    ensures continues { Continues (P.may_leave pages.old) (P.may_leave pages.new) (P.is_steady pages.old) (P.standing pages.old) (P.standing pages.new) }
+    ensures call { PagesCall P.Pages pages.old pages.new result }
     ensures reads { OnOk result (ReadsPage page (P.standing pages.old) (P.standing pages.new)) }
     ensures lines { first ≤ end → OnOk result (AddsLines (λ lines. lines ≡ lines_from first (end - first)) (P.standing pages.old) (P.standing pages.new)) }
     ensures again { (P.standing pages.new).visits ≤ (P.standing pages.old).visits }
-    ensures ready { OnOk result (P.is_ready pages.new) }
-    ensures steady { P.is_steady pages.old → OnOk result (P.is_steady pages.new) }
 {
     into.byte(0);
     for line in first..end {
@@ -76,12 +77,10 @@ fn read_record<P: Pages>(
     requires open { (P.standing pages.old).access ≡ Some (page, false) }
     ensures row { IsTrue (P.standing pages.old).told → IfOk result (λ row. row ≡ row_found (bytes_of (P.standing pages.old).current page) (record { place = place; size = size })) }
     ensures cause { HasCause Never (P.standing pages.old) (P.standing pages.new) result }
-    ensures continues { Continues (P.may_leave pages.old) (P.may_leave pages.new) (P.is_steady pages.old) (P.standing pages.old) (P.standing pages.new) }
+    ensures call { PagesCall P.Pages pages.old pages.new result }
     ensures reads { OnOk result (ReadsPage page (P.standing pages.old) (P.standing pages.new)) }
     ensures lines { 8 ≤ size → place + size ≤ 4096 → OnOk result (AddsLines (λ lines. lines ≡ lines_of place size) (P.standing pages.old) (P.standing pages.new)) }
     ensures again { (P.standing pages.new).visits ≤ (P.standing pages.old).visits }
-    ensures ready { OnOk result (P.is_ready pages.new) }
-    ensures steady { P.is_steady pages.old → OnOk result (P.is_steady pages.new) }
 {
     let from = place as usize;
     let end = from + size as usize;
@@ -105,12 +104,10 @@ fn read_row<P: Pages>(
     requires open { (P.standing pages.old).access ≡ Some (page, false) }
     ensures row { IsTrue (P.standing pages.old).told → at < 1008 → IfOk result (λ row. row ≡ row_found (bytes_of (P.standing pages.old).current page) (slot_of (bytes_of (P.standing pages.old).current page) at)) }
     ensures cause { HasCause Never (P.standing pages.old) (P.standing pages.new) result }
-    ensures continues { Continues (P.may_leave pages.old) (P.may_leave pages.new) (P.is_steady pages.old) (P.standing pages.old) (P.standing pages.new) }
+    ensures call { PagesCall P.Pages pages.old pages.new result }
     ensures reads { OnOk result (ReadsPage page (P.standing pages.old) (P.standing pages.new)) }
     ensures lines { IsTrue (P.standing pages.old).told → at < 1008 → 8 ≤ (slot_of (bytes_of (P.standing pages.old).current page) at).size → (slot_of (bytes_of (P.standing pages.old).current page) at).place + (slot_of (bytes_of (P.standing pages.old).current page) at).size ≤ 4096 → OnOk result (AddsLines (λ lines. lines ≡ row_lines (bytes_of (P.standing pages.old).current page) at) (P.standing pages.old) (P.standing pages.new)) }
     ensures again { (P.standing pages.new).visits ≤ (P.standing pages.old).visits }
-    ensures ready { OnOk result (P.is_ready pages.new) }
-    ensures steady { P.is_steady pages.old → OnOk result (P.is_steady pages.new) }
 {
     if at >= 1008 {
         return Ok(None);
@@ -133,14 +130,12 @@ fn no_row<P: Pages>(
     requires root { is_root_span expect.now.low expect.now.high ≡ true → expect.now.root ≡ true }
     ensures none { IfOk result (λ row. row ≡ None) }
     ensures damage { IsTrue (P.standing pages.old).told → IfErr result (ShowsDamage page expect.now (bytes_of (P.standing pages.old).current page)) }
-    ensures cause { HasCause (λ e. IsTrue (P.standing pages.old).told → IsNodeDamage (P.standing pages.old).count (P.standing pages.old).current work.new.page e) (P.standing pages.old) (P.standing pages.new) result }
+    ensures cause { NodeCause P.Pages pages.old pages.new work.new.page result }
     ensures fails { IfErr result (Keeps (FailsNode (P.standing pages.old).count work.new.page)) }
     ensures unchanged { IfErr result (Unchanged (P.standing pages.old) (P.standing pages.new)) }
-    ensures continues { Continues (P.may_leave pages.old) (P.may_leave pages.new) (P.is_steady pages.old) (P.standing pages.old) (P.standing pages.new) }
+    ensures call { PagesCall P.Pages pages.old pages.new result }
     ensures reads { OnOk result (ReadsPage page (P.standing pages.old) (P.standing pages.new)) }
     ensures again { begins (P.standing pages.old).access page false ≡ false → (P.standing pages.new).visits ≤ (P.standing pages.old).visits }
-    ensures ready { OnOk result (P.is_ready pages.new) }
-    ensures steady { P.is_steady pages.old → OnOk result (P.is_steady pages.new) }
 {
     read_page(pages, page, expect, work)?;
     Ok(None)
@@ -160,18 +155,16 @@ pub fn row_at<P: Pages>(
     requires root { is_root_span expect.now.low expect.now.high ≡ true → expect.now.root ≡ true }
     requires level { expect.now.level ≡ 0 }
     requires open { (P.standing pages.old).access ≡ Some (page, false) }
-    ensures row { IsTrue (P.standing pages.old).told → IsWellFormed (bytes_of (P.standing pages.old).current page) expect.now → (r : Row) → slice_get (leaf_rows (bytes_of (P.standing pages.old).current page)) at ≡ Some r → IfOk result (λ row. row ≡ Some r) }
+    ensures row { OnPage P.Pages pages.old page expect.now ((r : Row) → slice_get (leaf_rows (bytes_of (P.standing pages.old).current page)) at ≡ Some r → IfOk result (λ row. row ≡ Some r)) }
     ensures damage { IsTrue (P.standing pages.old).told → IfErr result (ShowsDamage page expect.now (bytes_of (P.standing pages.old).current page)) }
-    ensures cause { HasCause (λ e. IsTrue (P.standing pages.old).told → IsNodeDamage (P.standing pages.old).count (P.standing pages.old).current work.new.page e) (P.standing pages.old) (P.standing pages.new) result }
+    ensures cause { NodeCause P.Pages pages.old pages.new work.new.page result }
     ensures fails { IfErr result (Keeps (FailsNode (P.standing pages.old).count work.new.page)) }
     ensures unchanged { IfErr result (Unchanged (P.standing pages.old) (P.standing pages.new)) }
-    ensures continues { Continues (P.may_leave pages.old) (P.may_leave pages.new) (P.is_steady pages.old) (P.standing pages.old) (P.standing pages.new) }
+    ensures call { PagesCall P.Pages pages.old pages.new result }
     ensures reads { OnOk result (ReadsPage page (P.standing pages.old) (P.standing pages.new)) }
-    ensures lines { IsTrue (P.standing pages.old).told → IsWellFormed (bytes_of (P.standing pages.old).current page) expect.now → (r : Row) → slice_get (leaf_rows (bytes_of (P.standing pages.old).current page)) at ≡ Some r → OnOk result (AddsLines (λ lines. lines ≡ row_lines (bytes_of (P.standing pages.old).current page) at) (P.standing pages.old) (P.standing pages.new)) }
-    ensures cost { IsTrue (P.standing pages.old).told → IsWellFormed (bytes_of (P.standing pages.old).current page) expect.now → (r : Row) → slice_get (leaf_rows (bytes_of (P.standing pages.old).current page)) at ≡ Some r → OnOk result (Costs 11 (P.standing pages.old) (P.standing pages.new)) }
+    ensures lines { OnPage P.Pages pages.old page expect.now ((r : Row) → slice_get (leaf_rows (bytes_of (P.standing pages.old).current page)) at ≡ Some r → OnOk result (AddsLines (λ lines. lines ≡ row_lines (bytes_of (P.standing pages.old).current page) at) (P.standing pages.old) (P.standing pages.new))) }
+    ensures cost { OnPage P.Pages pages.old page expect.now ((r : Row) → slice_get (leaf_rows (bytes_of (P.standing pages.old).current page)) at ≡ Some r → OnOk result (Costs 11 (P.standing pages.old) (P.standing pages.new))) }
     ensures again { (P.standing pages.new).visits ≤ (P.standing pages.old).visits }
-    ensures ready { OnOk result (P.is_ready pages.new) }
-    ensures steady { P.is_steady pages.old → OnOk result (P.is_steady pages.new) }
 {
     match read_row(pages, page, at, work)? {
         Some(row) => Ok(Some(row)),

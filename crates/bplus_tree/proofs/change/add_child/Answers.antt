@@ -1,26 +1,26 @@
 use Rattle.std.proofs.Common.{rules, IfErr, List, ◌≡◌, ◌≤◌, ◌+◌, ℕ, true, Result, Ok, Err, IfOk, OnOk, refl, arith, sym, subst, IsTrue, ap, ◌∙◌}
-use Rattle.slotted_page.specs.declared.root.Expect.{Expect}
-use Rattle.slotted_page.proofs.PageFacts.{inner_facts}
+use Rattle.page_format.specs.declared.root.Expect.{Expect}
+use Rattle.page_format.proofs.PageFacts.{inner_facts}
 use Rattle.node_edit.specs.declared.fit.Fit.{Fit}
 use Rattle.node_edit.specs.declared.fit.Fit.TheVariants as fits
 use Rattle.bplus_tree.specs.declared.outcome.Outcome.{Outcome}
 use Rattle.bplus_tree.specs.declared.outcome.Outcome.TheVariants.{Whole, Short, Cut, Alone}
-use Rattle.page_space.specs.Written.{lines_changed}
+use Rattle.page_alloc.specs.Written.{lines_changed}
 use Rattle.line_pages.specs.declared.stop.Stop.{Stop}
-use Rattle.line_pages.specs.declared.stop.Evidence.TheVariants.{Page}
+use Rattle.damage.specs.declared.evidence.Evidence.TheVariants.{Page}
 use Rattle.line_pages.specs.Lines.{Lines}
 use Rattle.line_pages.specs.Bytes.{bytes_of}
 use Rattle.line_pages.specs.Standing.{HasCause}
-use Rattle.slotted_page.specs.Search.{Keeps}
+use Rattle.page_format.specs.Search.{Keeps}
 use Rattle.bplus_tree.specs.Damage.{IsTreeDamage, FailsTree}
 use Rattle.bplus_tree.specs.Edit.{IsOutcome, StaysBelow}
-use Rattle.page_space.proofs.WrittenLaws.{changed_most}
+use Rattle.page_alloc.proofs.WrittenLaws.{changed_most}
 use Rattle.bplus_tree.proofs.Storing.{spent_most, if_both, child_added}
 use Rattle.bplus_tree.proofs.TreeDamageLaws.{root_damage, root_fails}
-use Rattle.page_space.specs.Stops.{spare_pages}
+use Rattle.page_alloc.specs.Stops.{spare_pages}
 use Rattle.bplus_tree.specs.Path.{IsFullAt}
-use Rattle.page_space.proofs.LackLaws.{stops_wider, stored_sound}
-use Rattle.slotted_page.specs.Node.{entry_count}
+use Rattle.page_alloc.proofs.LackLaws.{stops_wider, stored_sound}
+use Rattle.page_format.specs.Node.{entry_count}
 use Rattle.bplus_tree.specs.Full.{NamesFull, CutsFor, IsNeeded}
 use Rattle.bplus_tree.proofs.FullLaws.{not_full_names, fault_needed, cuts_of, needed_of, inner_many}
 use Rattle.bplus_tree.proofs.change.add_child.Goals as goal
@@ -87,24 +87,24 @@ returns-clause-adds g c = λ told.
     let old = g.P.Pages.standing c.args.pages.now in
     let first = g.P.Pages.standing c.load.new.pages in
     let new = g.P.Pages.standing c.store.new.pages in
-    let told_on = subst IsTrue (sym c.in_ok-load.ensures.continues.told) told in
+    let told_on = subst IsTrue (sym c.in_ok-load.ensures.call.continues.told) told in
     let same = c.in_ok-load.ensures.keeps.current told in
     let is = c.in_ok-load.ensures.bytes told in
     let spare = c.copy_from.ensures.value ∙ is ∙ ap (λ (lines : Lines). bytes_of lines c.args.page) (sym same) in
     if_both c.store.result
     (λ outcome stores outcome_is. child_added e old.current first.current new.current c.args.page c.args.key c.args.child first.count c.load.new.work.page c.inner_put-fit.new.left c.inner_put-fit.new.right c.inner_put-fit.result outcome
-    (c.in_ok-load.ensures.continues.count ∙ sym c.requires.pages) same is c.inner_put-fit.ensures.fits c.inner_put-fit.ensures.long outcome_is stores)
+    (c.in_ok-load.ensures.call.continues.count ∙ sym c.requires.pages) same is c.inner_put-fit.ensures.fits c.inner_put-fit.ensures.long outcome_is stores)
     (c.store.ensures.stores told_on spare) c.store.ensures.is
 
 pub returns-clause-sound : goal.returns-clause-sound
 returns-clause-sound g c = λ told free well is_free part fits.
     let old = g.P.Pages.standing c.args.pages.now in
     let first = g.P.Pages.standing c.load.new.pages in
-    let told_on = subst IsTrue (sym c.in_ok-load.ensures.continues.told) told in
+    let told_on = subst IsTrue (sym c.in_ok-load.ensures.call.continues.told) told in
     let same = c.in_ok-load.ensures.keeps.current told in
     let spare = c.copy_from.ensures.value ∙ c.in_ok-load.ensures.bytes told ∙ ap (λ (lines : Lines). bytes_of lines c.args.page) (sym same) in
     stops_wider (spare_pages old.count old.current free ≤ 0) (spare_pages old.count old.current free ≤ 0) ⊥ (IsFullAt old.current c.args.page c.args.expect.now) (λ none. none) (λ never. absurd never) c.store.result
-    (stored_sound old.count first.count old.current first.current c.args.page c.copy_from.new.self free c.store.result c.in_ok-load.ensures.continues.count same spare is_free part fits (c.store.ensures.sound told_on))
+    (stored_sound old.count first.count old.current first.current c.args.page c.copy_from.new.self free c.store.result c.in_ok-load.ensures.call.continues.count same spare is_free part fits (c.store.ensures.sound told_on))
 
 pub returns-clause-cuts : goal.returns-clause-cuts
 returns-clause-cuts g c = λ told.

@@ -1,15 +1,15 @@
 use Rattle.std.proofs.Common.{rules, length, ◌≤◌, ℕ, List, arith, sym, subst, IsTrue, true, ◌≡◌, ap, ◌∙◌}
 use Rattle.line_pages.specs.Lines.{Lines}
 use Rattle.line_pages.specs.Bytes.{bytes_of}
-use Rattle.slotted_page.specs.Rows.{row_put}
-use Rattle.page_space.specs.Written.{lines_changed}
-use Rattle.page_space.proofs.WrittenLaws.{changed_most}
+use Rattle.rows.specs.Rows.{row_put}
+use Rattle.page_alloc.specs.Written.{lines_changed}
+use Rattle.page_alloc.proofs.WrittenLaws.{changed_most}
 use Rattle.bplus_tree.proofs.Storing.{spent_most, leaf_spent, leaf_edits, if_both}
-use Rattle.slotted_page.specs.Node.{leaf_rows}
+use Rattle.page_format.specs.Node.{leaf_rows}
 use Rattle.node_edit.specs.Record.{FitsLeaf, HoldsLength}
 use Rattle.bplus_tree.proofs.SameLength.{uncut_whole, outcome_whole, record_written}
 use Rattle.bplus_tree.proofs.LineChangeLaws.{page_changed}
-use Rattle.page_space.proofs.LackLaws.{stored_sound}
+use Rattle.page_alloc.proofs.LackLaws.{stored_sound}
 use Rattle.std.specs.Prelude.{IfErr, IfOk}
 use Rattle.bplus_tree.specs.Full.{CutsFor, IsNeeded, IsOverfull}
 use Rattle.bplus_tree.proofs.FullLaws.{fault_needed, cuts_of, needed_of, leaf_overfull}
@@ -31,13 +31,13 @@ returns-clause-edits g c = λ told.
     let old = g.P.Pages.standing c.args.pages.now in
     let first = g.P.Pages.standing c.load.new.pages in
     let new = g.P.Pages.standing c.store.new.pages in
-    let told_on = subst IsTrue (sym c.in_ok-load.ensures.continues.told) told in
+    let told_on = subst IsTrue (sym c.in_ok-load.ensures.call.continues.told) told in
     let same = c.in_ok-load.ensures.keeps.current told in
     let is = c.in_ok-load.ensures.bytes told in
     let spare = c.copy_from.ensures.value ∙ is ∙ ap (λ (lines : Lines). bytes_of lines c.args.page) (sym same) in
     if_both c.store.result
     (λ outcome stores outcome_is. leaf_edits e old.current first.current new.current c.args.page first.count c.load.new.work.page c.leaf_put-fit.new.left c.leaf_put-fit.new.right c.leaf_put-fit.result outcome (row_put c.args.key c.args.value.now) c.requires.level
-    (c.in_ok-load.ensures.continues.count ∙ sym c.requires.pages) same is c.leaf_put-fit.ensures.fits outcome_is stores)
+    (c.in_ok-load.ensures.call.continues.count ∙ sym c.requires.pages) same is c.leaf_put-fit.ensures.fits outcome_is stores)
     (c.store.ensures.stores told_on spare) c.store.ensures.is
 
 pub returns-clause-again : goal.returns-clause-again
@@ -61,17 +61,17 @@ pub returns-clause-sound : goal.returns-clause-sound
 returns-clause-sound g c = λ told free well is_free part fits.
     let old = g.P.Pages.standing c.args.pages.now in
     let first = g.P.Pages.standing c.load.new.pages in
-    let told_on = subst IsTrue (sym c.in_ok-load.ensures.continues.told) told in
+    let told_on = subst IsTrue (sym c.in_ok-load.ensures.call.continues.told) told in
     let same = c.in_ok-load.ensures.keeps.current told in
     let spare = c.copy_from.ensures.value ∙ c.in_ok-load.ensures.bytes told ∙ ap (λ (lines : Lines). bytes_of lines c.args.page) (sym same) in
-    stored_sound old.count first.count old.current first.current c.args.page c.copy_from.new.self free c.store.result c.in_ok-load.ensures.continues.count same spare is_free part fits (c.store.ensures.sound told_on)
+    stored_sound old.count first.count old.current first.current c.args.page c.copy_from.new.self free c.store.result c.in_ok-load.ensures.call.continues.count same spare is_free part fits (c.store.ensures.sound told_on)
 
 pub returns-clause-lines : goal.returns-clause-lines
 returns-clause-lines g c = λ told fits.
     let old = g.P.Pages.standing c.args.pages.now in
     let first = g.P.Pages.standing c.load.new.pages in
     let new = g.P.Pages.standing c.store.new.pages in
-    let told_on = subst IsTrue (sym c.in_ok-load.ensures.continues.told) told in
+    let told_on = subst IsTrue (sym c.in_ok-load.ensures.call.continues.told) told in
     let same = c.in_ok-load.ensures.keeps.current told in
     let is = c.in_ok-load.ensures.bytes told in
     let spare = c.copy_from.ensures.value ∙ is ∙ ap (λ (lines : Lines). bytes_of lines c.args.page) (sym same) in

@@ -1,5 +1,5 @@
 use Rattle.std.proofs.Common.{◌≤◌, ◌+◌, ◌≡◌, ℕ, Result, Ok, Err, OnOk, arith}
-use Rattle.page_space.proofs.WrittenLaws.{changed_most}
+use Rattle.page_alloc.proofs.WrittenLaws.{changed_most}
 use Rattle.bplus_tree.proofs.joining.write_joined.Goals as goal
 
 pub write_changes-requires-clause-room : goal.write_changes-requires-clause-room

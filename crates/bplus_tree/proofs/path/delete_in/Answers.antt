@@ -1,15 +1,15 @@
 use Rattle.std.proofs.Common.{inl, IsTrue, sym, subst, ◌∙◌, rules, IfErr, ℕ}
 use Rattle.std.specs.Prelude.{List}
 use Rattle.line_pages.specs.Lines.{Lines}
-use Rattle.line_pages.proofs.StandingLaws.{Continues-trans}
-use Rattle.slotted_page.specs.Rows.{row_delete}
+use Rattle.line_pages.proofs.StandingLaws.{KeepsPages-trans, KeepsPages-then, KeepsPages-stops}
+use Rattle.rows.specs.Rows.{row_delete}
 use Rattle.bplus_tree.specs.declared.path.Passed.{Passed}
 use Rattle.bplus_tree.proofs.Editing.{delete_local}
 use Rattle.bplus_tree.proofs.PathLaws.{Climbing, CanSettle, climb_start, climb_on, can_settle, uncut_below, uncut_above, climb_faults}
 use Rattle.line_pages.specs.Bytes.{bytes_of}
-use Rattle.slotted_page.specs.Node.{IsWellFormed}
-use Rattle.page_space.specs.Space.{FitsHeader}
-use Rattle.page_space.specs.Stops.{IsFault}
+use Rattle.page_format.specs.Node.{IsWellFormed}
+use Rattle.page_alloc.specs.Space.{FitsHeader}
+use Rattle.page_alloc.specs.Stops.{IsFault}
 use Rattle.bplus_tree.specs.Path.{StandsAbove, StopsAbove}
 use Rattle.tree_search.proofs.SearchLaws.{well_formed_top}
 use Rattle.bplus_tree.proofs.StandLaws.{leads_stands}
@@ -28,13 +28,11 @@ loop-passed-init g c =
     let down = c.in_ok-leaf.ensures in
     let leaf = c.in_ok-outcome.ensures in
     record {
-      ready = leaf.ready;
-      steady = λ steady. leaf.steady (down.steady steady);
-      continues = Continues-trans down.continues down.steady leaf.continues;
+      call = KeepsPages-then down.call leaf.call;
       nvm_kept = leaf.cause.kept.0 ∙ down.cause.kept.0;
       ssd_kept = leaf.cause.kept.1 ∙ down.cause.kept.1;
       climbing = climb_start old.told old.count c.args.key old.current mid.current new.current c.args.top c.in_ok-leaf.leaf c.descend.new.path.items c.in_ok-outcome.outcome (row_delete c.args.key) old.room mid.room new.room old.visits mid.visits new.visits
-          down.level down.place.pages down.leads down.keeps.current down.keeps.room down.few (subst (λ n. IsSafe n c.in_ok-leaf.leaf.expect c.in_ok-outcome.outcome) down.continues.count leaf.safe) (uncut_below c.in_ok-leaf.leaf.expect c.in_ok-outcome.outcome leaf.uncut) (λ told. leaf.edits (subst IsTrue (sym down.continues.told) told)) leaf.room leaf.few;
+          down.level down.place.pages down.leads down.keeps.current down.keeps.room down.few (subst (λ n. IsSafe n c.in_ok-leaf.leaf.expect c.in_ok-outcome.outcome) down.call.continues.count leaf.safe) (uncut_below c.in_ok-leaf.leaf.expect c.in_ok-outcome.outcome leaf.uncut) (λ told. leaf.edits (subst IsTrue (sym down.call.continues.told) told)) leaf.room leaf.few;
       uncut = leaf.uncut;
     }
 
@@ -43,7 +41,7 @@ popped g c =
     let old = g.P.Pages.standing c.args.pages.now in
     let mid = g.P.Pages.standing c.loop-passed.pages in
     let before = c.loop-passed.invariant in
-    subst (λ n. CanSettle n c.in-Some.passed c.loop-passed.outcome mid.room) (sym before.continues.count)
+    subst (λ n. CanSettle n c.in-Some.passed c.loop-passed.outcome mid.room) (sym before.call.continues.count)
     (can_settle old.told old.count c.args.key old.current mid.current c.args.top c.pop.new.self.items c.in-Some.passed c.loop-passed.outcome (row_delete c.args.key) old.room mid.room old.visits mid.visits
     (subst (λ (path : List Passed). Climbing old.told old.count c.args.key old.current mid.current c.args.top path c.loop-passed.outcome (row_delete c.args.key) old.room mid.room old.visits mid.visits) c.in-Some.ensures.items before.climbing)
     (inl before.uncut) c.requires.room)
@@ -60,10 +58,10 @@ settle-requires-clause-safe g c = (popped g (goal.at.settle-requires-clause-safe
 pub settle-requires-clause-room : goal.settle-requires-clause-room
 settle-requires-clause-room g c = (popped g (goal.at.settle-requires-clause-room g c).In-Some).enough
 
-pub returns-in_err-outcome-2-clause-continues : goal.returns-in_err-outcome-2-clause-continues
-returns-in_err-outcome-2-clause-continues g c =
+pub returns-in_err-outcome-2-clause-call : goal.returns-in_err-outcome-2-clause-call
+returns-in_err-outcome-2-clause-call g c =
     let before = c.loop-passed.invariant in
-    Continues-trans before.continues before.steady c.in_err-outcome-2.ensures.continues
+    KeepsPages-stops _ (search rules) (KeepsPages-trans before.call c.in_err-outcome-2.ensures.call)
 
 pub loop-passed-preserved : goal.loop-passed-preserved
 loop-passed-preserved g c =
@@ -73,16 +71,14 @@ loop-passed-preserved g c =
     let before = c.loop-passed.invariant in
     let up = c.in_ok-outcome-2.ensures in
     let step = row_delete c.args.key in
-    let told_on = λ (told : IsTrue old.told). subst IsTrue (sym before.continues.told) told in
+    let told_on = λ (told : IsTrue old.told). subst IsTrue (sym before.call.continues.told) told in
     record {
-      ready = up.ready;
-      steady = λ steady. up.steady (before.steady steady);
-      continues = Continues-trans before.continues before.steady up.continues;
+      call = KeepsPages-then before.call up.call;
       nvm_kept = up.cause.kept.0 ∙ before.nvm_kept;
       ssd_kept = up.cause.kept.1 ∙ before.ssd_kept;
       climbing = climb_on old.told old.count c.args.key old.current mid.current new.current c.args.top c.pop.new.self.items c.in-Some.passed c.loop-passed.outcome c.in_ok-outcome-2.outcome step old.room mid.room new.room old.visits mid.visits new.visits
           (delete_local c.args.key) (subst (λ (path : List Passed). Climbing old.told old.count c.args.key old.current mid.current c.args.top path c.loop-passed.outcome step old.room mid.room old.visits mid.visits) c.in-Some.ensures.items before.climbing)
-          (subst (λ n. IsSafe n c.in-Some.passed.place.expect c.in_ok-outcome-2.outcome) before.continues.count up.safe) up.below (λ told. up.settles (told_on told)) up.follows up.room up.few;
+          (subst (λ n. IsSafe n c.in-Some.passed.place.expect c.in_ok-outcome-2.outcome) before.call.continues.count up.safe) up.below (λ told. up.settles (told_on told)) up.follows up.room up.few;
       uncut = uncut_above c.loop-passed.outcome c.in_ok-outcome-2.outcome before.uncut up.follows;
     }
 
@@ -99,7 +95,7 @@ returns-in_err-outcome-clause-sound g c = λ told free stands fits.
     let mid = g.P.Pages.standing c.descend.new.pages in
     let leaf = c.in_ok-leaf.leaf in
     let down = c.in_ok-leaf.ensures in
-    let told_on = subst IsTrue (sym down.continues.told) told in
+    let told_on = subst IsTrue (sym down.call.continues.told) told in
     let here = leads_stands old.told old.current old.count c.args.key c.args.top leaf c.descend.new.path.items free told down.leads stands in
     let well = subst (λ (lines : Lines). IsWellFormed (bytes_of lines leaf.page) leaf.expect) (sym (down.keeps.current told)) (well_formed_top leaf.expect.pages old.current leaf.expect.level leaf.page leaf.expect.low leaf.expect.high leaf.expect.root here.tree) in
     let h : IfErr c.delete_leaf.result IsFault = c.delete_leaf.ensures.sound told_on well in
@@ -111,10 +107,10 @@ returns-in_err-outcome-2-clause-sound g c = λ told free stands fits.
     let old = g.P.Pages.standing c.args.pages.now in
     let mid = g.P.Pages.standing c.loop-passed.pages in
     let before = c.loop-passed.invariant in
-    let told_on = subst IsTrue (sym before.continues.told) told in
+    let told_on = subst IsTrue (sym before.call.continues.told) told in
     let step = row_delete c.args.key in
     let climbing = subst (λ (path : List Passed). Climbing old.told old.count c.args.key old.current mid.current c.args.top path c.loop-passed.outcome step old.room mid.room old.visits mid.visits) c.in-Some.ensures.items before.climbing in
-    let sound = subst (λ (n : ℕ). (rest : List ℕ) → StandsAbove mid.current c.in-Some.passed c.loop-passed.outcome rest → FitsHeader n (mid.current 0 0) → IfErr c.settle.result (StopsAbove n mid.current c.in-Some.passed c.loop-passed.outcome rest)) before.continues.count (c.settle.ensures.sound told_on) in
+    let sound = subst (λ (n : ℕ). (rest : List ℕ) → StandsAbove mid.current c.in-Some.passed c.loop-passed.outcome rest → FitsHeader n (mid.current 0 0) → IfErr c.settle.result (StopsAbove n mid.current c.in-Some.passed c.loop-passed.outcome rest)) before.call.continues.count (c.settle.ensures.sound told_on) in
     let h : IfErr c.settle.result (IsFault) =
     climb_faults old.told old.count c.args.key old.current mid.current c.args.top c.pop.new.self.items c.in-Some.passed c.loop-passed.outcome step old.room mid.room old.visits mid.visits free c.settle.result (delete_local c.args.key) told climbing stands fits before.uncut sound in
     let k = subst (λ r. IfErr r (IsFault)) c.in_err-outcome-2.was h in

@@ -1,16 +1,14 @@
 -- So far the tree under the bottom of the path is changed.
 use Rattle.std.proofs.Common.{◌≡◌, ◌≢◌, ℕ, length}
-use Rattle.line_pages.specs.Standing.{Continues}
-use Rattle.slotted_page.specs.Rows.{row_delete}
+use Rattle.line_pages.specs.PagesCall.{PagesCalls}
+use Rattle.rows.specs.Rows.{row_delete}
 use Rattle.bplus_tree.specs.declared.outcome.Outcome.TheVariants.{Cut}
 use Rattle.bplus_tree.proofs.PathLaws.{Climbing}
 use Rattle.bplus_tree.proofs.path.delete_in.Given as goal
 
 abbrev pub invariant-loop-passed : goal.invariant-loop-passed
 invariant-loop-passed g l = record {
-  ready : g.P.Pages.is_ready l.pages;
-  steady : g.P.Pages.is_steady l.fn.pages → g.P.Pages.is_steady l.pages;
-  continues : Continues (g.P.Pages.may_leave l.fn.pages) (g.P.Pages.may_leave l.pages) (g.P.Pages.is_steady l.fn.pages) (g.P.Pages.standing l.fn.pages) (g.P.Pages.standing l.pages);
+  call : PagesCalls g.P.Pages l.fn.pages l.pages;
   nvm_kept : (g.P.Pages.standing l.pages).nvm_faults ≡ (g.P.Pages.standing l.fn.pages).nvm_faults;
   ssd_kept : (g.P.Pages.standing l.pages).ssd_faults ≡ (g.P.Pages.standing l.fn.pages).ssd_faults;
   climbing : Climbing (g.P.Pages.standing l.fn.pages).told (g.P.Pages.standing l.fn.pages).count l.fn.key (g.P.Pages.standing l.fn.pages).current (g.P.Pages.standing l.pages).current l.fn.top l.path.items l.outcome (row_delete l.fn.key)

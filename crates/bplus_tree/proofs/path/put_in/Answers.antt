@@ -1,15 +1,15 @@
 use Rattle.std.proofs.Common.{◌≡◌, length, inr, IsTrue, sym, subst, ◌∙◌, rules, IfErr, ℕ, ◌<◌, ◌≤◌}
 use Rattle.std.specs.Prelude.{List}
-use Rattle.line_pages.proofs.StandingLaws.{Continues-trans}
-use Rattle.slotted_page.specs.Rows.{row_put}
+use Rattle.line_pages.proofs.StandingLaws.{KeepsPages-trans, KeepsPages-then, KeepsPages-stops}
+use Rattle.rows.specs.Rows.{row_put}
 use Rattle.bplus_tree.specs.declared.path.Passed.{Passed}
 use Rattle.bplus_tree.proofs.Editing.{put_local}
 use Rattle.bplus_tree.proofs.PathLaws.{Climbing, CanSettle, climb_start, climb_on, climb_end, can_settle, climb_stops, emptied}
-use Rattle.page_space.specs.Space.{FitsHeader}
+use Rattle.page_alloc.specs.Space.{FitsHeader}
 use Rattle.tree_search.specs.Tree.{tree_rows}
-use Rattle.page_space.specs.Stops.{StopsFor, spare_pages}
+use Rattle.page_alloc.specs.Stops.{StopsFor, spare_pages}
 use Rattle.bplus_tree.specs.Path.{StandsAbove, StopsAbove, MayFollow}
-use Rattle.page_space.proofs.LackLaws.{fault_stops}
+use Rattle.page_alloc.proofs.LackLaws.{fault_stops}
 use Rattle.bplus_tree.proofs.StandLaws.{leads_stands, leaf_stops}
 use Rattle.bplus_tree.specs.declared.outcome.Outcome.{Outcome}
 use Rattle.bplus_tree.proofs.LeafOfKey.{again_start, again_on}
@@ -27,23 +27,21 @@ pub loop-passed-init : goal.loop-passed-init
 loop-passed-init g c =
     let old = g.P.Pages.standing c.args.pages.now in
     let mid = g.P.Pages.standing c.descend.new.pages in
-    let new = g.P.Pages.standing c.put_leaf.new.pages in
+    let new = g.P.Pages.standing c.put_at.new.pages in
     let down = c.in_ok-leaf.ensures in
     let leaf = c.in_ok-outcome.ensures in
     record {
-      ready = leaf.ready;
-      steady = λ steady. leaf.steady (down.steady steady);
-      continues = Continues-trans down.continues down.steady leaf.continues;
+      call = KeepsPages-then down.call leaf.call;
       nvm_kept = leaf.cause.kept.0 ∙ down.cause.kept.0;
       ssd_kept = leaf.cause.kept.1 ∙ down.cause.kept.1;
       again = again_start c.args.key (length c.args.value.now) c.args.top c.in_ok-leaf.leaf c.descend.new.path.items old mid new c.in_ok-outcome.outcome down.leads down.level down.keeps.current down.nothing
-          (λ told holds. (leaf.whole (subst IsTrue (sym down.continues.told) told) holds, leaf.again (subst IsTrue (sym down.continues.told) told) holds));
+          (λ told well holds. (leaf.whole (subst IsTrue (sym down.call.continues.told) told) well holds, leaf.again (subst IsTrue (sym down.call.continues.told) told) well holds));
       lines = lines_start c.args.key c.args.value.now c.args.top c.in_ok-leaf.leaf c.descend.new.path.items old mid new c.in_ok-outcome.outcome down.leads down.level down.keeps.current down.keeps.room down.nothing
-          (λ told fits. (leaf.fills (subst IsTrue (sym down.continues.told) told) fits, leaf.lines (subst IsTrue (sym down.continues.told) told) fits));
+          (λ told well fits. (leaf.fills (subst IsTrue (sym down.call.continues.told) told) well fits, leaf.lines (subst IsTrue (sym down.call.continues.told) told) well fits));
       climbing = climb_start old.told old.count c.args.key old.current mid.current new.current c.args.top c.in_ok-leaf.leaf c.descend.new.path.items c.in_ok-outcome.outcome (row_put c.args.key c.args.value.now) old.room mid.room new.room old.visits mid.visits new.visits
-          down.level down.place.pages down.leads down.keeps.current down.keeps.room down.few (subst (λ n. IsSafe n c.in_ok-leaf.leaf.expect c.in_ok-outcome.outcome) down.continues.count leaf.safe) leaf.below (λ told. leaf.edits (subst IsTrue (sym down.continues.told) told)) leaf.room leaf.few;
+          down.level down.place.pages down.leads down.keeps.current down.keeps.room down.few (subst (λ n. IsSafe n c.in_ok-leaf.leaf.expect c.in_ok-outcome.outcome) down.call.continues.count leaf.safe) leaf.below (λ told. leaf.edits (subst IsTrue (sym down.call.continues.told) told)) leaf.room leaf.few;
       filling = filling_start old.told old.count c.args.key c.args.value.now old.current mid.current c.args.top c.in_ok-leaf.leaf c.descend.new.path.items c.in_ok-outcome.outcome down.level down.leads down.keeps.current
-          (λ told. leaf.cuts (subst IsTrue (sym down.continues.told) told));
+          (λ told. leaf.cuts (subst IsTrue (sym down.call.continues.told) told));
     }
 
 popped : (g : given.Over) (c : In-Some g) → CanSettle (g.P.Pages.standing c.loop-passed.pages).count c.in-Some.passed c.loop-passed.outcome (g.P.Pages.standing c.loop-passed.pages).room
@@ -51,7 +49,7 @@ popped g c =
     let old = g.P.Pages.standing c.args.pages.now in
     let mid = g.P.Pages.standing c.loop-passed.pages in
     let before = c.loop-passed.invariant in
-    subst (λ n. CanSettle n c.in-Some.passed c.loop-passed.outcome mid.room) (sym before.continues.count)
+    subst (λ n. CanSettle n c.in-Some.passed c.loop-passed.outcome mid.room) (sym before.call.continues.count)
     (can_settle old.told old.count c.args.key old.current mid.current c.args.top c.pop.new.self.items c.in-Some.passed c.loop-passed.outcome (row_put c.args.key c.args.value.now) old.room mid.room old.visits mid.visits
     (subst (λ (path : List Passed). Climbing old.told old.count c.args.key old.current mid.current c.args.top path c.loop-passed.outcome (row_put c.args.key c.args.value.now) old.room mid.room old.visits mid.visits) c.in-Some.ensures.items before.climbing)
     (inr c.requires.cut_room) c.requires.join_room)
@@ -68,10 +66,10 @@ settle-requires-clause-safe g c = (popped g (goal.at.settle-requires-clause-safe
 pub settle-requires-clause-room : goal.settle-requires-clause-room
 settle-requires-clause-room g c = (popped g (goal.at.settle-requires-clause-room g c).In-Some).enough
 
-pub returns-in_err-outcome-2-clause-continues : goal.returns-in_err-outcome-2-clause-continues
-returns-in_err-outcome-2-clause-continues g c =
+pub returns-in_err-outcome-2-clause-call : goal.returns-in_err-outcome-2-clause-call
+returns-in_err-outcome-2-clause-call g c =
     let before = c.loop-passed.invariant in
-    Continues-trans before.continues before.steady c.in_err-outcome-2.ensures.continues
+    KeepsPages-stops _ (search rules) (KeepsPages-trans before.call c.in_err-outcome-2.ensures.call)
 
 pub loop-passed-preserved : goal.loop-passed-preserved
 loop-passed-preserved g c =
@@ -81,18 +79,16 @@ loop-passed-preserved g c =
     let before = c.loop-passed.invariant in
     let up = c.in_ok-outcome-2.ensures in
     let step = row_put c.args.key c.args.value.now in
-    let told_on = λ (told : IsTrue old.told). subst IsTrue (sym before.continues.told) told in
+    let told_on = λ (told : IsTrue old.told). subst IsTrue (sym before.call.continues.told) told in
     record {
-      ready = up.ready;
-      steady = λ steady. up.steady (before.steady steady);
-      continues = Continues-trans before.continues before.steady up.continues;
+      call = KeepsPages-then before.call up.call;
       nvm_kept = up.cause.kept.0 ∙ before.nvm_kept;
       ssd_kept = up.cause.kept.1 ∙ before.ssd_kept;
       again = again_on c.args.key (length c.args.value.now) c.args.top old mid new c.loop-passed.outcome c.in_ok-outcome-2.outcome before.again up.kept (λ whole. subst (λ (o : Outcome). MayFollow o c.in_ok-outcome-2.outcome) whole up.follows);
       lines = lines_on c.args.key c.args.value.now c.args.top old mid new c.loop-passed.outcome c.in_ok-outcome-2.outcome before.lines up.kept (λ whole. subst (λ (o : Outcome). MayFollow o c.in_ok-outcome-2.outcome) whole up.follows);
       climbing = climb_on old.told old.count c.args.key old.current mid.current new.current c.args.top c.pop.new.self.items c.in-Some.passed c.loop-passed.outcome c.in_ok-outcome-2.outcome step old.room mid.room new.room old.visits mid.visits new.visits
           (put_local c.args.key c.args.value.now) (subst (λ (path : List Passed). Climbing old.told old.count c.args.key old.current mid.current c.args.top path c.loop-passed.outcome step old.room mid.room old.visits mid.visits) c.in-Some.ensures.items before.climbing)
-          (subst (λ n. IsSafe n c.in-Some.passed.place.expect c.in_ok-outcome-2.outcome) before.continues.count up.safe) up.below (λ told. up.settles (told_on told)) up.follows up.room up.few;
+          (subst (λ n. IsSafe n c.in-Some.passed.place.expect c.in_ok-outcome-2.outcome) before.call.continues.count up.safe) up.below (λ told. up.settles (told_on told)) up.follows up.room up.few;
       filling = filling_on old.told old.count c.args.key c.args.value.now old.current mid.current c.args.top c.pop.new.self.items c.in-Some.passed c.loop-passed.outcome c.in_ok-outcome-2.outcome step old.room mid.room old.visits mid.visits
           (subst (λ (path : List Passed). Climbing old.told old.count c.args.key old.current mid.current c.args.top path c.loop-passed.outcome step old.room mid.room old.visits mid.visits) c.in-Some.ensures.items before.climbing)
           (subst (λ (path : List Passed). Filling old.told old.count c.args.key c.args.value.now old.current c.args.top path c.loop-passed.outcome) c.in-Some.ensures.items before.filling) up.follows (λ told. up.cuts (told_on told));
@@ -112,11 +108,11 @@ returns-in_err-outcome-clause-sound g c = λ told free stands fits.
     let mid = g.P.Pages.standing c.descend.new.pages in
     let leaf = c.in_ok-leaf.leaf in
     let down = c.in_ok-leaf.ensures in
-    let told_on = subst IsTrue (sym down.continues.told) told in
+    let told_on = subst IsTrue (sym down.call.continues.told) told in
     let here = leads_stands old.told old.current old.count c.args.key c.args.top leaf c.descend.new.path.items free told down.leads stands in
     let many : Type 0 = 1000000 < length (tree_rows old.current c.args.top.expect.level c.args.top.page) in
-    let h : IfErr c.put_leaf.result (StopsFor (spare_pages old.count old.current free ≤ c.args.top.expect.level) (1000000 < length (tree_rows old.current c.args.top.expect.level c.args.top.page))) =
-    leaf_stops old.count mid.count old.current mid.current leaf free c.args.top.expect.level many c.put_leaf.result down.level down.continues.count (down.keeps.current told) here fits (c.put_leaf.ensures.sound told_on) in
+    let h : IfErr c.put_at.result (StopsFor (spare_pages old.count old.current free ≤ c.args.top.expect.level) (1000000 < length (tree_rows old.current c.args.top.expect.level c.args.top.page))) =
+    leaf_stops old.count mid.count old.current mid.current leaf free c.args.top.expect.level many c.put_at.result down.level down.call.continues.count (down.keeps.current told) here fits (c.put_at.ensures.sound told_on) in
     let k = subst (λ r. IfErr r (StopsFor (spare_pages old.count old.current free ≤ c.args.top.expect.level) (1000000 < length (tree_rows old.current c.args.top.expect.level c.args.top.page)))) c.in_err-outcome.was h in
     search (rules, k)
 
@@ -125,10 +121,10 @@ returns-in_err-outcome-2-clause-sound g c = λ told free stands fits.
     let old = g.P.Pages.standing c.args.pages.now in
     let mid = g.P.Pages.standing c.loop-passed.pages in
     let before = c.loop-passed.invariant in
-    let told_on = subst IsTrue (sym before.continues.told) told in
+    let told_on = subst IsTrue (sym before.call.continues.told) told in
     let step = row_put c.args.key c.args.value.now in
     let climbing = subst (λ (path : List Passed). Climbing old.told old.count c.args.key old.current mid.current c.args.top path c.loop-passed.outcome step old.room mid.room old.visits mid.visits) c.in-Some.ensures.items before.climbing in
-    let sound = subst (λ (n : ℕ). (rest : List ℕ) → StandsAbove mid.current c.in-Some.passed c.loop-passed.outcome rest → FitsHeader n (mid.current 0 0) → IfErr c.settle.result (StopsAbove n mid.current c.in-Some.passed c.loop-passed.outcome rest)) before.continues.count (c.settle.ensures.sound told_on) in
+    let sound = subst (λ (n : ℕ). (rest : List ℕ) → StandsAbove mid.current c.in-Some.passed c.loop-passed.outcome rest → FitsHeader n (mid.current 0 0) → IfErr c.settle.result (StopsAbove n mid.current c.in-Some.passed c.loop-passed.outcome rest)) before.call.continues.count (c.settle.ensures.sound told_on) in
     let h : IfErr c.settle.result (StopsFor (spare_pages old.count old.current free ≤ c.args.top.expect.level) (1000000 < length (tree_rows old.current c.args.top.expect.level c.args.top.page))) =
     climb_stops old.told old.count c.args.key old.current mid.current c.args.top c.pop.new.self.items c.in-Some.passed c.loop-passed.outcome step old.room mid.room old.visits mid.visits free c.settle.result (put_local c.args.key c.args.value.now) told climbing c.requires.few_levels stands fits sound in
     let k = subst (λ r. IfErr r (StopsFor (spare_pages old.count old.current free ≤ c.args.top.expect.level) (1000000 < length (tree_rows old.current c.args.top.expect.level c.args.top.page)))) c.in_err-outcome-2.was h in
@@ -157,7 +153,7 @@ returns-in_err-leaf-clause-at_top g c =
 pub returns-in_err-outcome-clause-at_top : goal.returns-in_err-outcome-clause-at_top
 returns-in_err-outcome-clause-at_top g c =
     let Named = NamesFull c.args.top.page (c.args.top.expect.level ≡ 3) in
-    let h : IfErr c.put_leaf.result Named = not_full_names c.args.top.page (c.args.top.expect.level ≡ 3) c.put_leaf.result c.put_leaf.ensures.not_full in
+    let h : IfErr c.put_at.result Named = not_full_names c.args.top.page (c.args.top.expect.level ≡ 3) c.put_at.result c.put_at.ensures.not_full in
     let k = subst (λ r. IfErr r Named) c.in_err-outcome.was h in
     search (rules, k)
 
@@ -191,10 +187,10 @@ returns-in_err-outcome-clause-needed g c = λ told free stands fits.
     let mid = g.P.Pages.standing c.descend.new.pages in
     let leaf = c.in_ok-leaf.leaf in
     let down = c.in_ok-leaf.ensures in
-    let told_on = subst IsTrue (sym down.continues.told) told in
+    let told_on = subst IsTrue (sym down.call.continues.told) told in
     let Must = MustCut old.current c.args.top.expect.level c.args.top.page c.args.key c.args.value.now in
-    let h : IfErr c.put_leaf.result Must =
-    leaf_needed old.told old.count c.args.key c.args.value.now old.current mid.current c.args.top leaf c.descend.new.path.items free c.put_leaf.result down.level down.leads told (down.keeps.current told) stands (c.put_leaf.ensures.needed told_on) in
+    let h : IfErr c.put_at.result Must =
+    leaf_needed old.told old.count c.args.key c.args.value.now old.current mid.current c.args.top leaf c.descend.new.path.items free c.put_at.result down.level down.leads told (down.keeps.current told) stands (c.put_at.ensures.needed told_on) in
     let k = subst (λ r. IfErr r Must) c.in_err-outcome.was h in
     search (rules, k)
 
@@ -203,11 +199,11 @@ returns-in_err-outcome-2-clause-needed g c = λ told free stands fits.
     let old = g.P.Pages.standing c.args.pages.now in
     let mid = g.P.Pages.standing c.loop-passed.pages in
     let before = c.loop-passed.invariant in
-    let told_on = subst IsTrue (sym before.continues.told) told in
+    let told_on = subst IsTrue (sym before.call.continues.told) told in
     let step = row_put c.args.key c.args.value.now in
     let climbing = subst (λ (path : List Passed). Climbing old.told old.count c.args.key old.current mid.current c.args.top path c.loop-passed.outcome step old.room mid.room old.visits mid.visits) c.in-Some.ensures.items before.climbing in
     let filling = subst (λ (path : List Passed). Filling old.told old.count c.args.key c.args.value.now old.current c.args.top path c.loop-passed.outcome) c.in-Some.ensures.items before.filling in
-    let sound = subst (λ (n : ℕ). (rest : List ℕ) → StandsAbove mid.current c.in-Some.passed c.loop-passed.outcome rest → FitsHeader n (mid.current 0 0) → IfErr c.settle.result (StopsAbove n mid.current c.in-Some.passed c.loop-passed.outcome rest)) before.continues.count (c.settle.ensures.sound told_on) in
+    let sound = subst (λ (n : ℕ). (rest : List ℕ) → StandsAbove mid.current c.in-Some.passed c.loop-passed.outcome rest → FitsHeader n (mid.current 0 0) → IfErr c.settle.result (StopsAbove n mid.current c.in-Some.passed c.loop-passed.outcome rest)) before.call.continues.count (c.settle.ensures.sound told_on) in
     let Must = MustCut old.current c.args.top.expect.level c.args.top.page c.args.key c.args.value.now in
     let h : IfErr c.settle.result Must =
     climb_needed old.told old.count c.args.key c.args.value.now old.current mid.current c.args.top c.pop.new.self.items c.in-Some.passed c.loop-passed.outcome step old.room mid.room old.visits mid.visits free c.settle.result (put_local c.args.key c.args.value.now) told

@@ -1,7 +1,7 @@
 -- So far the tree under the bottom of the path is changed.
 use Rattle.std.proofs.Common.{◌≡◌, length}
-use Rattle.line_pages.specs.Standing.{Continues}
-use Rattle.slotted_page.specs.Rows.{row_put}
+use Rattle.line_pages.specs.PagesCall.{PagesCalls}
+use Rattle.rows.specs.Rows.{row_put}
 use Rattle.bplus_tree.specs.Record.{PutsAgain}
 use Rattle.bplus_tree.specs.LineChanges.{PutsChange}
 use Rattle.bplus_tree.proofs.PathLaws.{Climbing}
@@ -10,9 +10,7 @@ use Rattle.bplus_tree.proofs.path.put_in.Given as goal
 
 abbrev pub invariant-loop-passed : goal.invariant-loop-passed
 invariant-loop-passed g l = record {
-  ready : g.P.Pages.is_ready l.pages;
-  steady : g.P.Pages.is_steady l.fn.pages → g.P.Pages.is_steady l.pages;
-  continues : Continues (g.P.Pages.may_leave l.fn.pages) (g.P.Pages.may_leave l.pages) (g.P.Pages.is_steady l.fn.pages) (g.P.Pages.standing l.fn.pages) (g.P.Pages.standing l.pages);
+  call : PagesCalls g.P.Pages l.fn.pages l.pages;
   nvm_kept : (g.P.Pages.standing l.pages).nvm_faults ≡ (g.P.Pages.standing l.fn.pages).nvm_faults;
   ssd_kept : (g.P.Pages.standing l.pages).ssd_faults ≡ (g.P.Pages.standing l.fn.pages).ssd_faults;
   again : PutsAgain l.fn.top l.fn.key (length l.fn.value) (g.P.Pages.standing l.fn.pages) (g.P.Pages.standing l.pages) l.outcome;

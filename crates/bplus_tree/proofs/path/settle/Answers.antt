@@ -2,7 +2,7 @@ use Rattle.std.proofs.Common.{◌≡◌, IfErr, sym, subst}
 use Rattle.bplus_tree.specs.declared.outcome.Outcome.{Outcome}
 use Rattle.bplus_tree.specs.Path.{StandsAbove, StopsAbove}
 use Rattle.bplus_tree.proofs.FullLaws.{uncut_cuts}
-use Rattle.slotted_page.specs.Node.{entry_count}
+use Rattle.page_format.specs.Node.{entry_count}
 use Rattle.line_pages.specs.Bytes.{bytes_of}
 use Rattle.bplus_tree.proofs.path.settle.Goals as goal
 

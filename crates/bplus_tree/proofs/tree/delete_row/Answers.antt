@@ -1,7 +1,7 @@
 use Rattle.std.proofs.Common.{rules, IfErr, subst}
-use Rattle.page_space.specs.Stops.{IsFault}
+use Rattle.page_alloc.specs.Stops.{IsFault}
 use Rattle.bplus_tree.proofs.RootLaws.{root_stands}
-use Rattle.slotted_page.specs.Rows.{row_delete}
+use Rattle.rows.specs.Rows.{row_delete}
 use Rattle.bplus_tree.specs.declared.outcome.Outcome.TheVariants.{Whole, Short, Alone}
 use Rattle.bplus_tree.proofs.Storing.{root_edited}
 use Rattle.bplus_tree.proofs.PathLaws.{at_root}

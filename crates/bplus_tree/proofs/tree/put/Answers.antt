@@ -1,7 +1,7 @@
 use Rattle.std.proofs.Common.{rules, ◌≡◌, ◌-◌, ℕ, List, length, IfErr, IsTrue, sym, subst}
-use Rattle.slotted_page.specs.Rows.{row_put}
+use Rattle.rows.specs.Rows.{row_put}
 use Rattle.bplus_tree.specs.Damage.{IsLack}
-use Rattle.page_space.specs.Stops.{pages_at_hand}
+use Rattle.page_alloc.specs.Stops.{pages_at_hand}
 use Rattle.bplus_tree.proofs.LackLaws.{fault_lack}
 use Rattle.bplus_tree.proofs.RootLaws.{stands_on}
 use Rattle.bplus_tree.specs.LineChanges.{leaf_after}
@@ -29,8 +29,8 @@ returns-in_err-put_row-clause-sound g c = λ told rows used free stands.
     let mid = g.P.Pages.standing c.has_key.new.pages in
     let first = c.in_ok-found.ensures in
     let lack = IsLack (pages_at_hand old.count old.current used free) (length (row_put c.args.key c.args.value.now rows)) (length rows) in
-    let at_mid = c.put_row.ensures.sound (subst IsTrue (sym first.continues.told) told) rows used free
-    (stands_on old.count mid.count old.current mid.current c.args.root.now rows used free first.continues.count (first.keeps.current told) stands) in
+    let at_mid = c.put_row.ensures.sound (subst IsTrue (sym first.call.continues.told) told) rows used free
+    (stands_on old.count mid.count old.current mid.current c.args.root.now rows used free first.call.continues.count (first.keeps.current told) stands) in
     let h : IfErr c.put_row.result lack = search (rules, at_mid) in
     let k = subst (λ r. IfErr r lack) c.in_err-put_row.was h in
     search (rules, k)
@@ -40,16 +40,16 @@ returns-clause-again g c = λ told.
     let old = g.P.Pages.standing c.args.pages.now in
     let mid = g.P.Pages.standing c.has_key.new.pages in
     let new = g.P.Pages.standing c.put_row.new.pages in
-    let told_on = subst IsTrue (sym c.in_ok-found.ensures.continues.told) told in
-    record_later c.args.root.now c.args.key (length c.args.value.now) old mid new (c.in_ok-found.ensures.keeps.current told) c.in_ok-found.ensures.continues.count c.in_ok-found.ensures.nothing
+    let told_on = subst IsTrue (sym c.in_ok-found.ensures.call.continues.told) told in
+    record_later c.args.root.now c.args.key (length c.args.value.now) old mid new (c.in_ok-found.ensures.keeps.current told) c.in_ok-found.ensures.call.continues.count c.in_ok-found.ensures.nothing
     (subst (λ (bytes : List ℕ). PutsRecord c.args.root.now c.args.key (length bytes) mid new) c.bytes.ensures.value (c.in_ok-put_row.ensures.again told_on))
 
 pub returns-clause-lines : goal.returns-clause-lines
 returns-clause-lines g c = λ told.
     let mid = g.P.Pages.standing c.has_key.new.pages in
     let new = g.P.Pages.standing c.put_row.new.pages in
-    let told_on = subst IsTrue (sym c.in_ok-found.ensures.continues.told) told in
-    lines_later c.args.root.now c.args.key c.args.value.now (g.P.Pages.standing c.args.pages.now) mid new (c.in_ok-found.ensures.keeps.current told) c.in_ok-found.ensures.continues.count c.in_ok-found.ensures.keeps.room c.in_ok-found.ensures.nothing
+    let told_on = subst IsTrue (sym c.in_ok-found.ensures.call.continues.told) told in
+    lines_later c.args.root.now c.args.key c.args.value.now (g.P.Pages.standing c.args.pages.now) mid new (c.in_ok-found.ensures.keeps.current told) c.in_ok-found.ensures.call.continues.count c.in_ok-found.ensures.keeps.room c.in_ok-found.ensures.nothing
     (subst (λ (bytes : List ℕ). PutsLines c.args.root.now c.args.key bytes mid new) c.bytes.ensures.value (c.in_ok-put_row.ensures.lines told_on))
 
 pub returns-in_err-found-clause-at_root : goal.returns-in_err-found-clause-at_root
@@ -75,8 +75,8 @@ returns-in_err-put_row-clause-needed g c = λ told rows used free stands.
     let mid = g.P.Pages.standing c.has_key.new.pages in
     let root = c.args.root.now in
     let first = c.in_ok-found.ensures in
-    let at_mid = c.put_row.ensures.needed (subst IsTrue (sym first.continues.told) told) rows used free
-    (stands_on old.count mid.count old.current mid.current root rows used free first.continues.count (first.keeps.current told) stands) in
+    let at_mid = c.put_row.ensures.needed (subst IsTrue (sym first.call.continues.told) told) rows used free
+    (stands_on old.count mid.count old.current mid.current root rows used free first.call.continues.count (first.keeps.current told) stands) in
     let Must = MustCut old.current (root.levels - 1) root.page c.args.key c.args.value.now in
     let h : IfErr c.put_row.result Must =
     needed_later old.current mid.current (root.levels - 1) root.page c.args.key c.args.value.now c.put_row.result (first.keeps.current told)

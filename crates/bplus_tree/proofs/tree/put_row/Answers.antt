@@ -1,14 +1,14 @@
 use Rattle.std.proofs.Common.{rules, length, IfErr, ◌≡◌, ◌≢◌, ◌≤◌, ◌-◌, ℕ, arith, refl, IsTrue, sym, subst}
-use Rattle.slotted_page.specs.Rows.{row_put}
+use Rattle.rows.specs.Rows.{row_put}
 use Rattle.bplus_tree.specs.declared.path.Place.{Place}
 use Rattle.bplus_tree.specs.declared.outcome.Outcome.TheVariants.{Whole, Short, Cut, Alone}
 use Rattle.node_edit.specs.Edit.{IsNewRoot}
 use Rattle.bplus_tree.specs.Edit.{StaysBelow}
-use Rattle.page_space.specs.Moves.{Takes}
+use Rattle.page_alloc.specs.Moves.{Takes}
 use Rattle.bplus_tree.proofs.Storing.{root_edited, root_cut}
 use Rattle.bplus_tree.proofs.PathLaws.{at_root}
 use Rattle.bplus_tree.specs.Damage.{IsLack}
-use Rattle.page_space.specs.Stops.{pages_at_hand}
+use Rattle.page_alloc.specs.Stops.{pages_at_hand}
 use Rattle.bplus_tree.proofs.LackLaws.{fault_lack}
 use Rattle.bplus_tree.proofs.RootLaws.{root_stands, put_lack, take_lack}
 use Rattle.bplus_tree.proofs.LeafOfKey.{root_again}
@@ -54,13 +54,13 @@ returns-in_ok-write_new-in-Cut-clause-rows g c = λ told.
     let a = g.P.Pages.standing c.take.new.pages in
     let new = g.P.Pages.standing c.write_new.new.pages in
     let step = row_put c.args.key c.args.value.now in
-    let told_mid = subst IsTrue (sym c.in_ok-put_in.ensures.continues.told) told in
-    let told_a = subst IsTrue (sym c.in_ok-page-in-Cut.ensures.continues.told) told_mid in
+    let told_mid = subst IsTrue (sym c.in_ok-put_in.ensures.call.continues.told) told in
+    let told_a = subst IsTrue (sym c.in_ok-page-in-Cut.ensures.call.continues.told) told_mid in
     let stays = subst (λ (p : Place). StaysBelow p.expect (Cut c.in-Cut.separator c.in-Cut.right)) c.top_of-top.ensures (rw c.in-Cut.is at c.in_ok-put_in.ensures.below) in
     root_cut old.count old.current mid.current a.current new.current root c.in_ok-page-in-Cut.page c.in-Cut.separator c.in-Cut.right c.root_of.new.page step c.requires.some_levels
     (few_levels root.levels c.requires.few_levels (stays refl))
     (at_root old.count _ old.current mid.current root c.top_of-top.result (Cut c.in-Cut.separator c.in-Cut.right) step c.page_count-count.ensures.count c.top_of-top.ensures (rw c.in-Cut.is at (c.in_ok-put_in.ensures.edits told)))
-    (subst (λ n. Takes n mid.current a.current c.in_ok-page-in-Cut.page) c.in_ok-put_in.ensures.continues.count (c.in_ok-page-in-Cut.ensures.moves told_mid))
+    (subst (λ n. Takes n mid.current a.current c.in_ok-page-in-Cut.page) c.in_ok-put_in.ensures.call.continues.count (c.in_ok-page-in-Cut.ensures.moves told_mid))
     (c.in_ok-write_new-in-Cut.ensures.writes told_a)
     (subst (λ n. IsNewRoot c.root_of.new.page root.levels root.page c.in-Cut.separator c.in-Cut.right n) c.page_count-count.ensures.count c.root_of.ensures)
 
@@ -82,9 +82,9 @@ returns-in_err-page-in-Cut-clause-sound g c = λ told rows used free stands.
     let root = c.args.root.now in
     let lack = IsLack (pages_at_hand old.count old.current used free) (length (row_put c.args.key c.args.value.now rows)) (length rows) in
     let below = c.in_ok-put_in.ensures in
-    let told_mid = subst IsTrue (sym below.continues.told) told in
+    let told_mid = subst IsTrue (sym below.call.continues.told) told in
     let h : IfErr c.take.result lack =
-    take_lack old.count _ mid.count old.current mid.current root c.top_of-top.result rows used free c.args.key c.args.value.now c.in-Cut.separator c.in-Cut.right c.take.result c.page_count-count.ensures.count c.top_of-top.ensures below.continues.count
+    take_lack old.count _ mid.count old.current mid.current root c.top_of-top.result rows used free c.args.key c.args.value.now c.in-Cut.separator c.in-Cut.right c.take.result c.page_count-count.ensures.count c.top_of-top.ensures below.call.continues.count
     stands (rw c.in-Cut.is at (below.edits told)) (rw c.in-Cut.is at (below.takes told)) (c.take.ensures.sound told_mid) in
     let k = subst (λ r. IfErr r lack) c.in_err-page-in-Cut.was h in
     search (rules, k)

@@ -1,5 +1,5 @@
 use Rattle.std.proofs.Common.{ap, rules, ◌∙◌}
-use Rattle.line_pages.specs.Bytes.{bytes_of_word}
+use Rattle.nvm_model.specs.LineBytes.{bytes_of_word}
 use Rattle.line_pages.proofs.NumberLaws.{word_bytes, reads_word}
 use Rattle.line_pages.proofs.number.get_word.Goals as goal
 

@@ -1,6 +1,6 @@
 use Rattle.std.proofs.Common.{◌≡◌, ◌+◌, ◌*◌, refl, take, ap, sym, ◌∙◌, arith}
 use Rattle.std.proofs.lemmas.List.{take_all}
-use Rattle.line_pages.specs.Bytes.{pieces, word_bytes, line_bytes}
+use Rattle.nvm_model.specs.LineBytes.{pieces, word_bytes, line_bytes}
 use Rattle.line_pages.proofs.ByteLaws.{piece_put, length-word_bytes}
 use Rattle.line_pages.proofs.page.bytes_of_line.Goals as goal
 

@@ -1,6 +1,6 @@
 -- So far the words below w are in their place.
 use Rattle.std.proofs.Common.{◌≡◌, ◌*◌, length, take}
-use Rattle.line_pages.specs.Bytes.{pieces, word_bytes}
+use Rattle.nvm_model.specs.LineBytes.{pieces, word_bytes}
 use Rattle.line_pages.proofs.page.bytes_of_line.Given as goal
 
 abbrev pub invariant-loop-w : goal.invariant-loop-w

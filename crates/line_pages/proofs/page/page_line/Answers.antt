@@ -1,5 +1,5 @@
 use Rattle.std.proofs.Common.{◌≡◌, ◌+◌, ◌*◌, ℕ, List, [], ◌∷◌, slice_range, ap, sym, ◌∙◌, add-zero, arith}
-use Rattle.line_pages.specs.Bytes.{word_bytes}
+use Rattle.nvm_model.specs.LineBytes.{word_bytes}
 use Rattle.line_pages.proofs.ByteLaws.{each_of_eight, eight_words, words_are_part}
 use Rattle.line_pages.proofs.page.page_line.Goals as goal
 

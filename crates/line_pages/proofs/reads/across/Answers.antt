@@ -1,5 +1,6 @@
 use Rattle.std.proofs.Common.{ap, ◌∙◌}
-use Rattle.line_pages.specs.Bytes.{u64_at, bytes_of_word, overwritten}
+use Rattle.line_pages.specs.Bytes.{u64_at, overwritten}
+use Rattle.nvm_model.specs.LineBytes.{bytes_of_word}
 use Rattle.line_pages.proofs.ByteLaws.{two_words}
 use Rattle.line_pages.proofs.reads.across.Goals as goal
 

@@ -1,8 +1,9 @@
 use Rattle.std.proofs.Common.{◌≡◌, ◌+◌, ◌*◌, take, IsTrue, arith, refl, ap, sym, subst, ◌∙◌}
 use Rattle.std.proofs.lemmas.List.{take_all}
-use Rattle.line_pages.specs.Bytes.{pieces, line_bytes, page_bytes}
+use Rattle.line_pages.specs.Bytes.{page_bytes}
+use Rattle.nvm_model.specs.LineBytes.{pieces, line_bytes}
 use Rattle.line_pages.proofs.ByteLaws.{line_copied}
-use Rattle.line_pages.proofs.StandingLaws.{Continues-trans, ReadsPage-trans, one_read}
+use Rattle.line_pages.proofs.StandingLaws.{ReadsPage-trans, one_read, KeepsPages-then, KeepsPages-gives}
 use Rattle.line_pages.specs.Cost.{lines_from}
 use Rattle.line_pages.proofs.CostLaws.{one_line, lines_then, lines_more, AddsLines-weaker}
 use Rattle.line_pages.proofs.reads.copy_page.Goals as goal
@@ -11,10 +12,8 @@ pub loop-line-init : goal.loop-line-init
 loop-line-init g c =
     let read = c.in_ok-header.ensures in
     record {
-      ready = read.ready;
-      steady = read.steady;
-      continues = read.continues;
-      reads = one_read c.in_ok-header.header read.continues.told read.reads;
+      call = KeepsPages-gives read.call;
+      reads = one_read c.in_ok-header.header read.call.continues.told read.reads;
       lines = one_line c.in_ok-header.header read.reads;
       nvm_kept = read.cause.kept.0;
       ssd_kept = read.cause.kept.1;
@@ -30,10 +29,8 @@ loop-line-preserved g c =
     let l = c.loop-line.line in
     let old = g.P.Pages.standing c.args.pages.now in
     record {
-      ready = read.ready;
-      steady = λ steady. read.steady (before.steady steady);
-      continues = Continues-trans before.continues before.steady read.continues;
-      reads = ReadsPage-trans before.reads (one_read c.in_ok-value.value read.continues.told read.reads);
+      call = KeepsPages-then before.call read.call;
+      reads = ReadsPage-trans before.reads (one_read c.in_ok-value.value read.call.continues.told read.reads);
       lines = AddsLines-weaker (λ x is. is ∙ lines_more 0 l l (omega arith)) (lines_then before.lines (one_line c.in_ok-value.value read.reads));
       nvm_kept = read.cause.kept.0 ∙ before.nvm_kept;
       ssd_kept = read.cause.kept.1 ∙ before.ssd_kept;
@@ -41,7 +38,7 @@ loop-line-preserved g c =
       copied = λ told. ap (take (64 * (l + 1))) c.set_page_line-in-loop-line.ensures.bytes
           ∙ line_copied c.loop-line.into (λ k. line_bytes (old.current c.args.page k)) l c.in_ok-value.value before.size c.loop-line-test.true
           (before.copied told)
-          (ap line_bytes (read.value (subst IsTrue (sym before.continues.told) told) ∙ ap (λ lines. lines c.args.page l) (before.reads.current told)));
+          (ap line_bytes (read.value (subst IsTrue (sym before.call.continues.told) told) ∙ ap (λ lines. lines c.args.page l) (before.reads.current told)));
     }
 
 pub returns-clause-bytes : goal.returns-clause-bytes

@@ -1,15 +1,14 @@
 -- So far the lines below are in their place, by reads of this page alone.
 use Rattle.std.proofs.Common.{◌≡◌, ◌*◌, length, take, IsTrue}
-use Rattle.line_pages.specs.Bytes.{pieces, line_bytes}
+use Rattle.nvm_model.specs.LineBytes.{pieces, line_bytes}
+use Rattle.line_pages.specs.PagesCall.{PagesCalls}
 use Rattle.line_pages.specs.Cost.{lines_from, AddsLines}
-use Rattle.line_pages.specs.Standing.{Continues, ReadsPage}
+use Rattle.line_pages.specs.Standing.{ReadsPage}
 use Rattle.line_pages.proofs.reads.copy_page.Given as goal
 
 abbrev pub invariant-loop-line : goal.invariant-loop-line
 invariant-loop-line g l = record {
-  ready : g.P.Pages.is_ready l.pages;
-  steady : g.P.Pages.is_steady l.fn.pages → g.P.Pages.is_steady l.pages;
-  continues : Continues (g.P.Pages.may_leave l.fn.pages) (g.P.Pages.may_leave l.pages) (g.P.Pages.is_steady l.fn.pages) (g.P.Pages.standing l.fn.pages) (g.P.Pages.standing l.pages);
+  call : PagesCalls g.P.Pages l.fn.pages l.pages;
   reads : ReadsPage l.page (g.P.Pages.standing l.fn.pages) (g.P.Pages.standing l.pages);
   lines : AddsLines (λ lines. lines ≡ lines_from 0 l.line) (g.P.Pages.standing l.fn.pages) (g.P.Pages.standing l.pages);
   nvm_kept : (g.P.Pages.standing l.pages).nvm_faults ≡ (g.P.Pages.standing l.fn.pages).nvm_faults;

@@ -1,6 +1,7 @@
 use Rattle.std.proofs.Common.{◌/◌, ◌%◌, refl, sym, ap, ◌∙◌, arith, slice_index}
 use Rattle.nvm_model.specs.declared.line.Line.{Line}
-use Rattle.line_pages.specs.Bytes.{u16_at, bytes_of_word}
+use Rattle.line_pages.specs.Bytes.{u16_at}
+use Rattle.nvm_model.specs.LineBytes.{bytes_of_word}
 use Rattle.line_pages.proofs.ByteLaws.{half_in_page}
 use Rattle.line_pages.proofs.CostLaws.{one_line, AddsLines-weaker, in_one_line}
 use Rattle.line_pages.proofs.reads.read_half.Goals as goal

@@ -3,15 +3,15 @@ use Rattle.std.proofs.Common.{◌≡◌, ◌+◌, ◌/◌, ◌%◌, refl, sym, a
 use Rattle.nvm_model.specs.declared.line.Line.{Line}
 use Rattle.line_pages.specs.Bytes.{u64_at, word_pair}
 use Rattle.line_pages.proofs.ByteLaws.{number_in_word, number_across}
-use Rattle.line_pages.proofs.StandingLaws.{Continues-trans, ReadsPage-trans, one_read}
+use Rattle.line_pages.proofs.StandingLaws.{ReadsPage-trans, one_read, KeepsPages-then}
 use Rattle.line_pages.proofs.CostLaws.{one_line, lines_then, AddsLines-weaker, in_one_line, in_two_lines}
 use Rattle.line_pages.proofs.reads.read_word.Goals as goal
 
-pub returns-clause-continues : goal.returns-clause-continues
-returns-clause-continues g c = Continues-trans c.in_ok-here.ensures.continues c.in_ok-here.ensures.steady c.in_ok-next.ensures.continues
+pub returns-clause-call : goal.returns-clause-call
+returns-clause-call g c = KeepsPages-then c.in_ok-here.ensures.call c.in_ok-next.ensures.call
 
 pub returns-clause-reads : goal.returns-clause-reads
-returns-clause-reads g c = ReadsPage-trans (one_read c.in_ok-here.here c.in_ok-here.ensures.continues.told c.in_ok-here.ensures.reads) (one_read c.in_ok-next.next c.in_ok-next.ensures.continues.told c.in_ok-next.ensures.reads)
+returns-clause-reads g c = ReadsPage-trans (one_read c.in_ok-here.here c.in_ok-here.ensures.call.continues.told c.in_ok-here.ensures.reads) (one_read c.in_ok-next.next c.in_ok-next.ensures.call.continues.told c.in_ok-next.ensures.reads)
 
 pub returns-then-at-eq0-clause-value : goal.returns-then-at-eq0-clause-value
 returns-then-at-eq0-clause-value g c = λ told.
@@ -34,7 +34,7 @@ returns-clause-value g c = λ told.
     let l = c.args.place / 64 in
     let w = c.args.place % 64 / 8 in
     let j = c.args.place % 8 in
-    let told_on = subst IsTrue (sym c.in_ok-here.ensures.continues.told) told in
+    let told_on = subst IsTrue (sym c.in_ok-here.ensures.call.continues.told) told in
     let next : c.in_ok-next.next ≡ lines (l + 1) = c.in_ok-next.ensures.value told_on ∙ ap (λ all. all c.args.page (l + 1)) (c.in_ok-here.ensures.reads.current told) in
     c.across-2.ensures ∙ ap (λ (line : Line). u64_at (word_pair (slice_index line.words w) (slice_index c.in_ok-next.next.words 0)) j) (c.in_ok-here.ensures.value told)
     ∙ ap (λ (line : Line). u64_at (word_pair (slice_index (lines l).words w) (slice_index line.words 0)) j) next

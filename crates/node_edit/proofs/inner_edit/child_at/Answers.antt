@@ -1,5 +1,5 @@
 use Rattle.std.proofs.Common.{arith}
-use Rattle.slotted_page.specs.Node.{Child, children}
+use Rattle.page_format.specs.Node.{Child, children}
 use Rattle.node_edit.proofs.KeyPlaceLaws.{place_within, place_next, place_here}
 use Rattle.node_edit.proofs.inner_edit.child_at.Goals as goal
 

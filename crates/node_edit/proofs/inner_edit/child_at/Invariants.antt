@@ -1,5 +1,5 @@
 use Rattle.std.proofs.Common.{◌≤◌}
-use Rattle.slotted_page.specs.Node.{children}
+use Rattle.page_format.specs.Node.{children}
 use Rattle.node_edit.specs.Edit.{place_of}
 use Rattle.node_edit.proofs.inner_edit.child_at.Given as goal
 

@@ -1,5 +1,5 @@
-use Rattle.slotted_page.proofs.BranchLemmas.{branch_from}
-use Rattle.slotted_page.proofs.PageFacts.{level_of}
+use Rattle.page_format.proofs.BranchLemmas.{branch_from}
+use Rattle.page_format.proofs.PageFacts.{level_of}
 use Rattle.node_edit.proofs.ChildEdits.{children_of}
 use Rattle.node_edit.proofs.inner_edit.enter.Goals as goal
 

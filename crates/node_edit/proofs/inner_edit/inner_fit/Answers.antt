@@ -1,5 +1,5 @@
 use Rattle.std.proofs.Common.{◌∙◌, sym, refl}
-use Rattle.slotted_page.specs.Node.{children}
+use Rattle.page_format.specs.Node.{children}
 use Rattle.node_edit.specs.Edit.{loose}
 use Rattle.node_edit.proofs.ChildEdits.{inner_within}
 use Rattle.node_edit.proofs.inner_edit.inner_fit.Goals as goal

@@ -1,6 +1,6 @@
 use Rattle.std.proofs.Common.{List, sym, subst, ◌∙◌}
 use Rattle.std.specs.List.{insert}
-use Rattle.slotted_page.specs.Node.{Child, children}
+use Rattle.page_format.specs.Node.{Child, children}
 use Rattle.node_edit.specs.Edit.{Fits}
 use Rattle.node_edit.proofs.KeyPlaceLaws.{child_puts, put_new, put_again}
 use Rattle.node_edit.proofs.ChildEdits.{put_children}

@@ -2,7 +2,7 @@ use Rattle.std.proofs.Common.{◌≡◌, length, length-drop, arith, sym, ap, �
 use Rattle.std.specs.List.{insert}
 use Rattle.std.proofs.lemmas.List.Edits.{length-insert}
 use Rattle.page_edit.specs.Cut.{children_left}
-use Rattle.slotted_page.specs.Node.{children, first_keys}
+use Rattle.page_format.specs.Node.{children, first_keys}
 use Rattle.node_edit.proofs.LeafLaws.{wide_order}
 use Rattle.node_edit.proofs.ChildEdits.{inner_within, cut_children_divide, half_of_full}
 use Rattle.node_edit.proofs.inner_edit.insert_child.Goals as goal

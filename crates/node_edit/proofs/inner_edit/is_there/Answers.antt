@@ -1,5 +1,5 @@
 use Rattle.std.proofs.Common.{◌<◌, ℕ, nat_eq, get_or, length, arith, sym, ap, ◌∙◌}
-use Rattle.slotted_page.specs.Node.{Child, children}
+use Rattle.page_format.specs.Node.{Child, children}
 use Rattle.node_edit.specs.Edit.{place_of}
 use Rattle.node_edit.proofs.KeyPlaceLaws.{has_key-is}
 use Rattle.node_edit.proofs.inner_edit.is_there.Goals as goal

@@ -1,10 +1,10 @@
 use Rattle.std.proofs.Common.{◌≡◌, ◌++◌, ◌∷◌, ℕ, List, arith, sym, ap, subst, ◌∙◌}
 use Rattle.std.specs.List.{remove}
 use Rattle.ssd_model.specs.Page.{Same}
-use Rattle.slotted_page.specs.Rows.{Ascends, last_key}
-use Rattle.slotted_page.specs.Node.{Child, children, first_keys}
-use Rattle.slotted_page.proofs.PageFacts.{clash}
-use Rattle.page_space.proofs.WrittenLaws.{changed_first}
+use Rattle.rows.specs.Rows.{Ascends, last_key}
+use Rattle.page_format.specs.Node.{Child, children, first_keys}
+use Rattle.page_format.proofs.PageFacts.{clash}
+use Rattle.page_alloc.proofs.WrittenLaws.{changed_first}
 use Rattle.node_edit.proofs.LeafLaws.{none_changed}
 use Rattle.node_edit.specs.Edit.{has_key}
 use Rattle.node_edit.proofs.ChildEdits.{taken_out, put_back, mended_divided, child_order}

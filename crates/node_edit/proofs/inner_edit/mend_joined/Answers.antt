@@ -1,10 +1,10 @@
 use Rattle.std.proofs.Common.{◌≡◌, ◌++◌, ◌∷◌, List, arith, sym, ap, subst, ◌∙◌, length}
 use Rattle.std.specs.List.{remove, list_all}
-use Rattle.slotted_page.specs.Rows.{Ascends}
-use Rattle.slotted_page.specs.Node.{Child, children, begins_at, first_keys, is_page_below}
-use Rattle.slotted_page.proofs.PageFacts.{clash}
+use Rattle.rows.specs.Rows.{Ascends}
+use Rattle.page_format.specs.Node.{Child, children, begins_at, first_keys, is_page_below}
+use Rattle.page_format.proofs.PageFacts.{clash}
 use Rattle.node_edit.specs.Edit.{Fits}
-use Rattle.page_space.proofs.WrittenLaws.{changed_first}
+use Rattle.page_alloc.proofs.WrittenLaws.{changed_first}
 use Rattle.node_edit.proofs.LeafLaws.{none_changed}
 use Rattle.node_edit.proofs.ChildEdits.{taken_out}
 use Rattle.node_edit.proofs.inner_edit.mend_joined.Goals as goal

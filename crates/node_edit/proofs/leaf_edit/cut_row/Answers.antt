@@ -1,10 +1,10 @@
 use Rattle.std.proofs.Common.{◌<◌, [], arith}
 use Rattle.std.specs.List.{insert}
-use Rattle.slotted_page.specs.Rows.{keys}
+use Rattle.rows.specs.Rows.{keys}
 use Rattle.page_edit.specs.Cut.{rows_left}
-use Rattle.slotted_page.specs.Node.{leaf_rows}
-use Rattle.slotted_page.specs.Sound.{row_bytes}
-use Rattle.slotted_page.proofs.RowLemmas.{row_bytes-insert}
+use Rattle.page_format.specs.Node.{leaf_rows}
+use Rattle.page_format.specs.Sound.{row_bytes}
+use Rattle.page_format.proofs.RowLemmas.{row_bytes-insert}
 use Rattle.node_edit.proofs.LeafLaws.{wide_order, some_rows, cut_divides}
 use Rattle.node_edit.proofs.leaf_edit.cut_row.Goals as goal
 

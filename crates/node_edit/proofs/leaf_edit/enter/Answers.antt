@@ -1,5 +1,5 @@
-use Rattle.slotted_page.proofs.FactLemmas.{leaf_from}
-use Rattle.slotted_page.proofs.PageFacts.{leaf_facts}
+use Rattle.page_format.proofs.FactLemmas.{leaf_from}
+use Rattle.page_format.proofs.PageFacts.{leaf_facts}
 use Rattle.node_edit.proofs.LeafLaws.{enter_full}
 use Rattle.node_edit.proofs.leaf_edit.enter.Goals as goal
 

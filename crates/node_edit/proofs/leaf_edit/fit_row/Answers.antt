@@ -2,8 +2,8 @@ use Rattle.std.proofs.Common.{◌≡◌, true, ◌+◌, ◌*◌, List, arith, su
 use Rattle.std.specs.List.{insert}
 use Rattle.std.proofs.lemmas.List.Edits.{length-insert}
 use Rattle.ssd_model.specs.Page.{Same}
-use Rattle.slotted_page.specs.Rows.{Row, keys}
-use Rattle.slotted_page.specs.Node.{leaf_rows, entry_count}
+use Rattle.rows.specs.Rows.{Row, keys}
+use Rattle.page_format.specs.Node.{leaf_rows, entry_count}
 use Rattle.node_edit.specs.Edit.{Fits}
 use Rattle.node_edit.specs.Record.{FitsLeaf}
 use Rattle.node_edit.proofs.LeafLaws.{wide_order, few_lines}

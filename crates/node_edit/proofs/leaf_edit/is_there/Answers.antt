@@ -1,6 +1,6 @@
 use Rattle.std.proofs.Common.{◌<◌, ℕ, nat_eq, get_or, [], length, arith, sym, ap, ◌∙◌}
-use Rattle.slotted_page.specs.Rows.{Row}
-use Rattle.slotted_page.specs.Node.{leaf_rows}
+use Rattle.rows.specs.Rows.{Row}
+use Rattle.page_format.specs.Node.{leaf_rows}
 use Rattle.node_edit.specs.Edit.{place_of}
 use Rattle.node_edit.proofs.KeyPlaceLaws.{has_key-is}
 use Rattle.node_edit.proofs.leaf_edit.is_there.Goals as goal

@@ -1,9 +1,9 @@
 use Rattle.std.proofs.Common.{◌≡◌, ℕ, List, arith, subst, ap, sym, ◌∙◌, true}
-use Rattle.slotted_page.specs.Rows.{Row, keys, row_delete, Ascends}
-use Rattle.slotted_page.specs.Node.{leaf_rows}
+use Rattle.rows.specs.Rows.{Row, keys, row_delete, Ascends}
+use Rattle.page_format.specs.Node.{leaf_rows}
 use Rattle.node_edit.specs.Edit.{Fits, has_key, place_of}
 use Rattle.std.specs.List.{remove}
-use Rattle.node_edit.proofs.RowLaws.{Ascends-delete}
+use Rattle.rows.proofs.RowLaws.{Ascends-delete}
 use Rattle.node_edit.proofs.KeyPlaceLaws.{delete_there, delete_none, rows_few}
 use Rattle.node_edit.proofs.LeafLaws.{none_changed, slots_changed}
 use Rattle.node_edit.proofs.leaf_edit.leaf_delete.Goals as goal

@@ -1,5 +1,5 @@
 use Rattle.std.proofs.Common.{◌≡◌, ◌∙◌, sym, refl, true, false}
-use Rattle.slotted_page.specs.Node.{leaf_rows}
+use Rattle.page_format.specs.Node.{leaf_rows}
 use Rattle.node_edit.specs.Edit.{loose}
 use Rattle.node_edit.proofs.LeafLaws.{leaf_within, fits_full}
 use Rattle.node_edit.proofs.leaf_edit.leaf_fit.Goals as goal

@@ -1,6 +1,6 @@
 use Rattle.std.proofs.Common.{arith, []}
-use Rattle.slotted_page.specs.Rows.{Row}
-use Rattle.slotted_page.specs.Node.{leaf_rows}
+use Rattle.rows.specs.Rows.{Row}
+use Rattle.page_format.specs.Node.{leaf_rows}
 use Rattle.node_edit.proofs.KeyPlaceLaws.{place_within, place_next, place_here}
 use Rattle.node_edit.proofs.leaf_edit.leaf_place.Goals as goal
 

@@ -1,5 +1,5 @@
 use Rattle.std.proofs.Common.{◌≤◌}
-use Rattle.slotted_page.specs.Node.{leaf_rows}
+use Rattle.page_format.specs.Node.{leaf_rows}
 use Rattle.node_edit.specs.Edit.{place_of}
 use Rattle.node_edit.proofs.leaf_edit.leaf_place.Given as goal
 

@@ -1,8 +1,8 @@
 use Rattle.std.proofs.Common.{◌≡◌, ◌||◌, refl, ℕ, List, [], arith, subst, ap, sym, ◌∙◌, true, false, length, nat_le, slice_set, get_or}
 use Rattle.std.specs.List.{insert}
-use Rattle.slotted_page.specs.Rows.{Row, row_put}
-use Rattle.slotted_page.specs.Node.{leaf_rows}
-use Rattle.slotted_page.specs.Sound.{row_bytes}
+use Rattle.rows.specs.Rows.{Row, row_put}
+use Rattle.page_format.specs.Node.{leaf_rows}
+use Rattle.page_format.specs.Sound.{row_bytes}
 use Rattle.node_edit.specs.Edit.{Fits}
 use Rattle.node_edit.specs.Record.{FitsLeaf}
 use Rattle.node_edit.proofs.KeyPlaceLaws.{row_puts, put_new, put_again, put_same}

@@ -1,4 +1,4 @@
-use Rattle.slotted_page.proofs.FactLemmas.{sound_of, rows_of_leaf}
+use Rattle.page_format.proofs.FactLemmas.{sound_of, rows_of_leaf}
 use Rattle.node_edit.proofs.leaf_edit.open_leaf.Goals as goal
 
 pub leaf_rows-requires : goal.leaf_rows-requires

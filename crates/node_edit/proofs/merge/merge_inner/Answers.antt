@@ -1,7 +1,7 @@
 use Rattle.std.proofs.Common.{◌≡◌, ◌++◌, length, length-drop, arith, ap, subst, ◌∙◌}
-use Rattle.slotted_page.specs.declared.root.Expect.{Expect}
+use Rattle.page_format.specs.declared.root.Expect.{Expect}
 use Rattle.page_edit.specs.Cut.{children_left}
-use Rattle.slotted_page.specs.Node.{children, first_keys, page_level}
+use Rattle.page_format.specs.Node.{children, first_keys, page_level}
 use Rattle.node_edit.specs.Edit.{AreChildren, left_of, right_of}
 use Rattle.node_edit.proofs.LeafLaws.{wide_order}
 use Rattle.node_edit.proofs.MergeLaws.{children_order, inner_joined, inner_divided, half_facts}

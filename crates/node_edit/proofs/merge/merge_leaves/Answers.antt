@@ -1,7 +1,7 @@
 use Rattle.std.proofs.Common.{◌-◌, ◌++◌, [], arith, ap, subst}
-use Rattle.slotted_page.specs.declared.root.Expect.{Expect}
-use Rattle.slotted_page.specs.Rows.{keys, Ascends}
-use Rattle.slotted_page.specs.Node.{leaf_rows}
+use Rattle.page_format.specs.declared.root.Expect.{Expect}
+use Rattle.rows.specs.Rows.{keys, Ascends}
+use Rattle.page_format.specs.Node.{leaf_rows}
 use Rattle.node_edit.proofs.LeafLaws.{wide_order}
 use Rattle.node_edit.proofs.MergeLaws.{rows_order, leaves_joined, leaves_divided, leaves_kept}
 use Rattle.node_edit.proofs.merge.merge_leaves.Goals as goal

@@ -1,5 +1,5 @@
 use Rattle.std.proofs.Common.{◌+◌, arith}
-use Rattle.slotted_page.specs.Node.{children}
+use Rattle.page_format.specs.Node.{children}
 use Rattle.node_edit.proofs.PairLaws.{key_before}
 use Rattle.node_edit.proofs.pair.high_after.Goals as goal
 

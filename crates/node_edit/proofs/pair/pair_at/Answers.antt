@@ -1,4 +1,4 @@
-use Rattle.slotted_page.specs.Node.{children}
+use Rattle.page_format.specs.Node.{children}
 use Rattle.node_edit.proofs.PairLaws.{is_pair, pair_is}
 use Rattle.node_edit.proofs.pair.pair_at.Goals as goal
 

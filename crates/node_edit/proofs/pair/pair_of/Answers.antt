@@ -1,4 +1,4 @@
-use Rattle.slotted_page.specs.Node.{children}
+use Rattle.page_format.specs.Node.{children}
 use Rattle.std.proofs.Common.{arith}
 use Rattle.node_edit.proofs.PairLaws.{pairs_right, pairs_left}
 use Rattle.node_edit.proofs.pair.pair_of.Goals as goal

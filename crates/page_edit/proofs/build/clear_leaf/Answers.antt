@@ -1,5 +1,5 @@
 use Rattle.std.proofs.Common.{◌≡◌, ◌∙◌, arith}
-use Rattle.slotted_page.specs.Node.{entry_count}
+use Rattle.page_format.specs.Node.{entry_count}
 use Rattle.line_pages.proofs.NumberLaws.{u64_at-same, same_then, same_part}
 use Rattle.page_edit.proofs.BuildLemmas.{no_rows, empty_packed}
 use Rattle.page_edit.proofs.build.clear_leaf.Goals as goal

@@ -1,6 +1,6 @@
 use Rattle.std.proofs.Common.{◌+◌, ◌*◌, arith}
 use Rattle.line_pages.proofs.NumberLaws.{same_then, same_part}
-use Rattle.slotted_page.specs.Node.{entry_count, heap_start}
+use Rattle.page_format.specs.Node.{entry_count, heap_start}
 use Rattle.page_edit.proofs.build.pack.Goals as goal
 
 pub returns-clause-rest : goal.returns-clause-rest

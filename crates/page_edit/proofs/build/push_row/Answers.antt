@@ -1,8 +1,8 @@
 use Rattle.std.proofs.Common.{◌+◌, ◌∙◌, length, ap, arith}
-use Rattle.slotted_page.specs.Sound.{row_bytes}
-use Rattle.slotted_page.proofs.RowLemmas.{row_bytes-push}
+use Rattle.page_format.specs.Sound.{row_bytes}
+use Rattle.page_format.proofs.RowLemmas.{row_bytes-push}
 use Rattle.page_edit.proofs.BuildLemmas.{pushed_rows, pushed_order}
-use Rattle.slotted_page.specs.Node.{leaf_rows}
+use Rattle.page_format.specs.Node.{leaf_rows}
 use Rattle.page_edit.proofs.build.push_row.Goals as goal
 
 pub returns-clause-packed : goal.returns-clause-packed

@@ -1,6 +1,6 @@
 use Rattle.line_pages.proofs.NumberLaws.{same_then, same_part, same_same}
 use Rattle.std.proofs.Common.{arith, ◌+◌, ◌*◌}
-use Rattle.slotted_page.specs.Node.{leaf_rows, entry_count, heap_start}
+use Rattle.page_format.specs.Node.{leaf_rows, entry_count, heap_start}
 use Rattle.page_edit.proofs.BuildLemmas.{read_row, room_next, rows_next, none_yet}
 use Rattle.page_edit.proofs.build.push_rows.Goals as goal
 

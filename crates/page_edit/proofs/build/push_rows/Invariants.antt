@@ -1,6 +1,6 @@
 use Rattle.std.proofs.Common.{◌≡◌, ◌+◌, ◌*◌, ◌++◌, slice_range}
 use Rattle.ssd_model.specs.Page.{Same}
-use Rattle.slotted_page.specs.Node.{leaf_rows, entry_count, heap_start}
+use Rattle.page_format.specs.Node.{leaf_rows, entry_count, heap_start}
 use Rattle.page_edit.specs.Packed.{IsPackedInOrder}
 use Rattle.page_edit.proofs.build.push_rows.Given as goal
 

@@ -1,10 +1,10 @@
 use Rattle.std.proofs.Common.{◌∙◌, ℕ, List, take, drop, ap, sym, subst, arith}
 use Rattle.std.specs.List.{insert}
 use Rattle.std.proofs.lemmas.List.Edits.{length-insert}
-use Rattle.slotted_page.specs.Rows.{Row}
+use Rattle.rows.specs.Rows.{Row}
 use Rattle.page_edit.specs.Cut.{rows_left, IsFilled}
-use Rattle.slotted_page.specs.Node.{leaf_rows, has_printable_value}
-use Rattle.slotted_page.specs.Sound.{row_bytes}
+use Rattle.page_format.specs.Node.{leaf_rows, has_printable_value}
+use Rattle.page_format.specs.Sound.{row_bytes}
 use Rattle.page_edit.proofs.InsertLemmas.{all_insert}
 use Rattle.page_edit.proofs.CutLemmas.{cut_is}
 use Rattle.page_edit.proofs.LeafLemmas.{cut_of, left_leaf, right_leaf}

@@ -1,9 +1,9 @@
 use Rattle.std.proofs.Common.{◌≡◌, ◌+◌, ◌-◌, ◌*◌, length, take, drop, slice_range, ap, ◌∙◌, arith, List, ℕ}
-use Rattle.slotted_page.specs.Rows.{Row}
-use Rattle.slotted_page.specs.Node.{leaf_rows}
+use Rattle.rows.specs.Rows.{Row}
+use Rattle.page_format.specs.Node.{leaf_rows}
 use Rattle.page_edit.specs.Cut.{needed}
-use Rattle.slotted_page.specs.Room.{sizes}
-use Rattle.slotted_page.specs.Sound.{row_bytes}
+use Rattle.page_format.specs.Room.{sizes}
+use Rattle.page_format.specs.Sound.{row_bytes}
 use Rattle.page_edit.proofs.CutLemmas.{whole_needed, front_is, back_is}
 use Rattle.page_edit.proofs.cut.left_part.Goals as goal
 

@@ -1,5 +1,5 @@
 use Rattle.std.proofs.Common.{◌+◌, length, ap, sym, arith, List, ℕ}
-use Rattle.slotted_page.specs.Node.{leaf_rows}
+use Rattle.page_format.specs.Node.{leaf_rows}
 use Rattle.page_edit.proofs.PartLemmas.{part_le, part_next, part_none}
 use Rattle.page_edit.proofs.cut.part_bytes.Goals as goal
 

@@ -1,6 +1,6 @@
 use Rattle.std.proofs.Common.{◌≡◌, slice_range}
-use Rattle.slotted_page.specs.Node.{leaf_rows}
-use Rattle.slotted_page.specs.Sound.{row_bytes}
+use Rattle.page_format.specs.Node.{leaf_rows}
+use Rattle.page_format.specs.Sound.{row_bytes}
 use Rattle.page_edit.proofs.cut.part_bytes.Given as goal
 
 abbrev pub invariant-loop-i : goal.invariant-loop-i

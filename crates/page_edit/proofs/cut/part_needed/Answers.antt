@@ -1,7 +1,7 @@
 use Rattle.std.proofs.Common.{◌≡◌, ◌+◌, ◌-◌, ◌*◌, length, slice_range, ap, arith, List, ℕ}
-use Rattle.slotted_page.specs.Node.{leaf_rows}
+use Rattle.page_format.specs.Node.{leaf_rows}
 use Rattle.page_edit.specs.Cut.{needed}
-use Rattle.slotted_page.specs.Room.{sizes}
+use Rattle.page_format.specs.Room.{sizes}
 use Rattle.page_edit.proofs.CutLemmas.{needed_step}
 use Rattle.page_edit.proofs.cut.part_needed.Goals as goal
 

@@ -1,7 +1,7 @@
 use Rattle.std.proofs.Common.{◌≡◌, ◌+◌, ◌-◌, slice_range}
-use Rattle.slotted_page.specs.Node.{leaf_rows}
+use Rattle.page_format.specs.Node.{leaf_rows}
 use Rattle.page_edit.specs.Cut.{needed}
-use Rattle.slotted_page.specs.Room.{sizes}
+use Rattle.page_format.specs.Room.{sizes}
 use Rattle.page_edit.proofs.cut.part_needed.Given as goal
 
 abbrev pub invariant-loop-i : goal.invariant-loop-i

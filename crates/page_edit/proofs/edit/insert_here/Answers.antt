@@ -1,4 +1,4 @@
-use Rattle.slotted_page.specs.Node.{entry_count, heap_start, slots}
+use Rattle.page_format.specs.Node.{entry_count, heap_start, slots}
 use Rattle.std.specs.List.{insert}
 use Rattle.std.proofs.Common.{◌+◌, ◌-◌, ◌*◌, ◌∙◌, ℕ, ap, sym, arith, length}
 use Rattle.line_pages.proofs.NumberLaws.{u64_at-same, same_then, same_part}

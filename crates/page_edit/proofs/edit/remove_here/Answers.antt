@@ -1,5 +1,5 @@
 use Rattle.std.proofs.Common.{◌+◌, ◌*◌, ◌∙◌, arith}
-use Rattle.slotted_page.specs.Node.{entry_count, heap_start}
+use Rattle.page_format.specs.Node.{entry_count, heap_start}
 use Rattle.line_pages.proofs.NumberLaws.{u64_at-same, same_then, same_part}
 use Rattle.page_edit.proofs.InsertLemmas.{slot_of-same, slot_of-moved}
 use Rattle.page_edit.proofs.RemoveLemmas.{TakesOut, slots_out, rows_out, sound_out}

@@ -1,8 +1,8 @@
 use Rattle.std.proofs.Common.{◌≡◌, ◌+◌, ◌∙◌, ap, sym, arith, length, slice_range, ℕ}
-use Rattle.slotted_page.specs.Rows.{Row}
-use Rattle.slotted_page.specs.Sound.{slot_of}
+use Rattle.rows.specs.Rows.{Row}
+use Rattle.page_format.specs.Sound.{slot_of}
 use Rattle.line_pages.proofs.NumberLaws.{u64_at-same, same_part}
-use Rattle.slotted_page.proofs.SlotLemmas.{row_at}
+use Rattle.page_format.proofs.SlotLemmas.{row_at}
 use Rattle.page_edit.proofs.InsertLemmas.{slot_of-same}
 use Rattle.page_edit.proofs.SetLemmas.{Sets, sound_set, rows_set}
 use Rattle.page_edit.proofs.edit.set_value.Goals as goal

@@ -1,7 +1,7 @@
 use Rattle.std.proofs.Common.{◌≡◌, ◌∙◌, arith}
-use Rattle.slotted_page.specs.Node.{entry_count}
+use Rattle.page_format.specs.Node.{entry_count}
 use Rattle.line_pages.proofs.NumberLaws.{u64_at-same, same_then, same_part}
-use Rattle.slotted_page.proofs.InnerLemmas.{no_children}
+use Rattle.page_format.proofs.InnerLemmas.{no_children}
 use Rattle.page_edit.proofs.entries.clear_inner.Goals as goal
 use Rattle.page_edit.proofs.entries.clear_inner.Goals.{After-set_page_word-4}
 

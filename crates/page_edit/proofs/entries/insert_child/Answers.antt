@@ -1,4 +1,4 @@
-use Rattle.slotted_page.specs.Node.{entry_count}
+use Rattle.page_format.specs.Node.{entry_count}
 use Rattle.std.proofs.Common.{◌+◌, ◌*◌, ◌∙◌, arith, refl}
 use Rattle.line_pages.proofs.NumberLaws.{u64_at-same, same_then, same_part}
 use Rattle.page_edit.proofs.ChildLemmas.{entry-same, entry-moved, children_put}

@@ -1,5 +1,5 @@
 use Rattle.std.proofs.Common.{◌+◌, ◌*◌, ◌∙◌, length, ap, arith}
-use Rattle.slotted_page.specs.Node.{entry_count}
+use Rattle.page_format.specs.Node.{entry_count}
 use Rattle.line_pages.proofs.NumberLaws.{u64_at-same, same_then, same_part}
 use Rattle.page_edit.proofs.ChildLemmas.{entry-same, entry-moved, moved_part, children_more}
 use Rattle.page_edit.proofs.entries.push_children.Goals as goal

@@ -1,7 +1,7 @@
 use Rattle.std.proofs.Common.{[], ◌≡◌, ◌+◌, ◌/◌, ◌++◌, ◌∙◌, ℕ, List, length, take, drop, slice_range, ap, sym, arith}
 use Rattle.std.specs.List.{insert}
 use Rattle.std.proofs.lemmas.List.Edits.{length-insert}
-use Rattle.slotted_page.specs.Node.{Child, children, page_level}
+use Rattle.page_format.specs.Node.{Child, children, page_level}
 use Rattle.page_edit.proofs.CutLemmas.{back_is}
 use Rattle.page_edit.proofs.ChildLemmas.{branch_front, branch_back, cut_at_half}
 use Rattle.page_edit.proofs.inner.inner_cut.Goals as goal

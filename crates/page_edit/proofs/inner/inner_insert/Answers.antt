@@ -2,7 +2,7 @@ use Rattle.line_pages.proofs.NumberLaws.{same_part}
 use Rattle.std.proofs.Common.{arith, ◌+◌, ◌*◌}
 use Rattle.std.specs.List.{insert}
 use Rattle.std.proofs.lemmas.List.Edits.{length-insert}
-use Rattle.slotted_page.specs.Node.{children, page_level, entry_count}
+use Rattle.page_format.specs.Node.{children, page_level, entry_count}
 use Rattle.page_edit.proofs.ChildLemmas.{branch_of}
 use Rattle.page_edit.proofs.inner.inner_insert.Goals as goal
 

@@ -1,6 +1,6 @@
 use Rattle.line_pages.proofs.NumberLaws.{same_part, same_same}
 use Rattle.std.proofs.Common.{◌≤◌, ◌≡◌, ◌+◌, ◌/◌, ◌++◌, ◌∙◌, ℕ, length, take, drop, ap, sym, arith, length-append, ◌*◌}
-use Rattle.slotted_page.specs.Node.{children, page_level, entry_count}
+use Rattle.page_format.specs.Node.{children, page_level, entry_count}
 use Rattle.page_edit.proofs.CutLemmas.{whole_is}
 use Rattle.page_edit.proofs.ChildLemmas.{branch_of, branch_front, branch_back, join_at_half}
 use Rattle.page_edit.proofs.inner.inner_join.Goals as goal

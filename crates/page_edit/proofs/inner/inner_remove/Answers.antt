@@ -1,6 +1,6 @@
 use Rattle.std.proofs.Common.{arith, ◌+◌, ◌*◌}
 use Rattle.line_pages.proofs.NumberLaws.{same_part}
-use Rattle.slotted_page.specs.Node.{children, page_level, entry_count}
+use Rattle.page_format.specs.Node.{children, page_level, entry_count}
 use Rattle.page_edit.proofs.ChildLemmas.{branch_less}
 use Rattle.page_edit.proofs.inner.inner_remove.Goals as goal
 

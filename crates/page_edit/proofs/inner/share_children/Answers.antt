@@ -1,9 +1,9 @@
 use Rattle.line_pages.proofs.NumberLaws.{same_then, same_part}
 use Rattle.std.proofs.Common.{[], ◌≤◌, ◌≡◌, ◌-◌, ◌++◌, ◌∙◌, ℕ, List, length, take, slice_range, ap, sym, arith, ◌+◌, ◌*◌}
 use Rattle.std.proofs.lemmas.List.{take-append-le}
-use Rattle.slotted_page.specs.Node.{Child, children, entry_count}
+use Rattle.page_format.specs.Node.{Child, children, entry_count}
 use Rattle.page_edit.proofs.CutLemmas.{share_low, share_high, whole_is}
-use Rattle.slotted_page.proofs.InnerLemmas.{length_children}
+use Rattle.page_format.proofs.InnerLemmas.{length_children}
 use Rattle.page_edit.proofs.inner.share_children.Goals as goal
 
 take_front : (xs ys : List Child) (n : ℕ) → n ≤ length xs → take n (xs ++ ys) ≡ take n xs

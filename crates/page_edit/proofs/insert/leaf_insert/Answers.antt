@@ -1,13 +1,13 @@
-use Rattle.slotted_page.proofs.RowLemmas.{row_bytes-insert}
+use Rattle.page_format.proofs.RowLemmas.{row_bytes-insert}
 use Rattle.line_pages.proofs.NumberLaws.{same_then, same_part}
 use Rattle.std.proofs.Common.{ap, ◌∙◌, sym, subst, ◌+◌, ◌*◌, ℕ, List, length, inl, inr, arith}
 use Rattle.std.specs.List.{insert}
 use Rattle.std.proofs.lemmas.Bool.{cases_lt}
-use Rattle.slotted_page.specs.Rows.{Row}
-use Rattle.slotted_page.specs.Node.{leaf_rows, entry_count, heap_start}
-use Rattle.slotted_page.specs.Sound.{IsRows, row_bytes}
+use Rattle.rows.specs.Rows.{Row}
+use Rattle.page_format.specs.Node.{leaf_rows, entry_count, heap_start}
+use Rattle.page_format.specs.Sound.{IsRows, row_bytes}
 use Rattle.page_edit.specs.Packed.{PutsBelow, heap_for}
-use Rattle.slotted_page.proofs.FactLemmas.{leaf_is}
+use Rattle.page_format.proofs.FactLemmas.{leaf_is}
 use Rattle.page_edit.proofs.LeafLemmas.{rows_insert}
 use Rattle.page_edit.proofs.insert.leaf_insert.Goals as goal
 

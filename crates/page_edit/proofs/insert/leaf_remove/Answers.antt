@@ -1,7 +1,7 @@
 use Rattle.std.proofs.Common.{sym, subst}
-use Rattle.slotted_page.specs.Node.{leaf_rows}
-use Rattle.slotted_page.specs.Sound.{IsRows}
-use Rattle.slotted_page.proofs.FactLemmas.{leaf_is}
+use Rattle.page_format.specs.Node.{leaf_rows}
+use Rattle.page_format.specs.Sound.{IsRows}
+use Rattle.page_format.proofs.FactLemmas.{leaf_is}
 use Rattle.page_edit.proofs.RemoveLemmas.{rows_remove}
 use Rattle.page_edit.proofs.insert.leaf_remove.Goals as goal
 

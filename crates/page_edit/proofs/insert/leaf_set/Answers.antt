@@ -1,10 +1,10 @@
 use Rattle.std.proofs.Common.{[], ◌∙◌, get_or, ap, sym, subst, arith}
-use Rattle.slotted_page.specs.Rows.{Row}
-use Rattle.slotted_page.specs.Node.{leaf_rows}
-use Rattle.slotted_page.specs.Sound.{IsRows}
-use Rattle.slotted_page.proofs.FactLemmas.{leaf_is}
+use Rattle.rows.specs.Rows.{Row}
+use Rattle.page_format.specs.Node.{leaf_rows}
+use Rattle.page_format.specs.Sound.{IsRows}
+use Rattle.page_format.proofs.FactLemmas.{leaf_is}
 use Rattle.page_edit.proofs.LeafLemmas.{rows_set_is, value_size}
-use Rattle.slotted_page.proofs.SlotLemmas.{row_at}
+use Rattle.page_format.proofs.SlotLemmas.{row_at}
 use Rattle.page_edit.proofs.insert.leaf_set.Goals as goal
 
 pub set_value-requires-clause-length : goal.set_value-requires-clause-length

@@ -1,8 +1,8 @@
 use Rattle.std.proofs.Common.{◌+◌, List, ap, ◌∙◌}
-use Rattle.slotted_page.specs.Rows.{Row}
-use Rattle.slotted_page.specs.Node.{leaf_rows}
+use Rattle.rows.specs.Rows.{Row}
+use Rattle.page_format.specs.Node.{leaf_rows}
 use Rattle.page_edit.specs.Cut.{needed}
-use Rattle.slotted_page.specs.Room.{sizes}
+use Rattle.page_format.specs.Room.{sizes}
 use Rattle.page_edit.proofs.CutLemmas.{both_needed, whole_is}
 use Rattle.page_edit.proofs.join.joined_part.Goals as goal
 

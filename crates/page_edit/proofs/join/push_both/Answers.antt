@@ -1,6 +1,6 @@
 use Rattle.std.proofs.Common.{◌++◌, slice_range, arith}
-use Rattle.slotted_page.specs.Node.{leaf_rows}
-use Rattle.slotted_page.proofs.RowLemmas.{row_bytes-append}
+use Rattle.page_format.specs.Node.{leaf_rows}
+use Rattle.page_format.proofs.RowLemmas.{row_bytes-append}
 use Rattle.page_edit.proofs.join.push_both.Goals as goal
 
 pub push_rows-requires-clause-room : goal.push_rows-requires-clause-room

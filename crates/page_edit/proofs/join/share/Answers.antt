@@ -1,5 +1,5 @@
 use Rattle.std.proofs.Common.{arith}
-use Rattle.slotted_page.specs.Node.{leaf_rows}
+use Rattle.page_format.specs.Node.{leaf_rows}
 use Rattle.page_edit.proofs.PartLemmas.{fits_empty, lands_empty}
 use Rattle.page_edit.proofs.CutLemmas.{share_low, share_high}
 use Rattle.page_edit.proofs.join.share.Goals as goal

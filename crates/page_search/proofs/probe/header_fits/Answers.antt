@@ -1,5 +1,5 @@
 use Rattle.std.proofs.Common.{◌∙◌}
-use Rattle.slotted_page.proofs.PageFacts.{level_of}
+use Rattle.page_format.proofs.PageFacts.{level_of}
 use Rattle.page_search.proofs.HeaderLaws.{leaf_header, inner_header}
 use Rattle.page_search.proofs.probe.header_fits.Goals as goal
 

@@ -16,7 +16,7 @@ returns-then-expect-eq0-clause-lines g c = λ told well.
     let mid = g.P.Pages.standing c.read_header.new.pages in
     leaf_searched old mid (g.P.Pages.standing c.probe_rows.new.pages) c.probe_rows.result old.current mid.current c.args.page c.in_ok-header.header.count c.args.expect.now
     (c.in_ok-header.ensures.reads.current told) c.if-expect-eq0.true (c.in_ok-header.ensures.header told).count well c.in_ok-header.ensures.lines
-    (c.probe_rows.ensures.lines (subst IsTrue (sym c.in_ok-header.ensures.continues.told) told))
+    (c.probe_rows.ensures.lines (subst IsTrue (sym c.in_ok-header.ensures.call.continues.told) told))
 
 pub returns-clause-lines : goal.returns-clause-lines
 returns-clause-lines g c = λ told well.
@@ -25,7 +25,7 @@ returns-clause-lines g c = λ told well.
     let level : c.args.expect.now.level ≡ suc (c.args.expect.now.level - 1) = omega (arith, c.if-expect-eq0.false) in
     inner_searched old mid (g.P.Pages.standing c.probe_children.new.pages) c.probe_children.result old.current mid.current c.args.page (c.args.expect.now.level - 1) c.args.expect.now
     (c.in_ok-header.ensures.reads.current told) level well c.in_ok-header.ensures.lines
-    (c.probe_children.ensures.lines (subst IsTrue (sym c.in_ok-header.ensures.continues.told) told))
+    (c.probe_children.ensures.lines (subst IsTrue (sym c.in_ok-header.ensures.call.continues.told) told))
 
 pub returns-then-not-header_fits-clause-bound : goal.returns-then-not-header_fits-clause-bound
 returns-then-not-header_fits-clause-bound g c = header_bound c.args.expect.now.level c.in_ok-header.ensures.lines

@@ -1,13 +1,13 @@
 -- The search ends at the child, and in a well-formed page nothing looks odd.
 use Rattle.std.proofs.Common.{◌≡◌, ◌≢◌, ◌+◌, ◌-◌, ◌*◌, ◌/◌, ◌<◌, ℕ, [], refl, arith, sym, ap, subst, ◌∙◌, IsTrue}
 use Rattle.line_pages.specs.Bytes.{bytes_of, u64_at}
-use Rattle.line_pages.proofs.StandingLaws.{ReadsPage-refl, Continues-refl, Continues-trans, ReadsPage-trans, still_open}
+use Rattle.line_pages.proofs.StandingLaws.{ReadsPage-refl, ReadsPage-trans, still_open, KeepsPages-trans, KeepsPages-then, KeepsPages-stops, KeepsPages-refl}
 use Rattle.line_pages.proofs.CostLaws.{AddsLines-refl}
-use Rattle.slotted_page.specs.Node.{entry_count, children, Child, is_page_below}
-use Rattle.slotted_page.specs.Spans.{Reaches}
-use Rattle.slotted_page.proofs.PageFacts.{clash}
-use Rattle.slotted_page.proofs.InnerLemmas.{length_children}
-use Rattle.slotted_page.proofs.ChildLaws.{narrow_whole, narrow_right, narrow_left, bounds_whole, probed_key, probed_page, key_inside, child_below, inside_is, inside_of, span_is}
+use Rattle.page_format.specs.Node.{entry_count, children, Child, is_page_below}
+use Rattle.page_format.specs.Spans.{Reaches}
+use Rattle.page_format.proofs.PageFacts.{clash}
+use Rattle.page_format.proofs.InnerLemmas.{length_children}
+use Rattle.page_format.proofs.ChildLaws.{narrow_whole, narrow_right, narrow_left, bounds_whole, probed_key, probed_page, key_inside, child_below, inside_is, inside_of, span_is}
 use Rattle.page_search.specs.Cost.{child_probe}
 use Rattle.page_search.proofs.ProbeLaws.{Halves, halves_none, child_probed, child_read}
 use Rattle.page_search.proofs.BoundLaws.{turns_none, child_turn, keys_bound, number_bound}
@@ -21,9 +21,7 @@ loop-low-init g c =
     let old = g.P.Pages.standing c.args.pages.now in
     let whole : c.args.count - 1 ≡ c.args.count - 0 - 1 = omega arith in
     record {
-      ready = c.requires.ready;
-      steady = λ s. s;
-      continues = Continues-refl (g.P.Pages.may_leave c.args.pages.now) (g.P.Pages.is_steady c.args.pages.now) old;
+      call = KeepsPages-refl c.requires.ready;
       reads = ReadsPage-refl c.args.page old c.requires.open;
       lines = AddsLines-refl old (subst (λ (w : ℕ). Halves child_probe c.args.count (c.args.count - 1) w []) whole (halves_none child_probe c.args.count (c.args.count - 1)));
       bound = AddsLines-refl old (turns_none 1 8 (c.args.count - 0 - 1) (omega (arith, c.requires.few)));
@@ -44,7 +42,7 @@ returns-then-not-is_inside-clause-spot g c = λ told well.
     let bytes = bytes_of (g.P.Pages.standing c.args.pages.now).current c.args.page in
     let middle = c.loop-low.low + (c.loop-low.high - c.loop-low.low) / 2 in
     let above : expect.level ≢ 0 = (λ e. omega (arith, e, c.requires.inner)) in
-    let told_on = subst IsTrue (sym before.continues.told) told in
+    let told_on = subst IsTrue (sym before.call.continues.told) told in
     let found : c.in_ok-found.found ≡ u64_at bytes (64 + 16 * middle) = c.in_ok-found.ensures.value told_on ∙ ap (λ all. u64_at (bytes_of all c.args.page) (64 + 16 * middle)) (before.reads.current told) in
     let inside : middle < entry_count bytes = omega (arith, before.narrow.within, before.narrow.ordered, c.requires.known told, c.loop-low-test.true) in
     let key = probed_key bytes middle c.in_ok-found.found none inside found in
@@ -61,9 +59,7 @@ loop-low-preserved-then-found-key g c =
     let above : expect.level ≢ 0 = (λ e. omega (arith, e, c.requires.inner)) in
     let is = inside_of expect c.in_ok-found.found (sym c.is_inside.ensures ∙ c.if-not-is_inside.false) in
     record {
-      ready = c.in_ok-found.ensures.ready;
-      steady = λ s. c.in_ok-found.ensures.steady (before.steady s);
-      continues = Continues-trans before.continues before.steady c.in_ok-found.ensures.continues;
+      call = KeepsPages-then before.call c.in_ok-found.ensures.call;
       reads = ReadsPage-trans before.reads c.in_ok-found.ensures.reads;
       lines = child_probed c.args.count c.loop-low.low c.loop-low.high (c.loop-low.high - middle - 1) middle c.loop-low-test.true (omega (arith, c.loop-low-test.true)) (omega (arith, before.narrow.within, c.loop-low-test.true))
           before.lines c.in_ok-found.ensures.lines;
@@ -74,7 +70,7 @@ loop-low-preserved-then-found-key g c =
       narrow = narrow_right expect c.args.key c.args.count c.loop-low.low c.loop-low.high c.loop-low.least c.loop-low.most middle c.in_ok-found.found before.narrow
           (omega (arith, c.loop-low-test.true)) (omega (arith, c.loop-low-test.true)) is.low c.if-found-key.true;
       bounds = λ told well.
-          let told_on = subst IsTrue (sym before.continues.told) told in
+          let told_on = subst IsTrue (sym before.call.continues.told) told in
           let found : c.in_ok-found.found ≡ u64_at bytes (64 + 16 * middle) = c.in_ok-found.ensures.value told_on ∙ ap (λ all. u64_at (bytes_of all c.args.page) (64 + 16 * middle)) (before.reads.current told) in
           let inside : middle < entry_count bytes = omega (arith, before.narrow.within, before.narrow.ordered, c.requires.known told, c.loop-low-test.true) in
           record { least_is = λ d. probed_key bytes middle c.in_ok-found.found d inside found; most_is = (before.bounds told well).most_is };
@@ -89,9 +85,7 @@ loop-low-preserved g c =
     let above : expect.level ≢ 0 = (λ e. omega (arith, e, c.requires.inner)) in
     let is = inside_of expect c.in_ok-found.found (sym c.is_inside.ensures ∙ c.if-not-is_inside.false) in
     record {
-      ready = c.in_ok-found.ensures.ready;
-      steady = λ s. c.in_ok-found.ensures.steady (before.steady s);
-      continues = Continues-trans before.continues before.steady c.in_ok-found.ensures.continues;
+      call = KeepsPages-then before.call c.in_ok-found.ensures.call;
       reads = ReadsPage-trans before.reads c.in_ok-found.ensures.reads;
       lines = child_probed c.args.count c.loop-low.low c.loop-low.high (middle - c.loop-low.low - 1) middle c.loop-low-test.true (omega (arith, c.loop-low-test.true)) (omega (arith, before.narrow.within, c.loop-low-test.true))
           before.lines c.in_ok-found.ensures.lines;
@@ -102,7 +96,7 @@ loop-low-preserved g c =
       narrow = narrow_left expect c.args.key c.args.count c.loop-low.low c.loop-low.high c.loop-low.least c.loop-low.most middle c.in_ok-found.found before.narrow
           (omega (arith, c.loop-low-test.true)) (omega (arith, c.loop-low-test.true)) is.high c.if-found-key.false;
       bounds = λ told well.
-          let told_on = subst IsTrue (sym before.continues.told) told in
+          let told_on = subst IsTrue (sym before.call.continues.told) told in
           let found : c.in_ok-found.found ≡ u64_at bytes (64 + 16 * middle) = c.in_ok-found.ensures.value told_on ∙ ap (λ all. u64_at (bytes_of all c.args.page) (64 + 16 * middle)) (before.reads.current told) in
           let inside : middle < entry_count bytes = omega (arith, before.narrow.within, before.narrow.ordered, c.requires.known told, c.loop-low-test.true) in
           record {
@@ -124,7 +118,7 @@ returns-then-not-is_page-clause-spot g c = λ told well.
     let bytes = bytes_of (g.P.Pages.standing c.args.pages.now).current c.args.page in
     let low = c.loop-low.low in
     let above : expect.level ≢ 0 = (λ e. omega (arith, e, c.requires.inner)) in
-    let told_on = subst IsTrue (sym before.continues.told) told in
+    let told_on = subst IsTrue (sym before.call.continues.told) told in
     let page : c.in_ok-child.child ≡ u64_at bytes (72 + 16 * low) = c.in_ok-child.ensures.value told_on ∙ ap (λ all. u64_at (bytes_of all c.args.page) (72 + 16 * low)) (before.reads.current told) in
     let inside : low < entry_count bytes = omega (arith, before.narrow.within, before.narrow.ordered, c.requires.known told) in
     let is = probed_page bytes low c.in_ok-child.child none inside page in
@@ -141,7 +135,7 @@ returns-clause-spot g c = λ told well.
     let bytes = bytes_of (g.P.Pages.standing c.args.pages.now).current c.args.page in
     let low = c.loop-low.low in
     let above : expect.level ≢ 0 = (λ e. omega (arith, e, c.requires.inner)) in
-    let told_on = subst IsTrue (sym before.continues.told) told in
+    let told_on = subst IsTrue (sym before.call.continues.told) told in
     let page : c.in_ok-child.child ≡ u64_at bytes (72 + 16 * low) = c.in_ok-child.ensures.value told_on ∙ ap (λ all. u64_at (bytes_of all c.args.page) (72 + 16 * low)) (before.reads.current told) in
     let inside : low < entry_count bytes = omega (arith, before.narrow.within, before.narrow.ordered, c.requires.known told) in
     let bounds = before.bounds told well in
@@ -156,7 +150,7 @@ returns-then-not-is_inside-clause-lines g c = λ told well.
     let bytes = bytes_of (g.P.Pages.standing c.args.pages.now).current c.args.page in
     let middle = c.loop-low.low + (c.loop-low.high - c.loop-low.low) / 2 in
     let above : expect.level ≢ 0 = (λ e. omega (arith, e, c.requires.inner)) in
-    let told_on = subst IsTrue (sym before.continues.told) told in
+    let told_on = subst IsTrue (sym before.call.continues.told) told in
     let found : c.in_ok-found.found ≡ u64_at bytes (64 + 16 * middle) = c.in_ok-found.ensures.value told_on ∙ ap (λ all. u64_at (bytes_of all c.args.page) (64 + 16 * middle)) (before.reads.current told) in
     let inside : middle < entry_count bytes = omega (arith, before.narrow.within, before.narrow.ordered, c.requires.known told, c.loop-low-test.true) in
     let key = probed_key bytes middle c.in_ok-found.found none inside found in
@@ -184,17 +178,17 @@ returns-then-not-is_page-clause-bound g c = number_bound (c.loop-low.high - c.lo
 pub returns-clause-bound : goal.returns-clause-bound
 returns-clause-bound g c = number_bound (c.loop-low.high - c.loop-low.low - 1) c.loop-low.low c.loop-low.invariant.bound c.in_ok-child.ensures.lines
 
-pub returns-in_err-found-clause-continues : goal.returns-in_err-found-clause-continues
-returns-in_err-found-clause-continues g c = Continues-trans {steady_between = g.P.Pages.is_steady c.loop-low.pages} c.loop-low.invariant.continues c.loop-low.invariant.steady c.read_word.ensures.continues
+pub returns-in_err-found-clause-call : goal.returns-in_err-found-clause-call
+returns-in_err-found-clause-call g c = KeepsPages-stops c.from_residual.result c.from_residual.ensures.0 (KeepsPages-trans c.loop-low.invariant.call c.in_err-found.ensures.call)
 
-pub returns-then-not-is_inside-clause-continues : goal.returns-then-not-is_inside-clause-continues
-returns-then-not-is_inside-clause-continues g c = Continues-trans {steady_between = g.P.Pages.is_steady c.loop-low.pages} c.loop-low.invariant.continues c.loop-low.invariant.steady c.read_word.ensures.continues
+pub returns-then-not-is_inside-clause-call : goal.returns-then-not-is_inside-clause-call
+returns-then-not-is_inside-clause-call g c = KeepsPages-then c.loop-low.invariant.call c.in_ok-found.ensures.call
 
-pub returns-in_err-child-clause-continues : goal.returns-in_err-child-clause-continues
-returns-in_err-child-clause-continues g c = Continues-trans {steady_between = g.P.Pages.is_steady c.loop-low.pages} c.loop-low.invariant.continues c.loop-low.invariant.steady c.read_word-2.ensures.continues
+pub returns-in_err-child-clause-call : goal.returns-in_err-child-clause-call
+returns-in_err-child-clause-call g c = KeepsPages-stops c.from_residual-in_err-child.result c.from_residual-in_err-child.ensures.0 (KeepsPages-trans c.loop-low.invariant.call c.in_err-child.ensures.call)
 
-pub returns-then-not-is_page-clause-continues : goal.returns-then-not-is_page-clause-continues
-returns-then-not-is_page-clause-continues g c = Continues-trans {steady_between = g.P.Pages.is_steady c.loop-low.pages} c.loop-low.invariant.continues c.loop-low.invariant.steady c.read_word-2.ensures.continues
+pub returns-then-not-is_page-clause-call : goal.returns-then-not-is_page-clause-call
+returns-then-not-is_page-clause-call g c = KeepsPages-then c.loop-low.invariant.call c.in_ok-child.ensures.call
 
-pub returns-clause-continues : goal.returns-clause-continues
-returns-clause-continues g c = Continues-trans {steady_between = g.P.Pages.is_steady c.loop-low.pages} c.loop-low.invariant.continues c.loop-low.invariant.steady c.read_word-2.ensures.continues
+pub returns-clause-call : goal.returns-clause-call
+returns-clause-call g c = KeepsPages-then c.loop-low.invariant.call c.in_ok-child.ensures.call

@@ -1,10 +1,11 @@
 -- The key is below the children from `low` up to `high`, whose bounds are `least` and `most`.
 use Rattle.std.proofs.Common.{◌≡◌, ◌-◌, ◌≤◌, IsTrue}
+use Rattle.line_pages.specs.PagesCall.{PagesCalls}
 use Rattle.line_pages.specs.Bytes.{bytes_of}
 use Rattle.line_pages.specs.Cost.{AddsLines}
-use Rattle.line_pages.specs.Standing.{Continues, ReadsPage}
-use Rattle.slotted_page.specs.Node.{IsWellFormed, children}
-use Rattle.slotted_page.proofs.ChildLaws.{Narrow, Bounds}
+use Rattle.line_pages.specs.Standing.{ReadsPage}
+use Rattle.page_format.specs.Node.{IsWellFormed, children}
+use Rattle.page_format.proofs.ChildLaws.{Narrow, Bounds}
 use Rattle.page_search.specs.Cost.{child_probe}
 use Rattle.page_search.proofs.ProbeLaws.{Halves}
 use Rattle.page_search.proofs.BoundLaws.{Turns}
@@ -12,9 +13,7 @@ use Rattle.page_search.proofs.probe.probe_children.Given as goal
 
 abbrev pub invariant-loop-low : goal.invariant-loop-low
 invariant-loop-low g l = record {
-  ready : g.P.Pages.is_ready l.pages;
-  steady : g.P.Pages.is_steady l.fn.pages → g.P.Pages.is_steady l.pages;
-  continues : Continues (g.P.Pages.may_leave l.fn.pages) (g.P.Pages.may_leave l.pages) (g.P.Pages.is_steady l.fn.pages) (g.P.Pages.standing l.fn.pages) (g.P.Pages.standing l.pages);
+  call : PagesCalls g.P.Pages l.fn.pages l.pages;
   reads : ReadsPage l.page (g.P.Pages.standing l.fn.pages) (g.P.Pages.standing l.pages);
   lines : AddsLines (Halves child_probe l.count (l.count - 1) (l.high - l.low - 1)) (g.P.Pages.standing l.fn.pages) (g.P.Pages.standing l.pages);
   bound : AddsLines (Turns 1 8 (l.high - l.low - 1)) (g.P.Pages.standing l.fn.pages) (g.P.Pages.standing l.pages);

@@ -1,12 +1,12 @@
 -- The search ends at the row or in the gap, and in a well-formed leaf nothing looks odd.
 use Rattle.std.proofs.Common.{◌≡◌, ◌≢◌, ◌+◌, ◌-◌, ◌*◌, ◌/◌, ◌<◌, ℕ, [], refl, arith, sym, ap, subst, ◌∙◌, IsTrue}
 use Rattle.line_pages.specs.Bytes.{bytes_of, u16_at, u64_at}
-use Rattle.line_pages.proofs.StandingLaws.{Continues-refl, Continues-trans, ReadsPage-refl, ReadsPage-trans, still_open}
+use Rattle.line_pages.proofs.StandingLaws.{ReadsPage-refl, ReadsPage-trans, still_open, KeepsPages-trans, KeepsPages-then, KeepsPages-stops, KeepsPages-refl}
 use Rattle.line_pages.proofs.CostLaws.{AddsLines-refl}
-use Rattle.slotted_page.specs.Node.{entry_count, leaf_rows}
-use Rattle.slotted_page.specs.Rows.{keys}
-use Rattle.slotted_page.proofs.SlotLemmas.{length_rows}
-use Rattle.slotted_page.proofs.KeyLaws.{probed, length-keys, place_inside, slice_get-is, below_to, above_to, goes_right, goes_left}
+use Rattle.page_format.specs.Node.{entry_count, leaf_rows}
+use Rattle.rows.specs.Rows.{keys}
+use Rattle.page_format.proofs.SlotLemmas.{length_rows}
+use Rattle.page_format.proofs.KeyLaws.{probed, length-keys, place_inside, slice_get-is, below_to, above_to, goes_right, goes_left}
 use Rattle.page_search.specs.Cost.{row_probe}
 use Rattle.page_search.proofs.ProbeLaws.{Halves, halves_none, row_probed, rows_probed}
 use Rattle.page_search.proofs.BoundLaws.{turns_none, row_turn, slot_turn, rows_bound}
@@ -17,9 +17,7 @@ loop-low-init g c =
     let old = g.P.Pages.standing c.args.pages.now in
     let whole : c.args.count ≡ c.args.count - 0 = omega arith in
     record {
-      ready = c.requires.ready;
-      steady = λ s. s;
-      continues = Continues-refl (g.P.Pages.may_leave c.args.pages.now) (g.P.Pages.is_steady c.args.pages.now) old;
+      call = KeepsPages-refl c.requires.ready;
       reads = ReadsPage-refl c.args.page old c.requires.open;
       lines = λ told.
           let probe = row_probe (bytes_of old.current c.args.page) in
@@ -41,7 +39,7 @@ returns-then-place-gt4096-clause-spot g c = λ told well.
     let before = c.loop-low.invariant in
     let bytes = bytes_of (g.P.Pages.standing c.args.pages.now).current c.args.page in
     let middle = c.loop-low.low + (c.loop-low.high - c.loop-low.low) / 2 in
-    let place = c.in_ok-place.ensures.value (subst IsTrue (sym before.continues.told) told) ∙ ap (λ all. u16_at (bytes_of all c.args.page) (64 + 4 * middle)) (before.reads.current told) in
+    let place = c.in_ok-place.ensures.value (subst IsTrue (sym before.call.continues.told) told) ∙ ap (λ all. u16_at (bytes_of all c.args.page) (64 + 4 * middle)) (before.reads.current told) in
     let inside : middle < entry_count bytes = omega (arith, before.within, c.requires.known told, c.loop-low-test.true) in
     omega (arith, place, place_inside bytes c.args.expect.now middle c.requires.leaf well inside, c.if-place-gt4096.true)
 
@@ -53,10 +51,10 @@ returns-then-found-key-clause-spot g c = λ told well.
     let before = c.loop-low.invariant in
     let bytes = bytes_of (g.P.Pages.standing c.args.pages.now).current c.args.page in
     let middle = c.loop-low.low + (c.loop-low.high - c.loop-low.low) / 2 in
-    let told_on = subst IsTrue (sym before.continues.told) told in
+    let told_on = subst IsTrue (sym before.call.continues.told) told in
     let place : c.in_ok-place.place ≡ u16_at bytes (64 + 4 * middle) = c.in_ok-place.ensures.value told_on ∙ ap (λ all. u16_at (bytes_of all c.args.page) (64 + 4 * middle)) (before.reads.current told) in
     let found : c.in_ok-found.found ≡ u64_at bytes c.in_ok-place.place =
-    c.in_ok-found.ensures.value (subst IsTrue (sym c.in_ok-place.ensures.continues.told) told_on)
+    c.in_ok-found.ensures.value (subst IsTrue (sym c.in_ok-place.ensures.call.continues.told) told_on)
     ∙ ap (λ all. u64_at (bytes_of all c.args.page) c.in_ok-place.place) (c.in_ok-place.ensures.reads.current told_on ∙ before.reads.current told) in
     let inside : middle < entry_count bytes = omega (arith, before.within, c.requires.known told, c.loop-low-test.true) in
     let key = probed bytes middle c.in_ok-place.place c.in_ok-found.found inside place found in
@@ -68,12 +66,10 @@ loop-low-preserved-then-found-key-2 g c =
     let bytes = bytes_of (g.P.Pages.standing c.args.pages.now).current c.args.page in
     let middle = c.loop-low.low + (c.loop-low.high - c.loop-low.low) / 2 in
     record {
-      ready = c.in_ok-found.ensures.ready;
-      steady = λ s. c.in_ok-found.ensures.steady (c.in_ok-place.ensures.steady (before.steady s));
-      continues = Continues-trans (Continues-trans before.continues before.steady c.in_ok-place.ensures.continues) (λ s. c.in_ok-place.ensures.steady (before.steady s)) c.in_ok-found.ensures.continues;
+      call = KeepsPages-then (KeepsPages-trans before.call c.in_ok-place.ensures.call) c.in_ok-found.ensures.call;
       reads = ReadsPage-trans (ReadsPage-trans before.reads c.in_ok-place.ensures.reads) c.in_ok-found.ensures.reads;
       lines = λ told.
-          let told_on = subst IsTrue (sym before.continues.told) told in
+          let told_on = subst IsTrue (sym before.call.continues.told) told in
           let place : c.in_ok-place.place ≡ u16_at bytes (64 + 4 * middle) = c.in_ok-place.ensures.value told_on ∙ ap (λ all. u16_at (bytes_of all c.args.page) (64 + 4 * middle)) (before.reads.current told) in
           row_probed bytes c.args.count c.loop-low.low c.loop-low.high (c.loop-low.high - (middle + 1)) middle c.in_ok-place.place c.loop-low-test.true (omega (arith, c.loop-low-test.true)) (omega (arith, before.within, c.loop-low-test.true)) place
           (before.lines told) c.in_ok-place.ensures.lines c.in_ok-found.ensures.lines;
@@ -84,10 +80,10 @@ loop-low-preserved-then-found-key-2 g c =
       ordered = omega (arith, c.loop-low-test.true);
       within = before.within;
       between = λ told well.
-          let told_on = subst IsTrue (sym before.continues.told) told in
+          let told_on = subst IsTrue (sym before.call.continues.told) told in
           let place : c.in_ok-place.place ≡ u16_at bytes (64 + 4 * middle) = c.in_ok-place.ensures.value told_on ∙ ap (λ all. u16_at (bytes_of all c.args.page) (64 + 4 * middle)) (before.reads.current told) in
           let found : c.in_ok-found.found ≡ u64_at bytes c.in_ok-place.place =
-          c.in_ok-found.ensures.value (subst IsTrue (sym c.in_ok-place.ensures.continues.told) told_on)
+          c.in_ok-found.ensures.value (subst IsTrue (sym c.in_ok-place.ensures.call.continues.told) told_on)
           ∙ ap (λ all. u64_at (bytes_of all c.args.page) c.in_ok-place.place) (c.in_ok-place.ensures.reads.current told_on ∙ before.reads.current told) in
           let inside : middle < entry_count bytes = omega (arith, before.within, c.requires.known told, c.loop-low-test.true) in
           let key = probed bytes middle c.in_ok-place.place c.in_ok-found.found inside place found in
@@ -100,12 +96,10 @@ loop-low-preserved g c =
     let bytes = bytes_of (g.P.Pages.standing c.args.pages.now).current c.args.page in
     let middle = c.loop-low.low + (c.loop-low.high - c.loop-low.low) / 2 in
     record {
-      ready = c.in_ok-found.ensures.ready;
-      steady = λ s. c.in_ok-found.ensures.steady (c.in_ok-place.ensures.steady (before.steady s));
-      continues = Continues-trans (Continues-trans before.continues before.steady c.in_ok-place.ensures.continues) (λ s. c.in_ok-place.ensures.steady (before.steady s)) c.in_ok-found.ensures.continues;
+      call = KeepsPages-then (KeepsPages-trans before.call c.in_ok-place.ensures.call) c.in_ok-found.ensures.call;
       reads = ReadsPage-trans (ReadsPage-trans before.reads c.in_ok-place.ensures.reads) c.in_ok-found.ensures.reads;
       lines = λ told.
-          let told_on = subst IsTrue (sym before.continues.told) told in
+          let told_on = subst IsTrue (sym before.call.continues.told) told in
           let place : c.in_ok-place.place ≡ u16_at bytes (64 + 4 * middle) = c.in_ok-place.ensures.value told_on ∙ ap (λ all. u16_at (bytes_of all c.args.page) (64 + 4 * middle)) (before.reads.current told) in
           row_probed bytes c.args.count c.loop-low.low c.loop-low.high (middle - c.loop-low.low) middle c.in_ok-place.place c.loop-low-test.true (omega (arith, c.loop-low-test.true)) (omega (arith, before.within, c.loop-low-test.true)) place
           (before.lines told) c.in_ok-place.ensures.lines c.in_ok-found.ensures.lines;
@@ -116,10 +110,10 @@ loop-low-preserved g c =
       ordered = omega (arith, c.loop-low-test.true);
       within = omega (arith, before.within, c.loop-low-test.true);
       between = λ told well.
-          let told_on = subst IsTrue (sym before.continues.told) told in
+          let told_on = subst IsTrue (sym before.call.continues.told) told in
           let place : c.in_ok-place.place ≡ u16_at bytes (64 + 4 * middle) = c.in_ok-place.ensures.value told_on ∙ ap (λ all. u16_at (bytes_of all c.args.page) (64 + 4 * middle)) (before.reads.current told) in
           let found : c.in_ok-found.found ≡ u64_at bytes c.in_ok-place.place =
-          c.in_ok-found.ensures.value (subst IsTrue (sym c.in_ok-place.ensures.continues.told) told_on)
+          c.in_ok-found.ensures.value (subst IsTrue (sym c.in_ok-place.ensures.call.continues.told) told_on)
           ∙ ap (λ all. u64_at (bytes_of all c.args.page) c.in_ok-place.place) (c.in_ok-place.ensures.reads.current told_on ∙ before.reads.current told) in
           let inside : middle < entry_count bytes = omega (arith, before.within, c.requires.known told, c.loop-low-test.true) in
           let key = probed bytes middle c.in_ok-place.place c.in_ok-found.found inside place found in
@@ -146,7 +140,7 @@ returns-then-found-key-clause-lines g c = λ told well.
     let before = c.loop-low.invariant in
     let bytes = bytes_of (g.P.Pages.standing c.args.pages.now).current c.args.page in
     let middle = c.loop-low.low + (c.loop-low.high - c.loop-low.low) / 2 in
-    let told_on = subst IsTrue (sym before.continues.told) told in
+    let told_on = subst IsTrue (sym before.call.continues.told) told in
     let place : c.in_ok-place.place ≡ u16_at bytes (64 + 4 * middle) = c.in_ok-place.ensures.value told_on ∙ ap (λ all. u16_at (bytes_of all c.args.page) (64 + 4 * middle)) (before.reads.current told) in
     rows_probed bytes c.args.count 0
     (row_probed bytes c.args.count c.loop-low.low c.loop-low.high 0 middle c.in_ok-place.place c.loop-low-test.true (omega arith) (omega (arith, before.within, c.loop-low-test.true)) place
@@ -157,7 +151,7 @@ returns-then-place-gt4096-clause-lines g c = λ told well.
     let before = c.loop-low.invariant in
     let bytes = bytes_of (g.P.Pages.standing c.args.pages.now).current c.args.page in
     let middle = c.loop-low.low + (c.loop-low.high - c.loop-low.low) / 2 in
-    let place = c.in_ok-place.ensures.value (subst IsTrue (sym before.continues.told) told) ∙ ap (λ all. u16_at (bytes_of all c.args.page) (64 + 4 * middle)) (before.reads.current told) in
+    let place = c.in_ok-place.ensures.value (subst IsTrue (sym before.call.continues.told) told) ∙ ap (λ all. u16_at (bytes_of all c.args.page) (64 + 4 * middle)) (before.reads.current told) in
     let inside : middle < entry_count bytes = omega (arith, before.within, c.requires.known told, c.loop-low-test.true) in
     absurd (omega (arith, place, place_inside bytes c.args.expect.now middle c.requires.leaf well inside, c.if-place-gt4096.true))
 
@@ -165,10 +159,10 @@ pub returns-clause-lines : goal.returns-clause-lines
 returns-clause-lines g c = λ told well.
     rows_probed (bytes_of (g.P.Pages.standing c.args.pages.now).current c.args.page) c.args.count (c.loop-low.high - c.loop-low.low) (c.loop-low.invariant.lines told)
 
-pub returns-then-found-key-clause-continues : goal.returns-then-found-key-clause-continues
-returns-then-found-key-clause-continues g c =
+pub returns-then-found-key-clause-call : goal.returns-then-found-key-clause-call
+returns-then-found-key-clause-call g c =
     let before = c.loop-low.invariant in
-    Continues-trans {steady_between = g.P.Pages.is_steady c.read_place.new.pages} (Continues-trans before.continues before.steady c.in_ok-place.ensures.continues) (λ s. c.in_ok-place.ensures.steady (before.steady s)) c.in_ok-found.ensures.continues
+    KeepsPages-then (KeepsPages-trans before.call c.in_ok-place.ensures.call) c.in_ok-found.ensures.call
 
 pub returns-then-place-gt4096-clause-bound : goal.returns-then-place-gt4096-clause-bound
 returns-then-place-gt4096-clause-bound g c =
@@ -182,13 +176,13 @@ returns-then-found-key-clause-bound g c =
 pub returns-clause-bound : goal.returns-clause-bound
 returns-clause-bound g c = rows_bound (c.loop-low.high - c.loop-low.low) c.loop-low.invariant.bound
 
-pub returns-in_err-place-clause-continues : goal.returns-in_err-place-clause-continues
-returns-in_err-place-clause-continues g c = Continues-trans {steady_between = g.P.Pages.is_steady c.loop-low.pages} c.loop-low.invariant.continues c.loop-low.invariant.steady c.read_place.ensures.continues
+pub returns-in_err-place-clause-call : goal.returns-in_err-place-clause-call
+returns-in_err-place-clause-call g c = KeepsPages-stops c.from_residual.result c.from_residual.ensures.0 (KeepsPages-trans c.loop-low.invariant.call c.in_err-place.ensures.call)
 
-pub returns-then-place-gt4096-clause-continues : goal.returns-then-place-gt4096-clause-continues
-returns-then-place-gt4096-clause-continues g c = Continues-trans {steady_between = g.P.Pages.is_steady c.loop-low.pages} c.loop-low.invariant.continues c.loop-low.invariant.steady c.read_place.ensures.continues
+pub returns-then-place-gt4096-clause-call : goal.returns-then-place-gt4096-clause-call
+returns-then-place-gt4096-clause-call g c = KeepsPages-then c.loop-low.invariant.call c.in_ok-place.ensures.call
 
-pub returns-in_err-found-clause-continues : goal.returns-in_err-found-clause-continues
-returns-in_err-found-clause-continues g c =
+pub returns-in_err-found-clause-call : goal.returns-in_err-found-clause-call
+returns-in_err-found-clause-call g c =
     let before = c.loop-low.invariant in
-    Continues-trans {steady_between = g.P.Pages.is_steady c.read_place.new.pages} (Continues-trans before.continues before.steady c.in_ok-place.ensures.continues) (λ s. c.in_ok-place.ensures.steady (before.steady s)) c.read_word.ensures.continues
+    KeepsPages-stops c.from_residual-in_err-found.result c.from_residual-in_err-found.ensures.0 (KeepsPages-trans (KeepsPages-trans before.call c.in_ok-place.ensures.call) c.in_err-found.ensures.call)

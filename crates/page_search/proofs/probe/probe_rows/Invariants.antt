@@ -1,10 +1,11 @@
 -- The key is in none of the rows below `low`, and in none from `high` on.
 use Rattle.std.proofs.Common.{◌≡◌, ◌-◌, ◌≤◌, IsTrue}
+use Rattle.line_pages.specs.PagesCall.{PagesCalls}
 use Rattle.line_pages.specs.Bytes.{bytes_of}
 use Rattle.line_pages.specs.Cost.{AddsLines}
-use Rattle.line_pages.specs.Standing.{Continues, ReadsPage}
-use Rattle.slotted_page.specs.Node.{IsWellFormed}
-use Rattle.slotted_page.proofs.KeyLaws.{Between}
+use Rattle.line_pages.specs.Standing.{ReadsPage}
+use Rattle.page_format.specs.Node.{IsWellFormed}
+use Rattle.page_format.proofs.KeyLaws.{Between}
 use Rattle.page_search.specs.Cost.{row_probe}
 use Rattle.page_search.proofs.ProbeLaws.{Halves}
 use Rattle.page_search.proofs.BoundLaws.{Turns}
@@ -12,9 +13,7 @@ use Rattle.page_search.proofs.probe.probe_rows.Given as goal
 
 abbrev pub invariant-loop-low : goal.invariant-loop-low
 invariant-loop-low g l = record {
-  ready : g.P.Pages.is_ready l.pages;
-  steady : g.P.Pages.is_steady l.fn.pages → g.P.Pages.is_steady l.pages;
-  continues : Continues (g.P.Pages.may_leave l.fn.pages) (g.P.Pages.may_leave l.pages) (g.P.Pages.is_steady l.fn.pages) (g.P.Pages.standing l.fn.pages) (g.P.Pages.standing l.pages);
+  call : PagesCalls g.P.Pages l.fn.pages l.pages;
   reads : ReadsPage l.page (g.P.Pages.standing l.fn.pages) (g.P.Pages.standing l.pages);
   lines : IsTrue (g.P.Pages.standing l.fn.pages).told
       → AddsLines (Halves (row_probe (bytes_of (g.P.Pages.standing l.fn.pages).current l.page)) l.count l.count (l.high - l.low)) (g.P.Pages.standing l.fn.pages) (g.P.Pages.standing l.pages);

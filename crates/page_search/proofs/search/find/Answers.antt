@@ -1,15 +1,16 @@
 use Rattle.std.proofs.Common.{arith, refl}
 use Rattle.line_pages.specs.Bytes.{bytes_of}
+use Rattle.line_pages.proofs.CauseLaws.{unless_never}
 use Rattle.line_pages.proofs.CostLaws.{AddsLines-weaker, Costs-weaker}
 use Rattle.page_search.specs.Cost.{most_lines}
 use Rattle.page_search.proofs.ProbeLaws.{search_cost}
 use Rattle.page_search.proofs.BoundLaws.{whole_bound}
-use Rattle.line_pages.proofs.StandingLaws.{one_access, still_open, Continues-trans}
-use Rattle.page_search.proofs.OpenLaws.{then_reads}
+use Rattle.line_pages.proofs.StandingLaws.{one_access, still_open, KeepsPages-trans}
+use Rattle.page_search.proofs.OpenLaws.{then_reads_unless}
 use Rattle.page_search.proofs.search.find.Goals as goal
 
 pub returns-in-None-clause-reads : goal.returns-in-None-clause-reads
-returns-in-None-clause-reads g c = then_reads (g.P.Pages.standing c.args.pages.now) (g.P.Pages.standing c.probe.new.pages) (g.P.Pages.standing c.find_whole.new.pages) c.find_whole.result c.in_ok-spot.ensures.reads c.find_whole.ensures.reads
+returns-in-None-clause-reads g c = then_reads_unless (g.P.Pages.standing c.args.pages.now) (g.P.Pages.standing c.probe.new.pages) (g.P.Pages.standing c.find_whole.new.pages) c.find_whole.result c.in_ok-spot.ensures.reads c.find_whole.ensures.reads
 
 pub returns-in-None-clause-few : goal.returns-in-None-clause-few
 returns-in-None-clause-few g c = omega (arith, one_access c.in_ok-spot.ensures.reads, c.find_whole.ensures.again (still_open c.in_ok-spot.ensures.reads))
@@ -27,5 +28,8 @@ returns-in-None-clause-bound g c =
     whole_bound (most_lines c.args.expect.now.level) (g.P.Pages.standing c.args.pages.now) (g.P.Pages.standing c.probe.new.pages) (g.P.Pages.standing c.find_whole.new.pages) c.find_whole.result
     c.in_ok-spot.ensures.bound c.find_whole.ensures.lines
 
-pub returns-in-None-clause-continues : goal.returns-in-None-clause-continues
-returns-in-None-clause-continues g c = Continues-trans {steady_between = g.P.Pages.is_steady c.probe.new.pages} c.in_ok-spot.ensures.continues c.in_ok-spot.ensures.steady c.find_whole.ensures.continues
+pub returns-in-None-clause-call : goal.returns-in-None-clause-call
+returns-in-None-clause-call g c = KeepsPages-trans c.in_ok-spot.ensures.call c.find_whole.ensures.call
+
+pub returns-in_err-spot-clause-reads : goal.returns-in_err-spot-clause-reads
+returns-in_err-spot-clause-reads g c = unless_never _ (g.P.Pages.standing c.args.pages.now) (g.P.Pages.standing c.probe.new.pages) c.from_residual.result c.in_err-spot.field-0.0 c.from_residual.ensures c.in_err-spot.ensures.cause.failed

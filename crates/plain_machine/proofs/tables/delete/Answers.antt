@@ -1,7 +1,7 @@
 use Rattle.std.proofs.Common.{◌≡◌, ◌∙◌, sym, ap, Some, None, set}
 use Rattle.std.specs.List.{position}
-use Rattle.slotted_page.specs.Rows.{row_delete}
-use Rattle.table_catalog.specs.Catalog.{Table}
+use Rattle.rows.specs.Rows.{row_delete}
+use Rattle.rows.specs.Tables.{Table}
 use Rattle.script.specs.Tables.{rows_or_none}
 use Rattle.plain_machine.specs.Plain.{is_table}
 use Rattle.plain_machine.proofs.TablesLaws.{changed_at, changed_none}

@@ -1,7 +1,7 @@
 use Rattle.std.proofs.Common.{◌≡◌, ◌∙◌, sym, ap, List}
 use Rattle.std.specs.Prelude.{◌&&◌, not, nat_le, length}
-use Rattle.slotted_page.specs.Rows.{Row}
-use Rattle.table_catalog.specs.Catalog.{Table}
+use Rattle.rows.specs.Rows.{Row}
+use Rattle.rows.specs.Tables.{Table}
 use Rattle.script.specs.Machine.{is_full}
 use Rattle.script.specs.Tables.{has_row}
 use Rattle.plain_machine.proofs.TablesLaws.{found_at, found_none}

@@ -1,5 +1,5 @@
 use Rattle.std.proofs.Common.{◌∙◌, sym, ap}
-use Rattle.table_catalog.specs.Catalog.{Table}
+use Rattle.rows.specs.Tables.{Table}
 use Rattle.plain_machine.proofs.TablesLaws.{rows_at, rows_none}
 use Rattle.plain_machine.proofs.tables.rows_of.Goals as goal
 

@@ -1,9 +1,10 @@
 -- The opening, and then the script.
-use Rattle.std.proofs.Common.{IsTrue, Err, inl, refl, subst, sym, arith}
-use Rattle.recovery.specs.declared.errors.OpenError.{OpenError}
-use Rattle.recovery.specs.declared.errors.OpenError.TheVariants.{Nvm, Ssd, NotAStore, TooSmall, LogEnded, Damaged, NoMemory}
+use Rattle.std.proofs.Common.{◌∙◌, IsTrue, Err, inl, refl, subst, sym, arith}
+use Rattle.flat_recovery.specs.declared.errors.OpenError.{OpenError}
+use Rattle.flat_recovery.specs.declared.errors.OpenError.TheVariants.{Nvm, Ssd, NotAStore, TooSmall, LogEnded, Damaged, NoMemory}
 use Rattle.engine.specs.Opening.{Opens}
 use Rattle.spitfire_app.proofs.OrderLaws.{order_holds}
+use Rattle.spitfire_app.proofs.SettingsLaws.{none_by_goes, none_by_write}
 use Rattle.spitfire_app.proofs.PromiseLaws.{Runs, refused_replies, refused_survives, run_replies, run_survives}
 use Rattle.spitfire_app.proofs.RefusalLaws.{refused_as, complete_as}
 use Rattle.spitfire_app.proofs.DamageLaws.{damaged_causes, damaged_complete, unsound}
@@ -20,15 +21,15 @@ runs_of g c told =
     let told_mid : IsTrue (g.W.Devices.standing c.open.new.world).told = subst IsTrue (sym c.open.ensures.goes.told) told in
     record {
       goes = c.run_script.ensures.goes;
-      safe = λ aim s owes. c.run_script.ensures.safe aim s told_mid owes;
-      ends = λ aim s owes is. c.run_script.ensures.ends aim s told_mid owes is;
+      safe = λ s sure shows steady. c.run_script.ensures.safe s sure told_mid shows steady;
+      ends = λ s sure shows steady is. c.run_script.ensures.ends s sure told_mid shows steady is;
       stands = c.run_script.ensures.ready;
       read = λ is. c.run_script.ensures.read told_mid is;
     }
 
 pub returns-in-Ok-clause-causes : goal.returns-in-Ok-clause-causes
 returns-in-Ok-clause-causes g c =
-    script_causes (g.W.Devices.standing c.args.world.now) (g.W.Devices.standing c.open.new.world) c.open.ensures.goes c.in-Ok.engine c.in-Ok.ensures.opens (λ told sizes T holds. c.in-Ok.ensures.shows told sizes T holds) c.in-Ok.ensures.rests
+    script_causes (g.W.Devices.standing c.args.world.now) (g.W.Devices.standing c.open.new.world) (g.met.W.World.timed c.args.world.now) c.open.ensures.goes c.in-Ok.engine c.in-Ok.ensures.opens (λ told sizes T holds. c.in-Ok.ensures.shows told sizes T holds) c.in-Ok.ensures.rests
     c.run_script.new.engine (g.W.Devices.standing c.run_script.new.world) c.run_script.ensures.goes c.run_script.result c.run_script.ensures.causes c.run_script.ensures.read
 
 pub returns-in-Ok-clause-replies : goal.returns-in-Ok-clause-replies
@@ -45,7 +46,7 @@ returns-in-Ok-clause-survives g c = λ sizes T told order.
 
 pub returns-in-Ok-clause-complete : goal.returns-in-Ok-clause-complete
 returns-in-Ok-clause-complete g c = λ sizes T store holds few none.
-    inl (script_complete (g.W.Devices.standing c.args.world.now) (g.W.Devices.standing c.open.new.world) c.open.ensures.goes c.in-Ok.engine c.in-Ok.ensures.opens (λ told sizes T holds. c.in-Ok.ensures.shows told sizes T holds) c.in-Ok.ensures.rests
+    inl (script_complete (g.W.Devices.standing c.args.world.now) (g.W.Devices.standing c.open.new.world) (g.met.W.World.timed c.args.world.now) c.open.ensures.goes c.in-Ok.engine c.in-Ok.ensures.opens (λ told sizes T holds. c.in-Ok.ensures.shows told sizes T holds) c.in-Ok.ensures.rests
     c.run_script.new.engine (g.W.Devices.standing c.run_script.new.world) c.run_script.ensures.goes c.run_script.result c.run_script.ensures.causes c.run_script.ensures.read store.told sizes T holds few none)
 
 -- ---- damage
@@ -55,17 +56,17 @@ opening_of g c = subst (λ (x : OpenError). Opens (g.W.Devices.standing c.args.w
 
 pub returns-in-Err-Damaged-clause-causes : goal.returns-in-Err-Damaged-clause-causes
 returns-in-Err-Damaged-clause-causes g c =
-    damaged_causes _ _ c.open.ensures.goes c.in-Err-Damaged.evidence (opening_of g c) _ _
+    damaged_causes _ _ (g.met.W.World.timed c.args.world.now) c.open.ensures.goes c.in-Err-Damaged.evidence (opening_of g c) _ _
     (record { call = c.show_damage.ensures.call; rest = c.show_damage.ensures.rest; known = c.show_damage.ensures.known; sink = c.show_damage.ensures.sink; ends = c.show_damage.ensures.ends })
 
 pub returns-in-Err-Damaged-clause-replies : goal.returns-in-Err-Damaged-clause-replies
-returns-in-Err-Damaged-clause-replies g c = λ sizes T told holds. unsound _ _ c.open.ensures.goes c.in-Err-Damaged.evidence (opening_of g c) told sizes T holds
+returns-in-Err-Damaged-clause-replies g c = λ sizes T told holds. unsound _ _ (g.met.W.World.timed c.args.world.now) c.open.ensures.goes c.in-Err-Damaged.evidence (opening_of g c) told sizes T holds
 
 pub returns-in-Err-Damaged-clause-survives : goal.returns-in-Err-Damaged-clause-survives
-returns-in-Err-Damaged-clause-survives g c = λ sizes T told order. unsound _ _ c.open.ensures.goes c.in-Err-Damaged.evidence (opening_of g c) told sizes T (order_holds sizes T _ _ _ order)
+returns-in-Err-Damaged-clause-survives g c = λ sizes T told order. unsound _ _ (g.met.W.World.timed c.args.world.now) c.open.ensures.goes c.in-Err-Damaged.evidence (opening_of g c) told sizes T (order_holds sizes T _ _ _ order)
 
 pub returns-in-Err-Damaged-clause-complete : goal.returns-in-Err-Damaged-clause-complete
-returns-in-Err-Damaged-clause-complete g c = λ sizes T store holds few none. damaged_complete _ _ c.open.ensures.goes c.in-Err-Damaged.evidence (opening_of g c) store
+returns-in-Err-Damaged-clause-complete g c = λ sizes T store holds few none. damaged_complete _ _ (g.met.W.World.timed c.args.world.now) c.open.ensures.goes c.in-Err-Damaged.evidence (opening_of g c) store
 
 -- ---- a refusal of another kind
 
@@ -140,3 +141,31 @@ returns-in-Err-NoMemory-clause-survives g c = λ sizes T told order. refused_sur
 
 pub returns-in-Err-NoMemory-clause-complete : goal.returns-in-Err-NoMemory-clause-complete
 returns-in-Err-NoMemory-clause-complete g c = λ sizes T store holds few none. complete_as _ _ c.open.ensures.goes c.in-Err-NoMemory.field-0 NoMemory c.in-Err-NoMemory.field-0-is c.in-Err-NoMemory.ensures.opens _ refl store none
+
+-- ---- the settings
+
+pub returns-in-Ok-clause-settings : goal.returns-in-Ok-clause-settings
+returns-in-Ok-clause-settings g c =
+    let opened = none_by_goes c.open.ensures.goes in
+    record { settings = c.run_script.ensures.settings.0 ∙ opened.settings; faults = c.run_script.ensures.settings.1 ∙ opened.faults }
+
+pub returns-in-Err-Damaged-clause-settings : goal.returns-in-Err-Damaged-clause-settings
+returns-in-Err-Damaged-clause-settings g c = none_by_write (none_by_goes c.open.ensures.goes) c.show_damage.ensures.rest
+
+pub returns-in-Err-TooSmall-clause-settings : goal.returns-in-Err-TooSmall-clause-settings
+returns-in-Err-TooSmall-clause-settings g c = none_by_goes c.open.ensures.goes
+
+pub returns-in-Err-Nvm-clause-settings : goal.returns-in-Err-Nvm-clause-settings
+returns-in-Err-Nvm-clause-settings g c = none_by_goes c.open.ensures.goes
+
+pub returns-in-Err-Ssd-clause-settings : goal.returns-in-Err-Ssd-clause-settings
+returns-in-Err-Ssd-clause-settings g c = none_by_goes c.open.ensures.goes
+
+pub returns-in-Err-NotAStore-clause-settings : goal.returns-in-Err-NotAStore-clause-settings
+returns-in-Err-NotAStore-clause-settings g c = none_by_goes c.open.ensures.goes
+
+pub returns-in-Err-LogEnded-clause-settings : goal.returns-in-Err-LogEnded-clause-settings
+returns-in-Err-LogEnded-clause-settings g c = none_by_goes c.open.ensures.goes
+
+pub returns-in-Err-NoMemory-clause-settings : goal.returns-in-Err-NoMemory-clause-settings
+returns-in-Err-NoMemory-clause-settings g c = none_by_goes c.open.ensures.goes

@@ -1,3 +1,4 @@
+use Rattle.table_catalog.proofs.ReadsLaws.{stop_never}
 use Rattle.std.proofs.Common.{◌≡◌, sym, ap, ◌∙◌, arith}
 use Rattle.line_pages.specs.Bytes.{line_at}
 use Rattle.table_catalog.specs.Catalog.{entry_in as entry_of_line, lines_in}
@@ -26,3 +27,6 @@ returns-in-Ok-clause-fails g c =
       shown = c.evidence_of.ensures;
       first = odd_entry c.args.limits.now count shown c.args.header.now c.args.at (entry_of_line c.args.entry.now) header c.requires.fits c.requires.at (ap entry_of_line (sym c.keep_line.ensures.line)) c.requires.fails;
     }
+
+pub returns-in-Err-clause-reads : goal.returns-in-Err-clause-reads
+returns-in-Err-clause-reads g c = stop_never _ (g.P.Pages.standing c.args.pages.now) (g.P.Pages.standing c.copy_catalog.new.pages) c.in-Err.stop c.in-Err.ensures.cause.failed

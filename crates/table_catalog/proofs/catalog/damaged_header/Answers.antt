@@ -1,3 +1,4 @@
+use Rattle.table_catalog.proofs.ReadsLaws.{stop_never}
 use Rattle.std.proofs.Common.{sym}
 use Rattle.table_catalog.specs.Catalog.{lines_in}
 use Rattle.table_catalog.proofs.CatalogLaws.{odd_header}
@@ -24,3 +25,6 @@ returns-in-Ok-clause-fails g c =
       shown = c.evidence_of.ensures;
       first = odd_header c.args.limits.now count shown c.args.header.now c.args.check (sym c.in-Ok.ensures.header) c.requires.fails;
     }
+
+pub returns-in-Err-clause-reads : goal.returns-in-Err-clause-reads
+returns-in-Err-clause-reads g c = stop_never _ (g.P.Pages.standing c.args.pages.now) (g.P.Pages.standing c.copy_catalog.new.pages) c.in-Err.stop c.in-Err.ensures.cause.failed

@@ -1,15 +1,14 @@
 -- So far no entry has the name, by reads of page 0 alone.
 use Rattle.std.proofs.Common.{◌≡◌, ◌+◌, ◌-◌, ◌≤◌, ◌++◌, IsTrue}
-use Rattle.line_pages.specs.Standing.{Continues, ReadsPage}
-use Rattle.page_space.specs.Space.{word}
+use Rattle.line_pages.specs.PagesCall.{PagesCalls}
+use Rattle.line_pages.specs.Standing.{ReadsPage}
+use Rattle.page_alloc.specs.Space.{word}
 use Rattle.table_catalog.specs.Catalog.{entries, entries_from, place_of, entry_touches}
 use Rattle.table_catalog.proofs.catalog.search.Given as goal
 
 abbrev pub invariant-loop-at : goal.invariant-loop-at
 invariant-loop-at g l = record {
-  ready : g.P.Pages.is_ready l.pages;
-  steady : g.P.Pages.is_steady l.fn.pages → g.P.Pages.is_steady l.pages;
-  continues : Continues (g.P.Pages.may_leave l.fn.pages) (g.P.Pages.may_leave l.pages) (g.P.Pages.is_steady l.fn.pages) (g.P.Pages.standing l.fn.pages) (g.P.Pages.standing l.pages);
+  call : PagesCalls g.P.Pages l.fn.pages l.pages;
   reads : ReadsPage 0 (g.P.Pages.standing l.fn.pages) (g.P.Pages.standing l.pages);
   again : (g.P.Pages.standing l.pages).visits ≤ (g.P.Pages.standing l.fn.pages).visits;
   nvm_kept : (g.P.Pages.standing l.pages).nvm_faults ≡ (g.P.Pages.standing l.fn.pages).nvm_faults;

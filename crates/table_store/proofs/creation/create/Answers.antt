@@ -1,7 +1,7 @@
 use Rattle.std.proofs.Common.{◌≡◌, IsTrue, None, IfOk, rules, sym, subst}
 use Rattle.line_pages.specs.Lines.{Lines}
 use Rattle.table_catalog.specs.Catalog.{entries, table_count, tables, place_of}
-use Rattle.slotted_page.specs.Search.{Keeps}
+use Rattle.page_format.specs.Search.{Keeps}
 use Rattle.table_store.specs.Created.{created_of, FailsCreate}
 use Rattle.table_store.proofs.FailsLaws.{create_by_catalog, create_by_space}
 use Rattle.table_store.proofs.CreateLaws.{present_by}
@@ -19,7 +19,7 @@ pub returns-in-Some-clause-fails : goal.returns-in-Some-clause-fails
 returns-in-Some-clause-fails g c =
     let old = g.P.Pages.standing c.args.pages.now in
     let now = g.P.Pages.standing c.find_slot.new.pages in
-    create_by_space c.args.limits.now old.count now.count c.create_at.new.work.page c.create_at.result c.in_ok-find_slot.ensures.continues.count c.create_at.ensures.fails
+    create_by_space c.args.limits.now old.count now.count c.create_at.new.work.page c.create_at.result c.in_ok-find_slot.ensures.call.continues.count c.create_at.ensures.fails
 
 pub returns-in-None-clause-lines : goal.returns-in-None-clause-lines
 returns-in-None-clause-lines g c = λ told.
@@ -29,7 +29,7 @@ pub returns-in-Some-clause-lines : goal.returns-in-Some-clause-lines
 returns-in-Some-clause-lines g c = λ told.
     let old = g.P.Pages.standing c.args.pages.now in
     let mid = g.P.Pages.standing c.find_slot.new.pages in
-    looks_up_on c.args.name.now old mid (g.P.Pages.standing c.create_at.new.pages) c.create_at.result (c.in_ok-find_slot.ensures.lines told) c.create_at.ensures.continues.touches
+    looks_up_on c.args.name.now old mid (g.P.Pages.standing c.create_at.new.pages) c.create_at.result (c.in_ok-find_slot.ensures.lines told) c.create_at.ensures.call.continues.touches
 
 pub returns-in-None-clause-known : goal.returns-in-None-clause-known
 returns-in-None-clause-known g c = λ told.
@@ -42,4 +42,4 @@ returns-in-Some-clause-known g c = λ told.
     let found = c.in_ok-find_slot.ensures in
     let slot = rw c.in-Some.is at (found.slot told) in
     subst (λ (all : Lines). c.in-Some.at ≡ table_count all → place_of c.args.name.now 0 (entries all) ≡ None → IfOk c.create_at.result (λ answer. answer ≡ created_of c.args.limits.now c.args.name.now (tables all)))
-    (found.reads.current told) (c.create_at.ensures.known (subst IsTrue (sym found.continues.told) told)) slot.0 slot.1
+    (found.reads.current told) (c.create_at.ensures.known (subst IsTrue (sym found.call.continues.told) told)) slot.0 slot.1

@@ -1,7 +1,5 @@
-use Rattle.line_pages.proofs.StandingLaws.{Continues-trans}
+use Rattle.line_pages.proofs.StandingLaws.{KeepsPages-trans}
 use Rattle.table_store.proofs.creation.write_table.Goals as goal
 
-pub returns-clause-continues : goal.returns-clause-continues
-returns-clause-continues g c =
-    Continues-trans (Continues-trans c.in_ok-header.ensures.continues c.in_ok-header.ensures.steady c.in_ok-write_line.ensures.continues)
-    (λ s. c.in_ok-write_line.ensures.steady (c.in_ok-header.ensures.steady s)) c.write_entry.ensures.continues
+pub returns-clause-call : goal.returns-clause-call
+returns-clause-call g c = KeepsPages-trans (KeepsPages-trans c.in_ok-header.ensures.call c.in_ok-write_line.ensures.call) c.write_entry.ensures.call

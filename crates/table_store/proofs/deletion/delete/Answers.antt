@@ -1,10 +1,10 @@
 use Rattle.std.proofs.Common.{rules, not, ap, refl, sym, ◌∙◌}
 use Rattle.table_catalog.specs.Catalog.{tables}
-use Rattle.table_catalog.specs.Stored.{is_known}
+use Rattle.rows.specs.Tables.{is_known}
 use Rattle.table_store.specs.Deleting.{deleted_of, is_no_table}
 use Rattle.table_store.proofs.CreateLaws.{unknown_by, present_is}
 use Rattle.table_store.proofs.LookupLaws.{named_none, known_some}
-use Rattle.slotted_page.specs.Search.{Keeps}
+use Rattle.page_format.specs.Search.{Keeps}
 use Rattle.table_store.specs.Changed.{FailsChange}
 use Rattle.table_store.proofs.FailsLaws.{change_by_catalog, change_by_tree}
 use Rattle.table_catalog.proofs.TouchesLaws.{looks_up, looks_up_on}
@@ -35,7 +35,7 @@ pub returns-in-Some-clause-fails : goal.returns-in-Some-clause-fails
 returns-in-Some-clause-fails g c =
     let old = g.P.Pages.standing c.args.pages.now in
     let now = g.P.Pages.standing c.find_entry.new.pages in
-    change_by_tree c.args.limits.now old.count now.count c.delete_at.new.work.page c.delete_at.result c.in_ok-find_entry.ensures.continues.count c.delete_at.ensures.fails
+    change_by_tree c.args.limits.now old.count now.count c.delete_at.new.work.page c.delete_at.result c.in_ok-find_entry.ensures.call.continues.count c.delete_at.ensures.fails
 
 pub returns-in-None-clause-lines : goal.returns-in-None-clause-lines
 returns-in-None-clause-lines g c = λ told.
@@ -45,4 +45,4 @@ pub returns-in-Some-clause-lines : goal.returns-in-Some-clause-lines
 returns-in-Some-clause-lines g c = λ told.
     let old = g.P.Pages.standing c.args.pages.now in
     let mid = g.P.Pages.standing c.find_entry.new.pages in
-    looks_up_on c.args.name.now old mid (g.P.Pages.standing c.delete_at.new.pages) c.delete_at.result (c.in_ok-find_entry.ensures.lines told) c.delete_at.ensures.continues.touches
+    looks_up_on c.args.name.now old mid (g.P.Pages.standing c.delete_at.new.pages) c.delete_at.result (c.in_ok-find_entry.ensures.lines told) c.delete_at.ensures.call.continues.touches

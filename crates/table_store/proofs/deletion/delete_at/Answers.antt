@@ -1,12 +1,12 @@
 use Rattle.std.proofs.Common.{◌≡◌, Bool, Result, IfErr, rules, ℕ, List, Some, true, is_some, IsTrue, sym, subst, ◌∙◌}
-use Rattle.slotted_page.specs.Rows.{row_get, row_delete}
+use Rattle.rows.specs.Rows.{row_get, row_delete}
 use Rattle.table_catalog.specs.Catalog.{entries, place_of, entry_rows, entry_pages}
 use Rattle.table_catalog.specs.Stored.{IsStore}
 use Rattle.table_store.specs.Changed.{ChangesTable}
 use Rattle.line_pages.specs.declared.stop.Stop.{Stop}
-use Rattle.page_space.specs.Stops.{IsFault}
+use Rattle.page_alloc.specs.Stops.{IsFault}
 use Rattle.table_store.proofs.RowsLaws.{place_rooted, as_before, is_deleted, is_absent}
-use Rattle.slotted_page.specs.Search.{Keeps}
+use Rattle.page_format.specs.Search.{Keeps}
 use Rattle.bplus_tree.specs.Damage.{FailsTree}
 use Rattle.table_store.proofs.deletion.delete_at.Goals as goal
 
@@ -33,7 +33,7 @@ returns-clause-changed g c = λ told name store is.
     let tree = place_rooted c.args.limits.now old.count old.current store name place is c.requires.fits in
     as_before (λ n all. (name : List ℕ) → IsStore c.args.limits.now n all → place_of name 0 (entries all) ≡ Some place → is_some (row_get c.args.key (entry_rows all place.entry)) ≡ true
     → ChangesTable c.args.limits.now n all (g.P.Pages.standing c.remove_row.new.pages).current name (row_delete c.args.key))
-    old.count now.count old.current now.current found.continues.count (found.keeps.current told) (c.in_ok-remove_row.ensures.changed (subst IsTrue (sym found.continues.told) told)) name store is
+    old.count now.count old.current now.current found.call.continues.count (found.keeps.current told) (c.in_ok-remove_row.ensures.changed (subst IsTrue (sym found.call.continues.told) told)) name store is
     (sym (found.found told (entry_rows old.current place.entry) _ tree) ∙ c.if-not-found.false)
 
 pub returns-in_err-found-clause-sound : goal.returns-in_err-found-clause-sound
@@ -53,12 +53,12 @@ returns-in_err-remove_row-clause-sound g c = λ told name store is.
     let found = c.in_ok-found.ensures in
     let fault : IfErr c.remove_row.result IsFault =
     as_before (λ n all. (name : List ℕ) → IsStore c.args.limits.now n all → place_of name 0 (entries all) ≡ Some place → IfErr c.remove_row.result IsFault)
-    old.count now.count old.current now.current found.continues.count (found.keeps.current told) (c.remove_row.ensures.sound (subst IsTrue (sym found.continues.told) told)) name store is in
+    old.count now.count old.current now.current found.call.continues.count (found.keeps.current told) (c.remove_row.ensures.sound (subst IsTrue (sym found.call.continues.told) told)) name store is in
     let here : IsFault c.in_err-remove_row.field-0.0 = subst (λ (r : Result (Unit {0}) Stop). IfErr r IsFault) c.in_err-remove_row.was fault in
     search (rules, here)
 
 pub returns-in_err-remove_row-clause-fails : goal.returns-in_err-remove_row-clause-fails
 returns-in_err-remove_row-clause-fails g c =
     let here : Keeps (FailsTree (g.P.Pages.standing c.args.pages.now).count c.remove_row.new.work.page) c.in_err-remove_row.field-0.0 =
-    subst (λ (n : ℕ). Keeps (FailsTree n c.remove_row.new.work.page) c.in_err-remove_row.field-0.0) c.in_ok-found.ensures.continues.count c.in_err-remove_row.ensures.fails in
+    subst (λ (n : ℕ). Keeps (FailsTree n c.remove_row.new.work.page) c.in_err-remove_row.field-0.0) c.in_ok-found.ensures.call.continues.count c.in_err-remove_row.ensures.fails in
     search (rules, here)

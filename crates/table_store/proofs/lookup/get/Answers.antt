@@ -1,11 +1,11 @@
 use Rattle.std.proofs.Common.{rules, not, ap, refl, IsTrue, sym, subst, ◌∙◌}
 use Rattle.table_store.proofs.CreateLaws.{unknown_by, present_is}
 use Rattle.table_catalog.specs.Catalog.{tables}
-use Rattle.table_catalog.specs.Stored.{is_known}
+use Rattle.rows.specs.Tables.{is_known}
 use Rattle.table_store.specs.Getting.{is_no_table, got_of, FailsLookup}
 use Rattle.table_store.proofs.LookupLaws.{known_some, named_none, answer_in, sound_in, way_none, way_some}
 use Rattle.table_catalog.proofs.TouchesLaws.{first_on, looks_up, looks_up_on}
-use Rattle.slotted_page.specs.Search.{Keeps}
+use Rattle.page_format.specs.Search.{Keeps}
 use Rattle.table_store.proofs.FailsLaws.{lookup_by_catalog, lookup_by_node}
 use Rattle.table_store.proofs.lookup.get.Goals as goal
 
@@ -23,34 +23,34 @@ returns-in-Some-clause-value g c = λ told.
     let old = g.P.Pages.standing c.args.pages.now in
     let now = g.P.Pages.standing c.find_entry.new.pages in
     let found = c.in_ok-find_entry.ensures in
-    answer_in (got_of c.args.key) c.args.limits.now old.count now.count old.current now.current c.args.name.now c.in-Some.place c.get_in.result found.continues.count (found.reads.current told)
+    answer_in (got_of c.args.key) c.args.limits.now old.count now.count old.current now.current c.args.name.now c.in-Some.place c.get_in.result found.call.continues.count (found.reads.current told)
     (sym (found.place told) ∙ c.in-Some.is) (rw c.in-Some.is at found.fits).entry
-    (rw c.root_of-root.ensures at (c.get_in.ensures.value (subst IsTrue (sym found.continues.told) told)))
+    (rw c.root_of-root.ensures at (c.get_in.ensures.value (subst IsTrue (sym found.call.continues.told) told)))
 
 pub returns-in-Some-clause-sound : goal.returns-in-Some-clause-sound
 returns-in-Some-clause-sound g c = λ told.
     let old = g.P.Pages.standing c.args.pages.now in
     let now = g.P.Pages.standing c.find_entry.new.pages in
     let found = c.in_ok-find_entry.ensures in
-    sound_in c.args.limits.now old.count now.count old.current now.current c.args.name.now c.in-Some.place c.get_in.result found.continues.count (found.reads.current told)
+    sound_in c.args.limits.now old.count now.count old.current now.current c.args.name.now c.in-Some.place c.get_in.result found.call.continues.count (found.reads.current told)
     (sym (found.place told) ∙ c.in-Some.is) (rw c.in-Some.is at found.fits).entry
-    (rw c.root_of-root.ensures at (c.get_in.ensures.sound (subst IsTrue (sym found.continues.told) told)))
+    (rw c.root_of-root.ensures at (c.get_in.ensures.sound (subst IsTrue (sym found.call.continues.told) told)))
 
 pub returns-in-Some-clause-way : goal.returns-in-Some-clause-way
 returns-in-Some-clause-way g c = λ told closed.
     let old = g.P.Pages.standing c.args.pages.now in
     let now = g.P.Pages.standing c.find_entry.new.pages in
     let found = c.in_ok-find_entry.ensures in
-    let told_on = subst IsTrue (sym found.continues.told) told in
+    let told_on = subst IsTrue (sym found.call.continues.told) told in
     way_some c.args.limits.now c.args.name.now c.args.key c.in-Some.place old now (g.P.Pages.standing c.get_in.new.pages) c.get_in.result
-    (sym (found.place told) ∙ c.in-Some.is) (rw c.in-Some.is at found.fits).entry closed found.continues.count (found.reads.current told) found.reads
+    (sym (found.place told) ∙ c.in-Some.is) (rw c.in-Some.is at found.fits).entry closed found.call.continues.count (found.reads.current told) found.reads
     (rw c.root_of-root.ensures at (c.get_in.ensures.way told_on)) (rw c.root_of-root.ensures at (c.get_in.ensures.visits told_on))
 
 pub returns-in-Some-clause-first : goal.returns-in-Some-clause-first
 returns-in-Some-clause-first g c = λ told.
     let old = g.P.Pages.standing c.args.pages.now in
     let mid = g.P.Pages.standing c.find_entry.new.pages in
-    first_on old.touches mid.touches (g.P.Pages.standing c.get_in.new.pages).touches _ _ c.get_in.result (c.in_ok-find_entry.ensures.lines told) c.get_in.ensures.continues.touches
+    first_on old.touches mid.touches (g.P.Pages.standing c.get_in.new.pages).touches _ _ c.get_in.result (c.in_ok-find_entry.ensures.lines told) c.get_in.ensures.call.continues.touches
 
 pub returns-in-None-clause-known : goal.returns-in-None-clause-known
 returns-in-None-clause-known g c = λ told.
@@ -73,7 +73,7 @@ pub returns-in-Some-clause-fails : goal.returns-in-Some-clause-fails
 returns-in-Some-clause-fails g c =
     let old = g.P.Pages.standing c.args.pages.now in
     let now = g.P.Pages.standing c.find_entry.new.pages in
-    lookup_by_node c.args.limits.now old.count now.count c.get_in.new.work.page c.get_in.result c.in_ok-find_entry.ensures.continues.count c.get_in.ensures.fails
+    lookup_by_node c.args.limits.now old.count now.count c.get_in.new.work.page c.get_in.result c.in_ok-find_entry.ensures.call.continues.count c.get_in.ensures.fails
 
 pub returns-in-None-clause-lines : goal.returns-in-None-clause-lines
 returns-in-None-clause-lines g c = λ told.
@@ -83,4 +83,4 @@ pub returns-in-Some-clause-lines : goal.returns-in-Some-clause-lines
 returns-in-Some-clause-lines g c = λ told.
     let old = g.P.Pages.standing c.args.pages.now in
     let mid = g.P.Pages.standing c.find_entry.new.pages in
-    looks_up_on c.args.name.now old mid (g.P.Pages.standing c.get_in.new.pages) c.get_in.result (c.in_ok-find_entry.ensures.lines told) c.get_in.ensures.continues.touches
+    looks_up_on c.args.name.now old mid (g.P.Pages.standing c.get_in.new.pages) c.get_in.result (c.in_ok-find_entry.ensures.lines told) c.get_in.ensures.call.continues.touches

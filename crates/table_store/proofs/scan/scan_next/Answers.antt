@@ -1,11 +1,11 @@
 use Rattle.std.proofs.Common.{rules, not, ap, refl, IsTrue, sym, subst, ◌∙◌}
 use Rattle.table_catalog.specs.Catalog.{tables}
-use Rattle.table_catalog.specs.Stored.{is_known}
+use Rattle.rows.specs.Tables.{is_known}
 use Rattle.table_store.specs.Scanning.{next_of, is_no_table}
 use Rattle.table_store.proofs.CreateLaws.{unknown_by, present_is}
 use Rattle.table_store.proofs.LookupLaws.{known_some, named_none, answer_in, sound_in}
 use Rattle.table_store.proofs.ScanLaws.{scan_none, scan_some}
-use Rattle.slotted_page.specs.Search.{Keeps}
+use Rattle.page_format.specs.Search.{Keeps}
 use Rattle.table_store.specs.Getting.{FailsLookup}
 use Rattle.table_store.proofs.FailsLaws.{lookup_by_catalog, lookup_by_node}
 use Rattle.table_catalog.proofs.TouchesLaws.{looks_up, looks_up_on}
@@ -24,9 +24,9 @@ returns-in-Some-clause-row g c = λ told.
     let old = g.P.Pages.standing c.args.pages.now in
     let now = g.P.Pages.standing c.find_entry.new.pages in
     let found = c.in_ok-find_entry.ensures in
-    answer_in (next_of c.args.from c.args.to) c.args.limits.now old.count now.count old.current now.current c.args.name.now c.in-Some.place c.next_in.result found.continues.count (found.reads.current told)
+    answer_in (next_of c.args.from c.args.to) c.args.limits.now old.count now.count old.current now.current c.args.name.now c.in-Some.place c.next_in.result found.call.continues.count (found.reads.current told)
     (sym (found.place told) ∙ c.in-Some.is) (rw c.in-Some.is at found.fits).entry
-    (rw c.root_of-root.ensures at (c.next_in.ensures.row (subst IsTrue (sym found.continues.told) told)))
+    (rw c.root_of-root.ensures at (c.next_in.ensures.row (subst IsTrue (sym found.call.continues.told) told)))
 
 pub returns-in-Some-clause-known : goal.returns-in-Some-clause-known
 returns-in-Some-clause-known g c = λ told.
@@ -39,9 +39,9 @@ returns-in-Some-clause-sound g c = λ told.
     let old = g.P.Pages.standing c.args.pages.now in
     let now = g.P.Pages.standing c.find_entry.new.pages in
     let found = c.in_ok-find_entry.ensures in
-    sound_in c.args.limits.now old.count now.count old.current now.current c.args.name.now c.in-Some.place c.next_in.result found.continues.count (found.reads.current told)
+    sound_in c.args.limits.now old.count now.count old.current now.current c.args.name.now c.in-Some.place c.next_in.result found.call.continues.count (found.reads.current told)
     (sym (found.place told) ∙ c.in-Some.is) (rw c.in-Some.is at found.fits).entry
-    (rw c.root_of-root.ensures at (c.next_in.ensures.sound (subst IsTrue (sym found.continues.told) told)))
+    (rw c.root_of-root.ensures at (c.next_in.ensures.sound (subst IsTrue (sym found.call.continues.told) told)))
 
 pub returns-in-None-clause-touches : goal.returns-in-None-clause-touches
 returns-in-None-clause-touches g c = λ told closed store.
@@ -53,8 +53,8 @@ returns-in-Some-clause-touches g c = λ told closed.
     let now = g.P.Pages.standing c.find_entry.new.pages in
     let found = c.in_ok-find_entry.ensures in
     scan_some c.args.limits.now c.args.name.now c.in-Some.place old now (g.P.Pages.standing c.next_in.new.pages) c.next_in.result
-    (sym (found.place told) ∙ c.in-Some.is) (rw c.in-Some.is at found.fits).entry closed found.continues.count (found.reads.current told) found.reads
-    (rw c.root_of-root.ensures at (c.next_in.ensures.touches (subst IsTrue (sym found.continues.told) told)))
+    (sym (found.place told) ∙ c.in-Some.is) (rw c.in-Some.is at found.fits).entry closed found.call.continues.count (found.reads.current told) found.reads
+    (rw c.root_of-root.ensures at (c.next_in.ensures.touches (subst IsTrue (sym found.call.continues.told) told)))
 
 pub returns-in_err-find_entry-clause-fails : goal.returns-in_err-find_entry-clause-fails
 returns-in_err-find_entry-clause-fails g c =
@@ -67,7 +67,7 @@ pub returns-in-Some-clause-fails : goal.returns-in-Some-clause-fails
 returns-in-Some-clause-fails g c =
     let old = g.P.Pages.standing c.args.pages.now in
     let now = g.P.Pages.standing c.find_entry.new.pages in
-    lookup_by_node c.args.limits.now old.count now.count c.next_in.new.work.page c.next_in.result c.in_ok-find_entry.ensures.continues.count c.next_in.ensures.fails
+    lookup_by_node c.args.limits.now old.count now.count c.next_in.new.work.page c.next_in.result c.in_ok-find_entry.ensures.call.continues.count c.next_in.ensures.fails
 
 pub returns-in-None-clause-lines : goal.returns-in-None-clause-lines
 returns-in-None-clause-lines g c = λ told.
@@ -77,4 +77,4 @@ pub returns-in-Some-clause-lines : goal.returns-in-Some-clause-lines
 returns-in-Some-clause-lines g c = λ told.
     let old = g.P.Pages.standing c.args.pages.now in
     let mid = g.P.Pages.standing c.find_entry.new.pages in
-    looks_up_on c.args.name.now old mid (g.P.Pages.standing c.next_in.new.pages) c.next_in.result (c.in_ok-find_entry.ensures.lines told) c.next_in.ensures.continues.touches
+    looks_up_on c.args.name.now old mid (g.P.Pages.standing c.next_in.new.pages) c.next_in.result (c.in_ok-find_entry.ensures.lines told) c.next_in.ensures.call.continues.touches

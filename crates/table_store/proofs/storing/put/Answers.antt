@@ -1,14 +1,14 @@
 use Rattle.std.proofs.Common.{rules, not, ap, refl, length, IsTrue, sym, subst, ◌∙◌}
 use Rattle.table_catalog.specs.Catalog.{tables}
-use Rattle.table_catalog.specs.Stored.{is_known}
+use Rattle.rows.specs.Tables.{is_known}
 use Rattle.table_store.specs.Putting.{stored_of, is_no_table}
 use Rattle.table_store.proofs.CreateLaws.{unknown_by, present_is}
 use Rattle.table_store.proofs.LookupLaws.{named_none, known_some}
-use Rattle.slotted_page.specs.Search.{Keeps}
+use Rattle.page_format.specs.Search.{Keeps}
 use Rattle.table_store.specs.Changed.{FailsChange}
 use Rattle.table_store.proofs.FailsLaws.{change_by_catalog, change_by_tree}
 use Rattle.table_catalog.proofs.TouchesLaws.{looks_up, looks_up_on}
-use Rattle.page_space.proofs.TouchedLaws.{nothing_read}
+use Rattle.page_alloc.proofs.TouchedLaws.{nothing_read}
 use Rattle.table_store.proofs.RecordLaws.{again_named}
 use Rattle.table_store.proofs.storing.put.Goals as goal
 
@@ -37,7 +37,7 @@ pub returns-in-Some-clause-fails : goal.returns-in-Some-clause-fails
 returns-in-Some-clause-fails g c =
     let old = g.P.Pages.standing c.args.pages.now in
     let now = g.P.Pages.standing c.find_entry.new.pages in
-    change_by_tree c.args.limits.now old.count now.count c.put_at.new.work.page c.put_at.result c.in_ok-find_entry.ensures.continues.count c.put_at.ensures.fails
+    change_by_tree c.args.limits.now old.count now.count c.put_at.new.work.page c.put_at.result c.in_ok-find_entry.ensures.call.continues.count c.put_at.ensures.fails
 
 pub returns-in-None-clause-lines : goal.returns-in-None-clause-lines
 returns-in-None-clause-lines g c = λ told.
@@ -47,7 +47,7 @@ pub returns-in-Some-clause-lines : goal.returns-in-Some-clause-lines
 returns-in-Some-clause-lines g c = λ told.
     let old = g.P.Pages.standing c.args.pages.now in
     let mid = g.P.Pages.standing c.find_entry.new.pages in
-    looks_up_on c.args.name.now old mid (g.P.Pages.standing c.put_at.new.pages) c.put_at.result (c.in_ok-find_entry.ensures.lines told) c.put_at.ensures.continues.touches
+    looks_up_on c.args.name.now old mid (g.P.Pages.standing c.put_at.new.pages) c.put_at.result (c.in_ok-find_entry.ensures.lines told) c.put_at.ensures.call.continues.touches
 
 pub returns-in-None-clause-again : goal.returns-in-None-clause-again
 returns-in-None-clause-again g c = λ told store place is holds. let none = sym (c.in_ok-find_entry.ensures.place told) ∙ c.in-None.is in absurd (cc)
@@ -58,4 +58,4 @@ returns-in-Some-clause-again g c = λ told.
     let mid = g.P.Pages.standing c.find_entry.new.pages in
     let found = c.in_ok-find_entry.ensures in
     again_named c.args.limits.now c.args.name.now c.args.key (length c.args.value.now) c.in-Some.place old mid (g.P.Pages.standing c.put_at.new.pages) c.put_at.result (sym (found.place told) ∙ c.in-Some.is) (rw c.in-Some.is at found.fits)
-    (found.reads.current told) found.continues.count (nothing_read found.reads) (c.put_at.ensures.again (subst IsTrue (sym found.continues.told) told))
+    (found.reads.current told) found.call.continues.count (nothing_read found.reads) (c.put_at.ensures.again (subst IsTrue (sym found.call.continues.told) told))

@@ -1,8 +1,8 @@
 use Rattle.std.proofs.Common.{◌+◌, ◌≤◌, cond, length, Result, IsTrue, IfErr, refl, sym, subst, rules}
 use Rattle.line_pages.specs.declared.stop.Stop.{Stop}
-use Rattle.page_space.specs.Stops.{IsFault}
-use Rattle.slotted_page.specs.Rows.{row_put}
-use Rattle.line_pages.proofs.StandingLaws.{Continues-trans}
+use Rattle.page_alloc.specs.Stops.{IsFault}
+use Rattle.rows.specs.Rows.{row_put}
+use Rattle.line_pages.proofs.StandingLaws.{KeepsPages-trans}
 use Rattle.table_store.proofs.RowsLaws.{rows_put, few_after, sound_put}
 use Rattle.table_store.proofs.PlaceLaws.{stepped_unless}
 use Rattle.bplus_tree.specs.Damage.{FailsTree}
@@ -17,12 +17,12 @@ returns-clause-changed g c = λ told name store is found.
     let place = c.args.place.now in
     let put = c.in_ok-put_row.ensures in
     stepped_unless c.args.limits.now old.count old.current mid.current (g.P.Pages.standing c.update_place.new.pages).current name place c.put_row.new.root c.rows_after-rows.result (row_put c.args.key c.args.value.now) c.update_place.result
-    c.requires.fits (rw (c.root_of-root.ensures, c.bytes.ensures.value) at (put.rows told)) (c.update_place.ensures.after (subst IsTrue (sym put.continues.told) told)) store is
+    c.requires.fits (rw (c.root_of-root.ensures, c.bytes.ensures.value) at (put.rows told)) (c.update_place.ensures.after (subst IsTrue (sym put.call.continues.told) told)) store is
     (rows_put c.args.limits.now old.count old.current store name place is c.args.key c.args.value.now c.args.found c.rows_after-rows.result found c.rows_after-rows.ensures)
     (few_after c.args.limits.now.rows c.rows_after-rows.result place.entry.rows c.args.found c.rows_after-rows.ensures c.requires.fits.entry.rows c.requires.left)
 
-pub returns-clause-continues : goal.returns-clause-continues
-returns-clause-continues g c = Continues-trans c.in_ok-put_row.ensures.continues c.in_ok-put_row.ensures.steady c.update_place.ensures.continues
+pub returns-clause-call : goal.returns-clause-call
+returns-clause-call g c = KeepsPages-trans c.in_ok-put_row.ensures.call c.update_place.ensures.call
 
 pub returns-in_err-put_row-clause-sound : goal.returns-in_err-put_row-clause-sound
 returns-in_err-put_row-clause-sound g c = λ told name store is found enough.

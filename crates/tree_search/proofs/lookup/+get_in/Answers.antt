@@ -1,12 +1,12 @@
 use Rattle.std.proofs.Common.{◌≡◌, ◌+◌, ◌*◌, arith, OnOk, Some, slice_get, IsTrue, IfOk, sym, subst}
 use Rattle.line_pages.specs.Lines.{Lines}
 use Rattle.line_pages.specs.Bytes.{bytes_of}
-use Rattle.slotted_page.specs.Rows.{Row}
-use Rattle.slotted_page.specs.Node.{IsWellFormed, leaf_rows}
+use Rattle.rows.specs.Rows.{Row}
+use Rattle.page_format.specs.Node.{IsWellFormed, leaf_rows}
 use Rattle.tree_search.proofs.SearchLaws.{well_formed_top, row_of_spot, found_row, found_gap, found_child, sound_child, way_on, way_end, way_row}
 use Rattle.line_pages.specs.Cost.{Costs}
 use Rattle.line_pages.proofs.CostLaws.{Costs-weaker}
-use Rattle.line_pages.proofs.StandingLaws.{Continues-trans}
+use Rattle.line_pages.proofs.StandingLaws.{KeepsPages-trans}
 use Rattle.page_search.specs.Cost.{search_lines}
 use Rattle.tree_search.proofs.CostLaws.{costs_then, leaf_lines, cost_child}
 use Rattle.tree_search.proofs.lookup.+get_in.Goals as goal
@@ -19,7 +19,7 @@ returns-in-Row-clause-value g t c = λ told tree.
     found_row lines e c.args.page c.args.key c.in-Row.at c.value_at.result well (rw c.in-Row.is at (c.in_ok-at.ensures.spot told well))
     (λ row got.
     subst (λ (all : Lines). IsWellFormed (bytes_of all c.args.page) e → (r : Row) → slice_get (leaf_rows (bytes_of all c.args.page)) c.in-Row.at ≡ Some r → IfOk c.value_at.result (λ value. value ≡ Some r.1))
-    (c.in_ok-at.ensures.reads.current told) (c.value_at.ensures.value (subst IsTrue (sym c.in_ok-at.ensures.continues.told) told)) well row got)
+    (c.in_ok-at.ensures.reads.current told) (c.value_at.ensures.value (subst IsTrue (sym c.in_ok-at.ensures.call.continues.told) told)) well row got)
 
 pub returns-in-Row-clause-way : goal.returns-in-Row-clause-way
 returns-in-Row-clause-way g t c = λ told starts.
@@ -46,7 +46,7 @@ returns-in-Child-clause-value g t c = λ told tree.
     let spot = rw c.in-Child.is at (c.in_ok-at.ensures.spot told (well_formed_top e.pages old.current e.level c.args.page e.low e.high e.root tree)) in
     found_child old.current new.current e c.args.page c.args.key c.in-Child.field-0 c.in-Child.child c.in-Child.low c.in-Child.high c.get_in.result
     (c.in_ok-at.ensures.reads.current told) tree c.requires.above c.requires.within (rw c.in-Child.is at c.in_ok-at.ensures.safe) spot
-    (rw c.child_expect-lower.ensures at (c.get_in.ensures.value (subst IsTrue (sym c.in_ok-at.ensures.continues.told) told)))
+    (rw c.child_expect-lower.ensures at (c.get_in.ensures.value (subst IsTrue (sym c.in_ok-at.ensures.call.continues.told) told)))
 
 pub returns-in-Child-clause-sound : goal.returns-in-Child-clause-sound
 returns-in-Child-clause-sound g t c = λ told tree.
@@ -56,14 +56,14 @@ returns-in-Child-clause-sound g t c = λ told tree.
     let spot = rw c.in-Child.is at (c.in_ok-at.ensures.spot told (well_formed_top e.pages old.current e.level c.args.page e.low e.high e.root tree)) in
     sound_child old.current new.current e c.args.page c.args.key c.in-Child.field-0 c.in-Child.child c.in-Child.low c.in-Child.high c.get_in.result
     (c.in_ok-at.ensures.reads.current told) tree c.requires.above c.requires.within (rw c.in-Child.is at c.in_ok-at.ensures.safe) spot
-    (rw c.child_expect-lower.ensures at (c.get_in.ensures.sound (subst IsTrue (sym c.in_ok-at.ensures.continues.told) told)))
+    (rw c.child_expect-lower.ensures at (c.get_in.ensures.sound (subst IsTrue (sym c.in_ok-at.ensures.call.continues.told) told)))
 
 pub returns-in-Child-clause-way : goal.returns-in-Child-clause-way
 returns-in-Child-clause-way g t c = λ told starts.
     let e = c.args.expect.now in
     let old = g.P.Pages.standing c.args.pages.now in
     let new = g.P.Pages.standing c.find.new.pages in
-    let told_on = subst IsTrue (sym c.in_ok-at.ensures.continues.told) told in
+    let told_on = subst IsTrue (sym c.in_ok-at.ensures.call.continues.told) told in
     way_on e c.args.page c.args.key c.in-Child.field-0 c.in-Child.child c.in-Child.low c.in-Child.high old new (g.P.Pages.standing c.get_in.new.pages) c.get_in.result
     c.requires.above c.requires.within (rw c.in-Child.is at c.in_ok-at.ensures.safe)
     (λ tree. rw c.in-Child.is at (c.in_ok-at.ensures.spot told (well_formed_top e.pages old.current e.level c.args.page e.low e.high e.root tree)))
@@ -81,7 +81,7 @@ returns-in-Row-clause-cost g t c = λ told tree.
     let row = row_of_spot (bytes_of old.current c.args.page) e c.args.key c.in-Row.at well spot in
     let read =
     subst (λ (all : Lines). IsWellFormed (bytes_of all c.args.page) e → (r : Row) → slice_get (leaf_rows (bytes_of all c.args.page)) c.in-Row.at ≡ Some r → OnOk c.value_at.result (Costs 11 mid new))
-    (c.in_ok-at.ensures.reads.current told) (c.value_at.ensures.cost (subst IsTrue (sym c.in_ok-at.ensures.continues.told) told)) in
+    (c.in_ok-at.ensures.reads.current told) (c.value_at.ensures.cost (subst IsTrue (sym c.in_ok-at.ensures.call.continues.told) told)) in
     costs_then (search_lines e.level) 11 (10 * e.level + 39) old mid new c.value_at.result (omega (arith, leaf_lines e.level spot.0)) (c.in_ok-at.ensures.cost told well) (read well row.0 row.1)
 
 pub returns-in-Gap-clause-cost : goal.returns-in-Gap-clause-cost
@@ -100,10 +100,10 @@ returns-in-Child-clause-cost g t c = λ told tree.
     let spot = rw c.in-Child.is at (c.in_ok-at.ensures.spot told well) in
     cost_child e c.args.page c.args.key c.in-Child.field-0 c.in-Child.child c.in-Child.low c.in-Child.high old mid (g.P.Pages.standing c.get_in.new.pages) c.get_in.result
     (c.in_ok-at.ensures.reads.current told) tree c.requires.above c.requires.within (rw c.in-Child.is at c.in_ok-at.ensures.safe) spot (c.in_ok-at.ensures.cost told well)
-    (rw c.child_expect-lower.ensures at (c.get_in.ensures.cost (subst IsTrue (sym c.in_ok-at.ensures.continues.told) told)))
+    (rw c.child_expect-lower.ensures at (c.get_in.ensures.cost (subst IsTrue (sym c.in_ok-at.ensures.call.continues.told) told)))
 
-pub returns-in-Row-clause-continues : goal.returns-in-Row-clause-continues
-returns-in-Row-clause-continues g t c = Continues-trans {steady_between = g.P.Pages.is_steady c.find.new.pages} c.in_ok-at.ensures.continues c.in_ok-at.ensures.steady c.value_at.ensures.continues
+pub returns-in-Row-clause-call : goal.returns-in-Row-clause-call
+returns-in-Row-clause-call g t c = KeepsPages-trans c.in_ok-at.ensures.call c.value_at.ensures.call
 
-pub returns-in-Child-clause-continues : goal.returns-in-Child-clause-continues
-returns-in-Child-clause-continues g t c = Continues-trans {steady_between = g.P.Pages.is_steady c.find.new.pages} c.in_ok-at.ensures.continues c.in_ok-at.ensures.steady c.get_in.ensures.continues
+pub returns-in-Child-clause-call : goal.returns-in-Child-clause-call
+returns-in-Child-clause-call g t c = KeepsPages-trans c.in_ok-at.ensures.call c.get_in.ensures.call

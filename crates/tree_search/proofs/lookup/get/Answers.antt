@@ -1,5 +1,5 @@
 use Rattle.std.proofs.Common.{◌≡◌, ℕ, ◌+◌, ◌-◌, ◌≤◌, arith, Result, Ok, Err, OnOk, subst}
-use Rattle.slotted_page.specs.declared.root.Expect.{Expect}
+use Rattle.page_format.specs.declared.root.Expect.{Expect}
 use Rattle.tree_search.proofs.SearchLaws.{way_visits}
 use Rattle.tree_search.proofs.CostLaws.{cost_rooted}
 use Rattle.tree_search.proofs.lookup.get.Goals as goal

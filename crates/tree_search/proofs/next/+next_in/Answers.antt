@@ -1,14 +1,14 @@
 use Rattle.std.proofs.Common.{rules, slice_get, ◌≡◌, ◌+◌, ◌-◌, ◌≤◌, ℕ, Option, Some, None, IsTrue, IfOk, IfErr, arith, sym, subst, ap, ◌∙◌}
 use Rattle.line_pages.specs.Lines.{Lines}
 use Rattle.line_pages.specs.Bytes.{bytes_of}
-use Rattle.slotted_page.specs.declared.root.Expect.{Expect}
-use Rattle.slotted_page.specs.Rows.{Row, row_next}
-use Rattle.slotted_page.specs.Node.{leaf_rows, children, IsWellFormed}
-use Rattle.slotted_page.proofs.PageFacts.{leaf_facts}
+use Rattle.page_format.specs.declared.root.Expect.{Expect}
+use Rattle.rows.specs.Rows.{Row, row_next}
+use Rattle.page_format.specs.Node.{leaf_rows, children, IsWellFormed}
+use Rattle.page_format.proofs.PageFacts.{leaf_facts}
 use Rattle.tree_search.specs.Tree.{IsTree, tree_rows}
-use Rattle.page_space.specs.Stops.{IsFault}
+use Rattle.page_alloc.specs.Stops.{IsFault}
 use Rattle.line_pages.specs.Cost.{Costs}
-use Rattle.line_pages.proofs.StandingLaws.{Continues-trans}
+use Rattle.line_pages.proofs.StandingLaws.{KeepsPages-trans, KeepsPages-stops, KeepsPages-then}
 use Rattle.tree_search.specs.Next.{Reaches, most_visits, lines_for, next_lines, first_lines}
 use Rattle.tree_search.proofs.SearchLaws.{well_formed_top, sound_child}
 use Rattle.tree_search.proofs.NextLaws.{reaches, most_some, most_twice, next_past, next_gap, next_row, after_child, child_answer, some_in_child, none_in_child}
@@ -41,7 +41,7 @@ next_after-returns-in-Child-clause-row g t c = λ told tree reached.
     let safe = rw c.in-Child.is at c.in_ok-child.ensures.safe in
     let spot = rw c.in-Child.is at (c.in_ok-child.ensures.spot told (well_formed_top e.pages old.current e.level c.args.page e.low e.high e.root tree)) in
     after_child e old.current first.current c.args.page c.in-Child.field-0 c.in-Child.child c.in-Child.low c.in-Child.top c.args.high c.next_in.result (c.in_ok-child.ensures.reads.current told) c.requires.level tree reached (omega (arith, c.if-high-expect.false))
-    spot safe.4 safe.5 (rw c.child_expect-lower.ensures at (c.next_in.ensures.row (subst IsTrue (sym c.in_ok-child.ensures.continues.told) told)))
+    spot safe.4 safe.5 (rw c.child_expect-lower.ensures at (c.next_in.ensures.row (subst IsTrue (sym c.in_ok-child.ensures.call.continues.told) told)))
 
 pub next_after-returns-in-Child-clause-sound : goal.next_after-returns-in-Child-clause-sound
 next_after-returns-in-Child-clause-sound g t c = λ told tree.
@@ -51,7 +51,7 @@ next_after-returns-in-Child-clause-sound g t c = λ told tree.
     let spot = rw c.in-Child.is at (c.in_ok-child.ensures.spot told (well_formed_top e.pages old.current e.level c.args.page e.low e.high e.root tree)) in
     sound_child old.current new.current e c.args.page (c.args.high + 1) c.in-Child.field-0 c.in-Child.child c.in-Child.low c.in-Child.top c.next_in.result
     (c.in_ok-child.ensures.reads.current told) tree (omega (arith, c.requires.above)) (omega arith) (rw c.in-Child.is at c.in_ok-child.ensures.safe) spot
-    (rw c.child_expect-lower.ensures at (c.next_in.ensures.sound (subst IsTrue (sym c.in_ok-child.ensures.continues.told) told)))
+    (rw c.child_expect-lower.ensures at (c.next_in.ensures.sound (subst IsTrue (sym c.in_ok-child.ensures.call.continues.told) told)))
 
 pub next_in-returns-in_err-row-in-Child-clause-sound : goal.next_in-returns-in_err-row-in-Child-clause-sound
 next_in-returns-in_err-row-in-Child-clause-sound g t c = λ told tree.
@@ -60,7 +60,7 @@ next_in-returns-in_err-row-in-Child-clause-sound g t c = λ told tree.
     let first = g.P.Pages.standing c.find.new.pages in
     let safe = rw c.in-Child.is at c.in_ok-at.ensures.safe in
     let spot = rw c.in-Child.is at (c.in_ok-at.ensures.spot told (well_formed_top e.pages old.current e.level c.args.page e.low e.high e.root tree)) in
-    let told_on = subst IsTrue (sym c.in_ok-at.ensures.continues.told) told in
+    let told_on = subst IsTrue (sym c.in_ok-at.ensures.call.continues.told) told in
     let h : IfErr c.next_in.result IsFault = sound_child old.current first.current e c.args.page c.args.from c.in-Child.field-0 c.in-Child.child c.in-Child.low c.in-Child.high c.next_in.result
     (c.in_ok-at.ensures.reads.current told) tree c.requires.above c.requires.within safe spot (rw c.child_expect-lower.ensures at (c.next_in.ensures.sound told_on)) in
     let k = subst (λ r. IfErr r IsFault) (c.in_err-row-in-Child.was) h in
@@ -80,7 +80,7 @@ next_in-returns-in-Row-clause-row g t c = λ told tree.
     let old = g.P.Pages.standing c.args.pages.now in
     let first = g.P.Pages.standing c.find.new.pages in
     let well = well_formed_top e.pages old.current e.level c.args.page e.low e.high e.root tree in
-    let told_on = subst IsTrue (sym c.in_ok-at.ensures.continues.told) told in
+    let told_on = subst IsTrue (sym c.in_ok-at.ensures.call.continues.told) told in
     let spot = rw c.in-Row.is at (c.in_ok-at.ensures.spot told well) in
     let rows = leaf_rows (bytes_of old.current c.args.page) in
     let reads = subst (λ (lines : Lines). IsWellFormed (bytes_of lines c.args.page) e → IfOk c.row_from.result (λ row. row ≡ slice_get (leaf_rows (bytes_of lines c.args.page)) c.in-Row.at)) (c.in_ok-at.ensures.reads.current told) (c.row_from.ensures.row told_on) well in
@@ -93,7 +93,7 @@ next_in-returns-in-Gap-clause-row g t c = λ told tree.
     let old = g.P.Pages.standing c.args.pages.now in
     let first = g.P.Pages.standing c.find.new.pages in
     let well = well_formed_top e.pages old.current e.level c.args.page e.low e.high e.root tree in
-    let told_on = subst IsTrue (sym c.in_ok-at.ensures.continues.told) told in
+    let told_on = subst IsTrue (sym c.in_ok-at.ensures.call.continues.told) told in
     let spot = rw c.in-Gap.is at (c.in_ok-at.ensures.spot told well) in
     let rows = leaf_rows (bytes_of old.current c.args.page) in
     let reads = subst (λ (lines : Lines). IsWellFormed (bytes_of lines c.args.page) e → IfOk c.row_from-in-Gap.result (λ row. row ≡ slice_get (leaf_rows (bytes_of lines c.args.page)) c.in-Gap.at)) (c.in_ok-at.ensures.reads.current told) (c.row_from-in-Gap.ensures.row told_on) well in
@@ -107,7 +107,7 @@ next_in-returns-in-Some-clause-row g t c = λ told tree.
     let first = g.P.Pages.standing c.find.new.pages in
     let safe = rw c.in-Child.is at c.in_ok-at.ensures.safe in
     let spot = rw c.in-Child.is at (c.in_ok-at.ensures.spot told (well_formed_top e.pages old.current e.level c.args.page e.low e.high e.root tree)) in
-    let told_on = subst IsTrue (sym c.in_ok-at.ensures.continues.told) told in
+    let told_on = subst IsTrue (sym c.in_ok-at.ensures.call.continues.told) told in
     let answer = subst (λ (x : Expect). IsTree x.pages first.current x.level c.in-Child.child x.low x.high x.root → Some c.in-Some.row ≡ row_next c.args.from (tree_rows first.current x.level c.in-Child.child)) c.child_expect-lower.ensures
     (rw c.in-Some.is at (c.in_ok-row-in-Child.ensures.row told_on)) in
     some_in_child e old.current c.args.page c.in-Child.field-0 c.in-Child.child c.in-Child.low c.in-Child.high c.args.from c.in-Some.row safe.0 tree spot safe.4 safe.5
@@ -128,9 +128,9 @@ next_in-returns-in-None-clause-row g t c = λ told tree.
     let first = g.P.Pages.standing c.find.new.pages in
     let safe = rw c.in-Child.is at c.in_ok-at.ensures.safe in
     let spot = rw c.in-Child.is at (c.in_ok-at.ensures.spot told (well_formed_top e.pages old.current e.level c.args.page e.low e.high e.root tree)) in
-    let told_on = subst IsTrue (sym c.in_ok-at.ensures.continues.told) told in
+    let told_on = subst IsTrue (sym c.in_ok-at.ensures.call.continues.told) told in
     let mid = g.P.Pages.standing c.next_in.new.pages in
-    let told_mid = subst IsTrue (sym c.in_ok-row-in-Child.ensures.continues.told) told_on in
+    let told_mid = subst IsTrue (sym c.in_ok-row-in-Child.ensures.call.continues.told) told_on in
     let same = c.in_ok-at.ensures.reads.current told in
     let same_mid = c.in_ok-row-in-Child.ensures.keeps.current told_on ∙ same in
     let answer = subst (λ (x : Expect). IsTree x.pages first.current x.level c.in-Child.child x.low x.high x.root → None ≡ row_next c.args.from (tree_rows first.current x.level c.in-Child.child)) c.child_expect-lower.ensures
@@ -154,7 +154,7 @@ next_after-returns-in-Child-clause-touches g t c = λ told tree.
     let new = g.P.Pages.standing c.next_in.new.pages in
     let safe = rw c.in-Child.is at c.in_ok-child.ensures.safe in
     let spot = rw c.in-Child.is at (c.in_ok-child.ensures.spot told (well_formed_top e.pages old.current e.level c.args.page e.low e.high e.root tree)) in
-    let told_on = subst IsTrue (sym c.in_ok-child.ensures.continues.told) told in
+    let told_on = subst IsTrue (sym c.in_ok-child.ensures.call.continues.told) told in
     let below = child_tree e old.current first.current c.args.page c.in-Child.field-0 c.in-Child.child c.in-Child.low c.in-Child.top (c.in_ok-child.ensures.reads.current told) safe.0 tree spot in
     reads_child c.args.page c.in-Child.field-0 c.in-Child.child c.in-Child.low c.in-Child.top e.high e.level old first new c.next_in.result safe.0 (c.in_ok-child.ensures.reads.current told) spot c.in_ok-child.ensures.reads
     (rw c.child_expect-lower.ensures at (c.next_in.ensures.touches told_on) below)
@@ -181,7 +181,7 @@ next_in-returns-in-Some-clause-touches g t c = λ told tree.
     let new = g.P.Pages.standing c.next_in.new.pages in
     let safe = rw c.in-Child.is at c.in_ok-at.ensures.safe in
     let spot = rw c.in-Child.is at (c.in_ok-at.ensures.spot told (well_formed_top e.pages old.current e.level c.args.page e.low e.high e.root tree)) in
-    let told_on = subst IsTrue (sym c.in_ok-at.ensures.continues.told) told in
+    let told_on = subst IsTrue (sym c.in_ok-at.ensures.call.continues.told) told in
     let same = c.in_ok-at.ensures.reads.current told in
     let below = child_tree e old.current first.current c.args.page c.in-Child.field-0 c.in-Child.child c.in-Child.low c.in-Child.high same safe.0 tree spot in
     reads_under c.args.page c.in-Child.field-0 c.in-Child.child c.in-Child.low c.in-Child.high e.high e.level old first new safe.0 same spot c.in_ok-at.ensures.reads
@@ -196,8 +196,8 @@ next_in-returns-in-None-clause-touches g t c = λ told tree.
     let new = g.P.Pages.standing c.next_after.new.pages in
     let safe = rw c.in-Child.is at c.in_ok-at.ensures.safe in
     let spot = rw c.in-Child.is at (c.in_ok-at.ensures.spot told (well_formed_top e.pages old.current e.level c.args.page e.low e.high e.root tree)) in
-    let told_on = subst IsTrue (sym c.in_ok-at.ensures.continues.told) told in
-    let told_mid = subst IsTrue (sym c.in_ok-row-in-Child.ensures.continues.told) told_on in
+    let told_on = subst IsTrue (sym c.in_ok-at.ensures.call.continues.told) told in
+    let told_mid = subst IsTrue (sym c.in_ok-row-in-Child.ensures.call.continues.told) told_on in
     let same = c.in_ok-at.ensures.reads.current told in
     let same_mid = c.in_ok-row-in-Child.ensures.keeps.current told_on ∙ same in
     let below = child_tree e old.current first.current c.args.page c.in-Child.field-0 c.in-Child.child c.in-Child.low c.in-Child.high same safe.0 tree spot in
@@ -214,7 +214,7 @@ next_after-returns-in-Child-clause-cost g t c = λ told tree reached.
     let well = well_formed_top e.pages old.current e.level c.args.page e.low e.high e.root tree in
     let safe = rw c.in-Child.is at c.in_ok-child.ensures.safe in
     let spot = rw c.in-Child.is at (c.in_ok-child.ensures.spot told well) in
-    let told_on = subst IsTrue (sym c.in_ok-child.ensures.continues.told) told in
+    let told_on = subst IsTrue (sym c.in_ok-child.ensures.call.continues.told) told in
     after_costs e c.args.page c.in-Child.field-0 c.in-Child.child c.in-Child.low c.in-Child.top c.args.high old first (g.P.Pages.standing c.next_in.new.pages) c.next_in.result
     (c.in_ok-child.ensures.reads.current told) c.requires.level tree reached (omega (arith, c.if-high-expect.false)) spot safe.4 safe.5 (c.in_ok-child.ensures.cost told well)
     (rw c.child_expect-lower.ensures at (c.next_in.ensures.row told_on)) (rw c.child_expect-lower.ensures at (c.next_in.ensures.first told_on))
@@ -226,7 +226,7 @@ next_in-returns-in-Row-clause-cost g t c = λ told tree.
     let first = g.P.Pages.standing c.find.new.pages in
     let new = g.P.Pages.standing c.row_from.new.pages in
     let well = well_formed_top e.pages old.current e.level c.args.page e.low e.high e.root tree in
-    let told_on = subst IsTrue (sym c.in_ok-at.ensures.continues.told) told in
+    let told_on = subst IsTrue (sym c.in_ok-at.ensures.call.continues.told) told in
     let spot = rw c.in-Row.is at (c.in_ok-at.ensures.spot told well) in
     let row = subst (λ (lines : Lines). IsWellFormed (bytes_of lines c.args.page) e → IfOk c.row_from.result (λ row. Costs (lines_for 1 12 row) first new)) (c.in_ok-at.ensures.reads.current told) (c.row_from.ensures.cost told_on) well in
     next_leaf e.level old first new c.row_from.result spot.0 (c.in_ok-at.ensures.cost told well) row
@@ -238,7 +238,7 @@ next_in-returns-in-Row-clause-first g t c = λ told tree low.
     let first = g.P.Pages.standing c.find.new.pages in
     let new = g.P.Pages.standing c.row_from.new.pages in
     let well = well_formed_top e.pages old.current e.level c.args.page e.low e.high e.root tree in
-    let told_on = subst IsTrue (sym c.in_ok-at.ensures.continues.told) told in
+    let told_on = subst IsTrue (sym c.in_ok-at.ensures.call.continues.told) told in
     let spot = rw c.in-Row.is at (c.in_ok-at.ensures.spot told well) in
     let row = subst (λ (lines : Lines). IsWellFormed (bytes_of lines c.args.page) e → IfOk c.row_from.result (λ row. Costs (lines_for 1 12 row) first new)) (c.in_ok-at.ensures.reads.current told) (c.row_from.ensures.cost told_on) well in
     first_leaf e.level old first new c.row_from.result spot.0 (c.in_ok-at.ensures.cost told well) row
@@ -250,7 +250,7 @@ next_in-returns-in-Gap-clause-cost g t c = λ told tree.
     let first = g.P.Pages.standing c.find.new.pages in
     let new = g.P.Pages.standing c.row_from-in-Gap.new.pages in
     let well = well_formed_top e.pages old.current e.level c.args.page e.low e.high e.root tree in
-    let told_on = subst IsTrue (sym c.in_ok-at.ensures.continues.told) told in
+    let told_on = subst IsTrue (sym c.in_ok-at.ensures.call.continues.told) told in
     let spot = rw c.in-Gap.is at (c.in_ok-at.ensures.spot told well) in
     let row = subst (λ (lines : Lines). IsWellFormed (bytes_of lines c.args.page) e → IfOk c.row_from-in-Gap.result (λ row. Costs (lines_for 1 12 row) first new)) (c.in_ok-at.ensures.reads.current told) (c.row_from-in-Gap.ensures.cost told_on) well in
     next_leaf e.level old first new c.row_from-in-Gap.result spot.0 (c.in_ok-at.ensures.cost told well) row
@@ -262,7 +262,7 @@ next_in-returns-in-Gap-clause-first g t c = λ told tree low.
     let first = g.P.Pages.standing c.find.new.pages in
     let new = g.P.Pages.standing c.row_from-in-Gap.new.pages in
     let well = well_formed_top e.pages old.current e.level c.args.page e.low e.high e.root tree in
-    let told_on = subst IsTrue (sym c.in_ok-at.ensures.continues.told) told in
+    let told_on = subst IsTrue (sym c.in_ok-at.ensures.call.continues.told) told in
     let spot = rw c.in-Gap.is at (c.in_ok-at.ensures.spot told well) in
     let row = subst (λ (lines : Lines). IsWellFormed (bytes_of lines c.args.page) e → IfOk c.row_from-in-Gap.result (λ row. Costs (lines_for 1 12 row) first new)) (c.in_ok-at.ensures.reads.current told) (c.row_from-in-Gap.ensures.cost told_on) well in
     first_leaf e.level old first new c.row_from-in-Gap.result spot.0 (c.in_ok-at.ensures.cost told well) row
@@ -276,7 +276,7 @@ next_in-returns-in-Some-clause-cost g t c = λ told tree.
     let well = well_formed_top e.pages old.current e.level c.args.page e.low e.high e.root tree in
     let safe = rw c.in-Child.is at c.in_ok-at.ensures.safe in
     let spot = rw c.in-Child.is at (c.in_ok-at.ensures.spot told well) in
-    let told_on = subst IsTrue (sym c.in_ok-at.ensures.continues.told) told in
+    let told_on = subst IsTrue (sym c.in_ok-at.ensures.call.continues.told) told in
     let below = child_tree e old.current first.current c.args.page c.in-Child.field-0 c.in-Child.child c.in-Child.low c.in-Child.high (c.in_ok-at.ensures.reads.current told) safe.0 tree spot in
     let lower = subst (λ (x : Expect). IsTree x.pages first.current x.level c.in-Child.child x.low x.high x.root → Costs (next_lines x.level (Some c.in-Some.row)) first new) c.child_expect-lower.ensures
     (rw c.in-Some.is at (c.in_ok-row-in-Child.ensures.cost told_on)) below in
@@ -291,7 +291,7 @@ next_in-returns-in-Some-clause-first g t c = λ told tree low.
     let well = well_formed_top e.pages old.current e.level c.args.page e.low e.high e.root tree in
     let safe = rw c.in-Child.is at c.in_ok-at.ensures.safe in
     let spot = rw c.in-Child.is at (c.in_ok-at.ensures.spot told well) in
-    let told_on = subst IsTrue (sym c.in_ok-at.ensures.continues.told) told in
+    let told_on = subst IsTrue (sym c.in_ok-at.ensures.call.continues.told) told in
     let below = child_tree e old.current first.current c.args.page c.in-Child.field-0 c.in-Child.child c.in-Child.low c.in-Child.high (c.in_ok-at.ensures.reads.current told) safe.0 tree spot in
     let lower = subst (λ (x : Expect). IsTree x.pages first.current x.level c.in-Child.child x.low x.high x.root → c.args.from ≡ x.low → Costs (first_lines x.level) first new) c.child_expect-lower.ensures
     (c.in_ok-row-in-Child.ensures.first told_on) below (omega (arith, low, safe.3, safe.4)) in
@@ -306,10 +306,10 @@ next_in-returns-in-None-clause-cost g t c = λ told tree.
     let well = well_formed_top e.pages old.current e.level c.args.page e.low e.high e.root tree in
     let safe = rw c.in-Child.is at c.in_ok-at.ensures.safe in
     let spot = rw c.in-Child.is at (c.in_ok-at.ensures.spot told well) in
-    let told_on = subst IsTrue (sym c.in_ok-at.ensures.continues.told) told in
+    let told_on = subst IsTrue (sym c.in_ok-at.ensures.call.continues.told) told in
     let below = child_tree e old.current first.current c.args.page c.in-Child.field-0 c.in-Child.child c.in-Child.low c.in-Child.high (c.in_ok-at.ensures.reads.current told) safe.0 tree spot in
     let same = c.in_ok-at.ensures.reads.current told in
-    let told_mid = subst IsTrue (sym c.in_ok-row-in-Child.ensures.continues.told) told_on in
+    let told_mid = subst IsTrue (sym c.in_ok-row-in-Child.ensures.call.continues.told) told_on in
     let same_mid = c.in_ok-row-in-Child.ensures.keeps.current told_on ∙ same in
     let lower = subst (λ (x : Expect). IsTree x.pages first.current x.level c.in-Child.child x.low x.high x.root → Costs (next_lines x.level None) first new) c.child_expect-lower.ensures
     (rw c.in-None.is at (c.in_ok-row-in-Child.ensures.cost told_on)) below in
@@ -327,29 +327,26 @@ next_in-returns-in-None-clause-first g t c = λ told tree low.
     let well = well_formed_top e.pages old.current e.level c.args.page e.low e.high e.root tree in
     let safe = rw c.in-Child.is at c.in_ok-at.ensures.safe in
     let spot = rw c.in-Child.is at (c.in_ok-at.ensures.spot told well) in
-    let told_on = subst IsTrue (sym c.in_ok-at.ensures.continues.told) told in
+    let told_on = subst IsTrue (sym c.in_ok-at.ensures.call.continues.told) told in
     let below = child_tree e old.current first.current c.args.page c.in-Child.field-0 c.in-Child.child c.in-Child.low c.in-Child.high (c.in_ok-at.ensures.reads.current told) safe.0 tree spot in
     let none = subst (λ (x : Expect). IsTree x.pages first.current x.level c.in-Child.child x.low x.high x.root → None ≡ row_next c.args.from (tree_rows first.current x.level c.in-Child.child)) c.child_expect-lower.ensures
     (rw c.in-None.is at (c.in_ok-row-in-Child.ensures.row told_on)) below in
     absurd (first_row e.pages first.current (e.level - 1) c.in-Child.child c.in-Child.low c.in-Child.high c.args.from below (omega (arith, low, safe.3)) (sym none))
 
-pub next_after-returns-in-Child-clause-continues : goal.next_after-returns-in-Child-clause-continues
-next_after-returns-in-Child-clause-continues g t c = Continues-trans {steady_between = g.P.Pages.is_steady c.find.new.pages} c.in_ok-child.ensures.continues c.in_ok-child.ensures.steady c.next_in.ensures.continues
+pub next_after-returns-in-Child-clause-call : goal.next_after-returns-in-Child-clause-call
+next_after-returns-in-Child-clause-call g t c = KeepsPages-trans c.in_ok-child.ensures.call c.next_in.ensures.call
 
-pub next_in-returns-in_err-row-in-Child-clause-continues : goal.next_in-returns-in_err-row-in-Child-clause-continues
-next_in-returns-in_err-row-in-Child-clause-continues g t c = Continues-trans {steady_between = g.P.Pages.is_steady c.find.new.pages} c.in_ok-at.ensures.continues c.in_ok-at.ensures.steady c.next_in.ensures.continues
+pub next_in-returns-in_err-row-in-Child-clause-call : goal.next_in-returns-in_err-row-in-Child-clause-call
+next_in-returns-in_err-row-in-Child-clause-call g t c = KeepsPages-stops _ (search rules) (KeepsPages-trans c.in_ok-at.ensures.call c.in_err-row-in-Child.ensures.call)
 
-pub next_in-returns-in-Row-clause-continues : goal.next_in-returns-in-Row-clause-continues
-next_in-returns-in-Row-clause-continues g t c = Continues-trans {steady_between = g.P.Pages.is_steady c.find.new.pages} c.in_ok-at.ensures.continues c.in_ok-at.ensures.steady c.row_from.ensures.continues
+pub next_in-returns-in-Row-clause-call : goal.next_in-returns-in-Row-clause-call
+next_in-returns-in-Row-clause-call g t c = KeepsPages-trans c.in_ok-at.ensures.call c.row_from.ensures.call
 
-pub next_in-returns-in-Gap-clause-continues : goal.next_in-returns-in-Gap-clause-continues
-next_in-returns-in-Gap-clause-continues g t c = Continues-trans {steady_between = g.P.Pages.is_steady c.find.new.pages} c.in_ok-at.ensures.continues c.in_ok-at.ensures.steady c.row_from-in-Gap.ensures.continues
+pub next_in-returns-in-Gap-clause-call : goal.next_in-returns-in-Gap-clause-call
+next_in-returns-in-Gap-clause-call g t c = KeepsPages-trans c.in_ok-at.ensures.call c.row_from-in-Gap.ensures.call
 
-pub next_in-returns-in-Some-clause-continues : goal.next_in-returns-in-Some-clause-continues
-next_in-returns-in-Some-clause-continues g t c = Continues-trans {steady_between = g.P.Pages.is_steady c.find.new.pages} c.in_ok-at.ensures.continues c.in_ok-at.ensures.steady c.next_in.ensures.continues
+pub next_in-returns-in-Some-clause-call : goal.next_in-returns-in-Some-clause-call
+next_in-returns-in-Some-clause-call g t c = KeepsPages-then c.in_ok-at.ensures.call c.in_ok-row-in-Child.ensures.call
 
-pub next_in-returns-in-None-clause-continues : goal.next_in-returns-in-None-clause-continues
-next_in-returns-in-None-clause-continues g t c =
-    Continues-trans {steady_between = g.P.Pages.is_steady c.next_in.new.pages}
-    (Continues-trans {steady_between = g.P.Pages.is_steady c.find.new.pages} c.in_ok-at.ensures.continues c.in_ok-at.ensures.steady c.next_in.ensures.continues)
-    (λ s. c.in_ok-row-in-Child.ensures.steady (c.in_ok-at.ensures.steady s)) c.next_after.ensures.continues
+pub next_in-returns-in-None-clause-call : goal.next_in-returns-in-None-clause-call
+next_in-returns-in-None-clause-call g t c = KeepsPages-trans (KeepsPages-trans c.in_ok-at.ensures.call c.in_ok-row-in-Child.ensures.call) c.next_after.ensures.call

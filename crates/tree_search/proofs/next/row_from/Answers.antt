@@ -2,9 +2,9 @@ use Rattle.std.proofs.Common.{◌≡◌, [], Option, Some, IsTrue, IfOk, OnOk, s
 use Rattle.std.proofs.lemmas.Option.{slice_get-get_or}
 use Rattle.line_pages.specs.Lines.{Lines}
 use Rattle.line_pages.specs.Bytes.{bytes_of}
-use Rattle.slotted_page.specs.Rows.{Row}
-use Rattle.slotted_page.specs.Node.{leaf_rows, IsWellFormed}
-use Rattle.slotted_page.proofs.SlotLemmas.{length_rows}
+use Rattle.rows.specs.Rows.{Row}
+use Rattle.page_format.specs.Node.{leaf_rows, IsWellFormed}
+use Rattle.page_format.proofs.SlotLemmas.{length_rows}
 use Rattle.page_search.proofs.OpenLaws.{then_reads}
 use Rattle.line_pages.specs.Cost.{Costs}
 use Rattle.tree_search.proofs.NextLaws.{none_at}
@@ -27,7 +27,7 @@ returns-clause-row g c = λ told well.
     let bytes = bytes_of old.current c.args.page in
     let none : Row = (0, []) in
     let is = slice_get-get_or (leaf_rows bytes) c.args.at none (omega (arith, c.if-at-count.false, c.in_ok-count.ensures.value told, length_rows bytes)) in
-    let told_on = subst IsTrue (sym c.in_ok-count.ensures.continues.told) told in
+    let told_on = subst IsTrue (sym c.in_ok-count.ensures.call.continues.told) told in
     let reads = subst (λ (lines : Lines). IsWellFormed (bytes_of lines c.args.page) c.args.expect.now → (r : Row) → slice_get (leaf_rows (bytes_of lines c.args.page)) c.args.at ≡ Some r → IfOk c.row_at.result (λ row. row ≡ Some r))
     (c.in_ok-count.ensures.reads.current told) (c.row_at.ensures.row told_on) in
     subst (λ (o : Option Row). IfOk c.row_at.result (λ row. row ≡ o)) (sym is) (reads well (get_or (leaf_rows bytes) c.args.at none) is)
@@ -43,7 +43,7 @@ returns-clause-cost g c = λ told well.
     let bytes = bytes_of old.current c.args.page in
     let none : Row = (0, []) in
     let is = slice_get-get_or (leaf_rows bytes) c.args.at none (omega (arith, c.if-at-count.false, c.in_ok-count.ensures.value told, length_rows bytes)) in
-    let told_on = subst IsTrue (sym c.in_ok-count.ensures.continues.told) told in
+    let told_on = subst IsTrue (sym c.in_ok-count.ensures.call.continues.told) told in
     let row = subst (λ (lines : Lines). IsWellFormed (bytes_of lines c.args.page) c.args.expect.now → (r : Row) → slice_get (leaf_rows (bytes_of lines c.args.page)) c.args.at ≡ Some r → IfOk c.row_at.result (λ row. row ≡ Some r))
     (c.in_ok-count.ensures.reads.current told) (c.row_at.ensures.row told_on) in
     let read = subst (λ (lines : Lines). IsWellFormed (bytes_of lines c.args.page) c.args.expect.now → (r : Row) → slice_get (leaf_rows (bytes_of lines c.args.page)) c.args.at ≡ Some r → OnOk c.row_at.result (Costs 11 mid new))

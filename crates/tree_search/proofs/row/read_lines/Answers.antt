@@ -1,7 +1,7 @@
 use Rattle.std.proofs.Common.{◌≡◌, ◌+◌, ◌-◌, ◌*◌, IsTrue, arith, refl, ap, sym, subst, ◌∙◌}
 use Rattle.ssd_model.specs.Page.{Same}
 use Rattle.line_pages.specs.Bytes.{bytes_of}
-use Rattle.line_pages.proofs.StandingLaws.{Continues-refl, Continues-trans, ReadsPage-refl, ReadsPage-trans, one_read}
+use Rattle.line_pages.proofs.StandingLaws.{ReadsPage-refl, ReadsPage-trans, one_read, KeepsPages-then, KeepsPages-refl}
 use Rattle.tree_search.proofs.PartLaws.{part_step, part_end, no_more}
 use Rattle.line_pages.specs.Cost.{lines_from}
 use Rattle.line_pages.proofs.CostLaws.{AddsLines-refl, AddsLines-weaker, one_line, lines_then, lines_more}
@@ -12,9 +12,7 @@ loop-line-init g c =
     let old = g.P.Pages.standing c.args.pages.now in
     let none : 0 ≡ c.args.first - c.args.first = omega arith in
     record {
-      ready = c.requires.ready;
-      steady = λ s. s;
-      continues = Continues-refl (g.P.Pages.may_leave c.args.pages.now) (g.P.Pages.is_steady c.args.pages.now) old;
+      call = KeepsPages-refl c.requires.ready;
       reads = ReadsPage-refl c.args.page old c.requires.open;
       lines = AddsLines-refl {Fact = λ lines. lines ≡ lines_from c.args.first (c.args.first - c.args.first)} old (ap (lines_from c.args.first) none);
       from = omega arith;
@@ -33,11 +31,9 @@ loop-line-preserved g c =
     let l = c.loop-line.line in
     let old = g.P.Pages.standing c.args.pages.now in
     let next : l - c.args.first + 1 ≡ l + 1 - c.args.first = omega (arith, before.from) in
-    let more = ReadsPage-trans before.reads (one_read c.in_ok-value.value read.continues.told read.reads) in
+    let more = ReadsPage-trans before.reads (one_read c.in_ok-value.value read.call.continues.told read.reads) in
     record {
-      ready = read.ready;
-      steady = λ steady. read.steady (before.steady steady);
-      continues = Continues-trans before.continues before.steady read.continues;
+      call = KeepsPages-then before.call read.call;
       reads = more;
       lines = AddsLines-weaker (λ x is. is ∙ lines_more c.args.first (l - c.args.first) l (omega (arith, before.from)) ∙ ap (lines_from c.args.first) next) (lines_then before.lines (one_line c.in_ok-value.value read.reads));
       from = omega (arith, before.from);
@@ -49,7 +45,7 @@ loop-line-preserved g c =
       same = λ told.
           subst (Same (64 * c.args.first) (64 * (l + 1)) (bytes_of old.current c.args.page)) (sym c.set_page_line.ensures.bytes)
           (part_step (old.current c.args.page) c.loop-line.into (64 * c.args.first) l c.in_ok-value.value before.size (omega (arith, c.requires.end, c.loop-line-test.true))
-          (read.value (subst IsTrue (sym before.continues.told) told) ∙ ap (λ lines. lines c.args.page l) (before.reads.current told)) (before.same told));
+          (read.value (subst IsTrue (sym before.call.continues.told) told) ∙ ap (λ lines. lines c.args.page l) (before.reads.current told)) (before.same told));
     }
 
 pub returns-clause-bytes : goal.returns-clause-bytes

@@ -1,16 +1,15 @@
 -- So far the lines below are in their place, by reads of this page alone.
 use Rattle.std.proofs.Common.{◌≡◌, ◌-◌, ◌*◌, ◌≤◌, length, IsTrue}
 use Rattle.ssd_model.specs.Page.{Same}
+use Rattle.line_pages.specs.PagesCall.{PagesCalls}
 use Rattle.line_pages.specs.Bytes.{bytes_of}
 use Rattle.line_pages.specs.Cost.{lines_from, AddsLines}
-use Rattle.line_pages.specs.Standing.{Continues, ReadsPage}
+use Rattle.line_pages.specs.Standing.{ReadsPage}
 use Rattle.tree_search.proofs.row.read_lines.Given as goal
 
 abbrev pub invariant-loop-line : goal.invariant-loop-line
 invariant-loop-line g l = record {
-  ready : g.P.Pages.is_ready l.pages;
-  steady : g.P.Pages.is_steady l.fn.pages → g.P.Pages.is_steady l.pages;
-  continues : Continues (g.P.Pages.may_leave l.fn.pages) (g.P.Pages.may_leave l.pages) (g.P.Pages.is_steady l.fn.pages) (g.P.Pages.standing l.fn.pages) (g.P.Pages.standing l.pages);
+  call : PagesCalls g.P.Pages l.fn.pages l.pages;
   reads : ReadsPage l.page (g.P.Pages.standing l.fn.pages) (g.P.Pages.standing l.pages);
   lines : AddsLines (λ lines. lines ≡ lines_from l.first (l.line - l.first)) (g.P.Pages.standing l.fn.pages) (g.P.Pages.standing l.pages);
   from : l.first ≤ l.line;

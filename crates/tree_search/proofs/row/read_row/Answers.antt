@@ -15,7 +15,7 @@ pub returns-clause-lines : goal.returns-clause-lines
 returns-clause-lines g c = λ told below key within.
     let old = g.P.Pages.standing c.args.pages.now in
     let bytes = bytes_of old.current c.args.page in
-    let told_on = subst IsTrue (sym c.in_ok-place.ensures.continues.told) told in
+    let told_on = subst IsTrue (sym c.in_ok-place.ensures.call.continues.told) told in
     let place : c.in_ok-place.place ≡ u16_at bytes (64 + 4 * c.args.at) = c.in_ok-place.ensures.value told in
     let size : c.in_ok-size.size ≡ u16_at bytes (64 + 4 * c.args.at + 2) = c.in_ok-size.ensures.value told_on ∙ ap (λ all. u16_at (bytes_of all c.args.page) (64 + 4 * c.args.at + 2)) (c.in_ok-place.ensures.reads.current told) in
     row_read old (g.P.Pages.standing c.read_half-2.new.pages) (g.P.Pages.standing c.read_record.new.pages) c.read_record.result bytes c.args.at c.in_ok-place.place c.in_ok-size.size place size

@@ -1,4 +1,5 @@
 -- The store's call, as the plain machine sees it.
+use Rattle.flat_transactions.proofs.OpenStoreLaws.{call_sizes}
 use Rattle.engine.proofs.TransactionLaws.{begin_does, begin_replies, does_stopped, fault_is}
 use Rattle.engine.proofs.CauseLaws.{stops_fault}
 use Rattle.engine.proofs.RestLaws.{reads_fault, reads_kept}
@@ -7,7 +8,7 @@ use Rattle.engine.proofs.engine.Engine.begin.Goals as goal
 pub returns-in_err-begin-clause-does : goal.returns-in_err-begin-clause-does
 returns-in_err-begin-clause-does g c =
     does_stopped _ c.args.self.now (g.W.Devices.standing c.args.world.now) (record c.args.self.now { book = c.begin.new.book }) (g.W.Devices.standing c.begin.new.dev) c.from_residual.result c.in_err-begin.field-0.0
-    c.from_residual.ensures c.requires.ready c.in_err-begin.ensures.call.geometry c.in_err-begin.ensures.call.goes c.in_err-begin.ensures.call.during
+    c.from_residual.ensures c.requires.ready (call_sizes c.args.self.now.book (g.W.Devices.standing c.args.world.now) c.begin.new.book (g.W.Devices.standing c.begin.new.dev) c.in_err-begin.ensures.call) c.in_err-begin.ensures.call.goes c.in_err-begin.ensures.call.during
     (λ told s shows. fault_is (g.W.Devices.standing c.args.world.now) (g.W.Devices.standing c.begin.new.dev) c.in_err-begin.field-0.0 c.in_err-begin.ensures.cause.failed)
 
 pub returns-clause-does : goal.returns-clause-does

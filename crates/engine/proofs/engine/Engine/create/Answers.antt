@@ -1,5 +1,5 @@
 use Rattle.std.proofs.Common.{ap, sym, inl, Some, arith, true}
-use Rattle.table_catalog.specs.Stored.{is_known}
+use Rattle.rows.specs.Tables.{is_known}
 use Rattle.script.specs.Machine.{State, current}
 use Rattle.script.specs.declared.command.Command.TheVariants as command
 use Rattle.script.specs.declared.command.Reply.TheVariants as reply

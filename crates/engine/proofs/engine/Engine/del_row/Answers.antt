@@ -1,16 +1,13 @@
 use Rattle.std.proofs.Common.{◌∙◌, ap, rules, Ok, Some, sym}
-use Rattle.devices.specs.World.{now}
-use Rattle.store_meaning.specs.Layout.{pages}
-use Rattle.store_laws.specs.ShownPages.{pages_in}
-use Rattle.transactions.specs.StoreStanding.{book_sizes}
-use Rattle.slotted_page.specs.Rows.{row_delete}
+use Rattle.flat_transactions.specs.OpenStore.{current_lines}
+use Rattle.flat_transactions.specs.Order.{pages}
+use Rattle.rows.specs.Rows.{row_delete}
 use Rattle.script.specs.declared.command.Command.TheVariants as command
 use Rattle.script.specs.declared.command.Reason.TheVariants as reason
 use Rattle.script.specs.declared.command.Reply.TheVariants as reply
 use Rattle.table_store.specs.Changed.{IsChangeDamage}
-use Rattle.engine.specs.Engine.{engine_sizes}
+use Rattle.engine.specs.Engine.{engine_sizes, engine_lines}
 use Rattle.engine.specs.Steps.{after_command}
-use Rattle.engine.proofs.DoesLaws.{pages_geometry}
 use Rattle.engine.proofs.CommandLaws.{on_device, does_fails, does_stays, does_writes, cause_fails_at, fault_is, store_shown}
 use Rattle.engine.proofs.RefusalLaws.{stays_kept}
 use Rattle.engine.proofs.AnswerLaws.{stepped, del_writes, del_holds, del_no_row, del_no_table}
@@ -21,7 +18,7 @@ returns-in_err-delete-clause-does g c =
     let a = g.W.Devices.standing c.args.world.now in
     on_device g.W.Devices.standing (after_command c.args.self.now (Some (command.Del c.args.name.now c.args.key))) c.args.self.now a _ _ c.delete.new.pages.dev.now c.from_residual.result (search rules)
     (does_fails c.args.self.now a (g.W.Devices.standing c.delete.new.pages.dev.now) c.delete.new.pages.book.now c.delete.new.work c.requires.stands
-    (rw (c.over-store.ensures.same.0, c.over-store.ensures.same.1) at c.delete.ensures.continues) (ap (λ x. (g.W.Devices.standing x).clock) c.over-store.ensures.before)
+    (rw (c.over-store.ensures.same.0, c.over-store.ensures.same.1) at c.delete.ensures.call.continues) (ap (λ x. (g.W.Devices.standing x).clock) c.over-store.ensures.before)
     _ c.from_residual.result c.in_err-delete.field-0.0 c.from_residual.ensures
     (λ told s shows. fault_is c.in_err-delete.field-0.0 ((rw (c.over-store.ensures.same.0, c.over-store.ensures.same.1) at c.in_err-delete.ensures.sound) told (store_shown c.args.self.now a s c.requires.stands shows))))
 
@@ -29,10 +26,9 @@ pub returns-in_err-delete-clause-cause : goal.returns-in_err-delete-clause-cause
 returns-in_err-delete-clause-cause g c =
     let a = g.W.Devices.standing c.args.world.now in
     let engine = c.args.self.now in
-    cause_fails_at g.W.Devices.standing _ (λ lines e. IsChangeDamage a.told engine.limits (pages (engine_sizes engine)) (pages_in (engine_sizes engine) (now a)) lines c.delete.new.work.page e) engine.book c.delete.new.pages.book.now a _ c.delete.new.pages.dev.now _ _ _ _ _ _
+    cause_fails_at g.W.Devices.standing _ (λ lines e. IsChangeDamage a.told engine.limits (pages (engine_sizes engine)) (engine_lines engine a) lines c.delete.new.work.page e) engine.book c.delete.new.pages.book.now a _ c.delete.new.pages.dev.now _ _ _ _ _ _
     c.from_residual.result c.in_err-delete.field-0.0 (search rules) c.from_residual.ensures
     (rw c.over-store.ensures.same.0 at c.in_err-delete.ensures.fails)
-    (pages_geometry engine.book c.delete.new.pages.book.now a (g.W.Devices.standing c.delete.new.pages.dev.now) _ _ _ _ _ _ (rw (c.over-store.ensures.same.0, c.over-store.ensures.same.1) at c.delete.ensures.continues) (ap (λ x. (g.W.Devices.standing x).clock) c.over-store.ensures.before))
     (rw (c.over-store.ensures.same.0, c.over-store.ensures.same.1) at c.in_err-delete.ensures.cause)
 
 pub returns-in-Absent-clause-does : goal.returns-in-Absent-clause-does
@@ -40,9 +36,9 @@ returns-in-Absent-clause-does g c =
     let a = g.W.Devices.standing c.args.world.now in
     on_device g.W.Devices.standing (after_command c.args.self.now (Some (command.Del c.args.name.now c.args.key))) c.args.self.now a _ _ c.delete.new.pages.dev.now (Ok reply.Absent) (search rules)
     (does_stays c.args.self.now a (g.W.Devices.standing c.delete.new.pages.dev.now) c.delete.new.pages.book.now c.delete.new.work c.requires.stands
-    (rw (c.over-store.ensures.same.0, c.over-store.ensures.same.1) at c.delete.ensures.continues) (ap (λ x. (g.W.Devices.standing x).clock) c.over-store.ensures.before)
-    c.in_ok-delete.ensures.ready.0 (rw (c.over-store.ensures.same.0, c.over-store.ensures.same.1, c.in-Absent.is) at c.in_ok-delete.ensures.keeps) (after_command c.args.self.now (Some (command.Del c.args.name.now c.args.key))) reply.Absent
-    (rw (c.over-store.ensures.same.0, c.over-store.ensures.same.1) at c.in_ok-delete.ensures.steady)
+    (rw (c.over-store.ensures.same.0, c.over-store.ensures.same.1) at c.delete.ensures.call.continues) (ap (λ x. (g.W.Devices.standing x).clock) c.over-store.ensures.before)
+    c.in_ok-delete.ensures.call.ready.0 (rw (c.over-store.ensures.same.0, c.over-store.ensures.same.1, c.in-Absent.is) at c.in_ok-delete.ensures.keeps) (after_command c.args.self.now (Some (command.Del c.args.name.now c.args.key))) reply.Absent
+    (rw (c.over-store.ensures.same.0, c.over-store.ensures.same.1) at c.in_ok-delete.ensures.call.steady)
     (λ told s shows. ap (λ p. p.0) (del_no_row c.args.self.now a c.requires.stands s shows c.requires.is_open c.requires.more c.args.name.now c.args.key (sym c.in-Absent.is ∙ ((rw (c.over-store.ensures.same.0, c.over-store.ensures.same.1) at c.in_ok-delete.ensures.answer) told (store_shown c.args.self.now a s c.requires.stands shows))))))
 
 pub returns-in-Absent-clause-replies : goal.returns-in-Absent-clause-replies
@@ -55,9 +51,9 @@ returns-in-NoTable-clause-does g c =
     let a = g.W.Devices.standing c.args.world.now in
     on_device g.W.Devices.standing (after_command c.args.self.now (Some (command.Del c.args.name.now c.args.key))) c.args.self.now a _ _ c.delete.new.pages.dev.now (Ok (reply.Refused reason.Table)) (search rules)
     (does_stays c.args.self.now a (g.W.Devices.standing c.delete.new.pages.dev.now) c.delete.new.pages.book.now c.delete.new.work c.requires.stands
-    (rw (c.over-store.ensures.same.0, c.over-store.ensures.same.1) at c.delete.ensures.continues) (ap (λ x. (g.W.Devices.standing x).clock) c.over-store.ensures.before)
-    c.in_ok-delete.ensures.ready.0 (rw (c.over-store.ensures.same.0, c.over-store.ensures.same.1, c.in-NoTable.is) at c.in_ok-delete.ensures.keeps) (after_command c.args.self.now (Some (command.Del c.args.name.now c.args.key))) (reply.Refused reason.Table)
-    (rw (c.over-store.ensures.same.0, c.over-store.ensures.same.1) at c.in_ok-delete.ensures.steady)
+    (rw (c.over-store.ensures.same.0, c.over-store.ensures.same.1) at c.delete.ensures.call.continues) (ap (λ x. (g.W.Devices.standing x).clock) c.over-store.ensures.before)
+    c.in_ok-delete.ensures.call.ready.0 (rw (c.over-store.ensures.same.0, c.over-store.ensures.same.1, c.in-NoTable.is) at c.in_ok-delete.ensures.keeps) (after_command c.args.self.now (Some (command.Del c.args.name.now c.args.key))) (reply.Refused reason.Table)
+    (rw (c.over-store.ensures.same.0, c.over-store.ensures.same.1) at c.in_ok-delete.ensures.call.steady)
     (λ told s shows. ap (λ p. p.0) (del_no_table c.args.self.now a c.requires.stands s shows c.requires.is_open c.requires.more c.args.name.now c.args.key (sym c.in-NoTable.is ∙ ((rw (c.over-store.ensures.same.0, c.over-store.ensures.same.1) at c.in_ok-delete.ensures.answer) told (store_shown c.args.self.now a s c.requires.stands shows))))))
 
 pub returns-in-NoTable-clause-replies : goal.returns-in-NoTable-clause-replies
@@ -70,12 +66,12 @@ returns-in-Done-clause-does g c =
     let a = g.W.Devices.standing c.args.world.now in
     on_device g.W.Devices.standing (after_command c.args.self.now (Some (command.Del c.args.name.now c.args.key))) c.args.self.now a _ _ c.delete.new.pages.dev.now (Ok reply.Fine) (search rules)
     (does_writes c.args.self.now a (g.W.Devices.standing c.delete.new.pages.dev.now) c.delete.new.pages.book.now c.delete.new.work c.requires.stands
-    (rw (c.over-store.ensures.same.0, c.over-store.ensures.same.1) at c.delete.ensures.continues) (ap (λ x. (g.W.Devices.standing x).clock) c.over-store.ensures.before)
-    c.next_write.new.self.book.now c.in_ok-delete.ensures.ready.0 c.requires.is_open c.requires.more c.next_write.ensures.next (rw c.next_write.ensures.device at c.next_write.ensures.ready)
+    (rw (c.over-store.ensures.same.0, c.over-store.ensures.same.1) at c.delete.ensures.call.continues) (ap (λ x. (g.W.Devices.standing x).clock) c.over-store.ensures.before)
+    c.next_write.new.self.book.now c.in_ok-delete.ensures.call.ready.0 c.requires.is_open c.requires.more c.next_write.ensures.next (rw c.next_write.ensures.device at c.next_write.ensures.ready)
     (after_command c.args.self.now (Some (command.Del c.args.name.now c.args.key))) reply.Fine (stepped c.args.name.now (row_delete c.args.key))
-    (λ steady. (rw c.next_write.ensures.device at c.next_write.ensures.steady) ((rw (c.over-store.ensures.same.0, c.over-store.ensures.same.1) at c.in_ok-delete.ensures.steady) steady))
+    (λ steady. (rw c.next_write.ensures.device at c.next_write.ensures.steady) ((rw (c.over-store.ensures.same.0, c.over-store.ensures.same.1) at c.in_ok-delete.ensures.call.steady) steady))
     (λ told s shows. ap (λ p. p.0) (del_writes c.args.self.now a c.requires.stands s shows c.requires.is_open c.requires.more c.args.name.now c.args.key (sym c.in-Done.is ∙ ((rw (c.over-store.ensures.same.0, c.over-store.ensures.same.1) at c.in_ok-delete.ensures.answer) told (store_shown c.args.self.now a s c.requires.stands shows)))))
-    (λ told s shows. del_holds c.args.self.now a c.requires.stands s shows c.requires.is_open c.requires.more c.args.name.now c.args.key (pages_in (book_sizes c.delete.new.pages.book.now) (now (g.W.Devices.standing c.delete.new.pages.dev.now))) (sym c.in-Done.is ∙ ((rw (c.over-store.ensures.same.0, c.over-store.ensures.same.1) at c.in_ok-delete.ensures.answer) told (store_shown c.args.self.now a s c.requires.stands shows))) ((rw (c.over-store.ensures.same.0, c.over-store.ensures.same.1, c.in-Done.is) at c.in_ok-delete.ensures.changed) told (store_shown c.args.self.now a s c.requires.stands shows))))
+    (λ told s shows. del_holds c.args.self.now a c.requires.stands s shows c.requires.is_open c.requires.more c.args.name.now c.args.key (current_lines c.delete.new.pages.book.now (g.W.Devices.standing c.delete.new.pages.dev.now)) (sym c.in-Done.is ∙ ((rw (c.over-store.ensures.same.0, c.over-store.ensures.same.1) at c.in_ok-delete.ensures.answer) told (store_shown c.args.self.now a s c.requires.stands shows))) ((rw (c.over-store.ensures.same.0, c.over-store.ensures.same.1, c.in-Done.is) at c.in_ok-delete.ensures.changed) told (store_shown c.args.self.now a s c.requires.stands shows))))
 
 pub returns-in-Done-clause-replies : goal.returns-in-Done-clause-replies
 returns-in-Done-clause-replies g c = λ told s shows.
@@ -85,5 +81,5 @@ returns-in-Done-clause-replies g c = λ told s shows.
 pub returns-in-NoTable-clause-refused : goal.returns-in-NoTable-clause-refused
 returns-in-NoTable-clause-refused g c =
     stays_kept g.W.Devices.standing c.args.self.now (g.W.Devices.standing c.args.world.now) _ c.delete.new.pages.dev.now c.delete.new.pages.book.now c.delete.new.work (search rules)
-    (rw (c.over-store.ensures.same.0, c.over-store.ensures.same.1) at c.delete.ensures.continues) (ap (λ x. (g.W.Devices.standing x).clock) c.over-store.ensures.before)
+    (rw (c.over-store.ensures.same.0, c.over-store.ensures.same.1) at c.delete.ensures.call.continues) (ap (λ x. (g.W.Devices.standing x).clock) c.over-store.ensures.before)
     (rw (c.over-store.ensures.same.0, c.over-store.ensures.same.1, c.in-NoTable.is) at c.in_ok-delete.ensures.keeps)

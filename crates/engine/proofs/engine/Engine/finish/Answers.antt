@@ -1,6 +1,6 @@
 -- The open access ends, and then an open transaction is aborted.
 use Rattle.engine.specs.Answers.{closed}
-use Rattle.engine.proofs.StepLaws.{does_after_rest, cause_after_rest}
+use Rattle.engine.proofs.StepLaws.{does_after_rest, undoing_after_rest}
 use Rattle.engine.proofs.RestLaws.{reads_after_rest}
 use Rattle.engine.proofs.engine.Engine.finish.Goals as goal
 
@@ -10,7 +10,7 @@ returns-clause-does g c =
 
 pub returns-clause-cause : goal.returns-clause-cause
 returns-clause-cause g c =
-    cause_after_rest c.args.self.now c.rest.new.self c.rest.ensures.same (g.W.Devices.standing c.args.world.now) c.close.new.self (g.W.Devices.standing c.close.new.world) c.close.result c.close.ensures.cause
+    undoing_after_rest c.args.self.now c.rest.new.self c.rest.ensures.same (g.W.Devices.standing c.args.world.now) c.close.new.self (g.W.Devices.standing c.close.new.world) c.close.result c.close.ensures.cause
 
 pub returns-clause-reads : goal.returns-clause-reads
 returns-clause-reads g c =

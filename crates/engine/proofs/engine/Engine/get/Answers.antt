@@ -1,6 +1,6 @@
 use Rattle.std.proofs.Common.{◌∙◌, ap, rules, Ok, Some, List, ◌∷◌, [], sym}
-use Rattle.table_catalog.specs.Catalog.{Table}
-use Rattle.table_catalog.specs.Stored.{rows_of}
+use Rattle.rows.specs.Tables.{Table}
+use Rattle.rows.specs.Tables.{rows_of}
 use Rattle.table_store.specs.Getting.{got_of}
 use Rattle.script.specs.declared.command.Command.TheVariants.{Get}
 use Rattle.script.specs.declared.command.Reply.{Reply}
@@ -18,7 +18,7 @@ returns-in_err-got-clause-does g c =
     let a = g.W.Devices.standing c.args.world.now in
     on_device g.W.Devices.standing (after_command c.args.self.now (Some (Get c.args.name.now c.args.key))) c.args.self.now a _ _ c.get.new.pages.dev.now c.from_residual.result (search rules)
     (does_fails c.args.self.now a (g.W.Devices.standing c.get.new.pages.dev.now) c.get.new.pages.book.now c.get.new.work c.requires
-    (rw (c.over-store.ensures.same.0, c.over-store.ensures.same.1) at c.get.ensures.continues) (ap (λ x. (g.W.Devices.standing x).clock) c.over-store.ensures.before)
+    (rw (c.over-store.ensures.same.0, c.over-store.ensures.same.1) at c.get.ensures.call.continues) (ap (λ x. (g.W.Devices.standing x).clock) c.over-store.ensures.before)
     _ c.from_residual.result c.in_err-got.field-0.0 c.from_residual.ensures
     (λ told s shows. fault_is c.in_err-got.field-0.0 ((rw (c.over-store.ensures.same.0, c.over-store.ensures.same.1) at c.in_err-got.ensures.sound) told (store_shown c.args.self.now a s c.requires shows))))
 
@@ -27,9 +27,9 @@ returns-clause-does g c =
     let a = g.W.Devices.standing c.args.world.now in
     on_device g.W.Devices.standing (after_command c.args.self.now (Some (Get c.args.name.now c.args.key))) c.args.self.now a _ _ c.get.new.pages.dev.now (Ok c.reply_to.result) (search rules)
     (does_stays c.args.self.now a (g.W.Devices.standing c.get.new.pages.dev.now) c.get.new.pages.book.now c.get.new.work c.requires
-    (rw (c.over-store.ensures.same.0, c.over-store.ensures.same.1) at c.get.ensures.continues) (ap (λ x. (g.W.Devices.standing x).clock) c.over-store.ensures.before)
-    c.in_ok-got.ensures.ready.0 (rw (c.over-store.ensures.same.0, c.over-store.ensures.same.1) at c.in_ok-got.ensures.keeps) _ c.reply_to.result
-    (rw (c.over-store.ensures.same.0, c.over-store.ensures.same.1) at c.in_ok-got.ensures.steady)
+    (rw (c.over-store.ensures.same.0, c.over-store.ensures.same.1) at c.get.ensures.call.continues) (ap (λ x. (g.W.Devices.standing x).clock) c.over-store.ensures.before)
+    c.in_ok-got.ensures.call.ready.0 (rw (c.over-store.ensures.same.0, c.over-store.ensures.same.1) at c.in_ok-got.ensures.keeps) _ c.reply_to.result
+    (rw (c.over-store.ensures.same.0, c.over-store.ensures.same.1) at c.in_ok-got.ensures.call.steady)
     (λ told s shows. ap (λ p. p.0) (get_gives (bounds_in (engine_sizes c.args.self.now)) s c.args.name.now c.args.key c.in_ok-got.got
     ((rw (c.over-store.ensures.same.0, c.over-store.ensures.same.1) at c.in_ok-got.ensures.value) told (store_shown c.args.self.now a s c.requires shows) ∙ ap (λ (T : List Table). got_of c.args.key (rows_of c.args.name.now T)) shows.seen.tables_are))))
 
@@ -56,12 +56,12 @@ returns-in_err-got-clause-reads g c =
 pub returns-clause-reads : goal.returns-clause-reads
 returns-clause-reads g c =
     reads_stays g.W.Devices.standing c.args.self.now (g.W.Devices.standing c.args.world.now) _ c.get.new.pages.dev.now c.get.new.pages.book.now c.get.new.work c.reply_to.result (search rules)
-    (rw (c.over-store.ensures.same.0, c.over-store.ensures.same.1) at c.get.ensures.continues) (ap (λ x. (g.W.Devices.standing x).clock) c.over-store.ensures.before)
+    (rw (c.over-store.ensures.same.0, c.over-store.ensures.same.1) at c.get.ensures.call.continues) (ap (λ x. (g.W.Devices.standing x).clock) c.over-store.ensures.before)
     (rw (c.over-store.ensures.same.0, c.over-store.ensures.same.1) at c.in_ok-got.ensures.keeps)
 
 pub returns-clause-refused : goal.returns-clause-refused
 returns-clause-refused g c =
     refused_any c.args.self.now (g.W.Devices.standing c.args.world.now) _ _ c.reply_to.result
     (stays_kept g.W.Devices.standing c.args.self.now (g.W.Devices.standing c.args.world.now) _ c.get.new.pages.dev.now c.get.new.pages.book.now c.get.new.work (search rules)
-    (rw (c.over-store.ensures.same.0, c.over-store.ensures.same.1) at c.get.ensures.continues) (ap (λ x. (g.W.Devices.standing x).clock) c.over-store.ensures.before)
+    (rw (c.over-store.ensures.same.0, c.over-store.ensures.same.1) at c.get.ensures.call.continues) (ap (λ x. (g.W.Devices.standing x).clock) c.over-store.ensures.before)
     (rw (c.over-store.ensures.same.0, c.over-store.ensures.same.1) at c.in_ok-got.ensures.keeps))

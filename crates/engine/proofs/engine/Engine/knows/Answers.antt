@@ -1,7 +1,7 @@
 use Rattle.std.proofs.Common.{◌∙◌, ap, refl, rules, Ok, List}
 use Rattle.line_pages.proofs.StandingLaws.{page_keeps}
-use Rattle.table_catalog.specs.Catalog.{Table}
-use Rattle.table_catalog.specs.Stored.{is_known}
+use Rattle.rows.specs.Tables.{Table}
+use Rattle.rows.specs.Tables.{is_known}
 use Rattle.script.specs.Machine.{State}
 use Rattle.engine.proofs.CommandLaws.{on_device, does_fails, does_stays, cause_fails, fault_is, store_shown}
 use Rattle.engine.proofs.RestLaws.{reads_name, reads_stays}
@@ -13,7 +13,7 @@ returns-in_err-known-clause-does g c =
     let a = g.W.Devices.standing c.args.world.now in
     on_device g.W.Devices.standing (λ (s : State). s) c.args.self.now a _ _ c.has_table.new.pages.dev.now c.from_residual.result (search rules)
     (does_fails c.args.self.now a (g.W.Devices.standing c.has_table.new.pages.dev.now) c.has_table.new.pages.book.now c.has_table.new.work c.requires
-    (rw (c.over-store.ensures.same.0, c.over-store.ensures.same.1) at c.has_table.ensures.continues) (ap (λ x. (g.W.Devices.standing x).clock) c.over-store.ensures.before)
+    (rw (c.over-store.ensures.same.0, c.over-store.ensures.same.1) at c.has_table.ensures.call.continues) (ap (λ x. (g.W.Devices.standing x).clock) c.over-store.ensures.before)
     _ c.from_residual.result c.in_err-known.field-0.0 c.from_residual.ensures
     (λ told s shows. fault_is c.in_err-known.field-0.0 ((rw (c.over-store.ensures.same.0, c.over-store.ensures.same.1) at c.in_err-known.ensures.sound) told (store_shown c.args.self.now a s c.requires shows))))
 
@@ -28,9 +28,9 @@ returns-clause-does g c =
     let a = g.W.Devices.standing c.args.world.now in
     on_device g.W.Devices.standing (λ (s : State). s) c.args.self.now a _ _ c.has_table.new.pages.dev.now (Ok c.in_ok-known.known) (search rules)
     (does_stays c.args.self.now a (g.W.Devices.standing c.has_table.new.pages.dev.now) c.has_table.new.pages.book.now c.has_table.new.work c.requires
-    (rw (c.over-store.ensures.same.0, c.over-store.ensures.same.1) at c.has_table.ensures.continues) (ap (λ x. (g.W.Devices.standing x).clock) c.over-store.ensures.before)
-    c.in_ok-known.ensures.ready.0 (page_keeps (rw (c.over-store.ensures.same.0, c.over-store.ensures.same.1) at c.in_ok-known.ensures.reads)) (λ (s : State). s) c.in_ok-known.known
-    (rw (c.over-store.ensures.same.0, c.over-store.ensures.same.1) at c.in_ok-known.ensures.steady) (λ told s shows. refl))
+    (rw (c.over-store.ensures.same.0, c.over-store.ensures.same.1) at c.has_table.ensures.call.continues) (ap (λ x. (g.W.Devices.standing x).clock) c.over-store.ensures.before)
+    c.in_ok-known.ensures.call.ready.0 (page_keeps (rw (c.over-store.ensures.same.0, c.over-store.ensures.same.1) at c.in_ok-known.ensures.reads)) (λ (s : State). s) c.in_ok-known.known
+    (rw (c.over-store.ensures.same.0, c.over-store.ensures.same.1) at c.in_ok-known.ensures.call.steady) (λ told s shows. refl))
 
 pub returns-clause-known : goal.returns-clause-known
 returns-clause-known g c = λ told s shows.
@@ -46,11 +46,11 @@ returns-in_err-known-clause-reads g c =
 pub returns-clause-reads : goal.returns-clause-reads
 returns-clause-reads g c =
     reads_stays g.W.Devices.standing c.args.self.now (g.W.Devices.standing c.args.world.now) _ c.has_table.new.pages.dev.now c.has_table.new.pages.book.now c.has_table.new.work c.in_ok-known.known (search rules)
-    (rw (c.over-store.ensures.same.0, c.over-store.ensures.same.1) at c.has_table.ensures.continues) (ap (λ x. (g.W.Devices.standing x).clock) c.over-store.ensures.before)
+    (rw (c.over-store.ensures.same.0, c.over-store.ensures.same.1) at c.has_table.ensures.call.continues) (ap (λ x. (g.W.Devices.standing x).clock) c.over-store.ensures.before)
     (page_keeps (rw (c.over-store.ensures.same.0, c.over-store.ensures.same.1) at c.in_ok-known.ensures.reads))
 
 pub returns-clause-stays : goal.returns-clause-stays
 returns-clause-stays g c =
     stays_kept g.W.Devices.standing c.args.self.now (g.W.Devices.standing c.args.world.now) _ c.has_table.new.pages.dev.now c.has_table.new.pages.book.now c.has_table.new.work (search rules)
-    (rw (c.over-store.ensures.same.0, c.over-store.ensures.same.1) at c.has_table.ensures.continues) (ap (λ x. (g.W.Devices.standing x).clock) c.over-store.ensures.before)
+    (rw (c.over-store.ensures.same.0, c.over-store.ensures.same.1) at c.has_table.ensures.call.continues) (ap (λ x. (g.W.Devices.standing x).clock) c.over-store.ensures.before)
     (page_keeps (rw (c.over-store.ensures.same.0, c.over-store.ensures.same.1) at c.in_ok-known.ensures.reads))

@@ -1,13 +1,10 @@
 use Rattle.std.proofs.Common.{◌∙◌, ap, List}
-use Rattle.table_catalog.specs.Catalog.{Table}
-use Rattle.table_catalog.specs.Stored.{rows_of}
-use Rattle.store_meaning.specs.Layout.{pages}
-use Rattle.store_laws.specs.ShownPages.{pages_in}
-use Rattle.devices.specs.World.{now}
+use Rattle.rows.specs.Tables.{Table}
+use Rattle.rows.specs.Tables.{rows_of}
+use Rattle.flat_transactions.specs.Order.{pages}
 use Rattle.script.specs.Machine.{State, current}
-use Rattle.transactions.specs.StoreStanding.{reach}
 use Rattle.engine.specs.declared.engine.Engine.{Engine}
-use Rattle.engine.specs.Engine.{engine_sizes}
+use Rattle.engine.specs.Engine.{engine_sizes, engine_lines, engine_reach}
 use Rattle.engine.proofs.CommandLaws.{does_ok, does_err, cause_err, store_shown}
 use Rattle.engine.proofs.ScanningLaws.{rows_ascend, goes_on, gives_by, fewer_by, does_before, stands_between, shows_between, cause_before, cause_ok}
 use Rattle.engine.proofs.RestLaws.{reads_between, reads_ok, reads_err}
@@ -33,7 +30,7 @@ returns-clause-cause g c =
     (cause_ok c.rest_after.new.self (g.W.Devices.standing c.args.world.now) _ c.seek.new.self (g.W.Devices.standing c.seek.new.world) c.in_ok-next.next c.take.result c.in_ok-next.ensures.cause)
 
 pub returns-clause-same_reach : goal.returns-clause-same_reach
-returns-clause-same_reach g c = c.in_ok-next.ensures.same_reach ∙ ap (λ (e : Engine). reach e.book) c.rest_after.ensures
+returns-clause-same_reach g c = c.in_ok-next.ensures.same_reach ∙ ap engine_reach c.rest_after.ensures
 
 pub returns-clause-does : goal.returns-clause-does
 returns-clause-does g c =
@@ -53,7 +50,7 @@ returns-clause-replies g c = λ told s shows few.
     let between = shows_between c.args.self.now c.rest_after.new.self a s c.rest_after.ensures shows in
     rw (c.take.ensures.reply ∙ c.in_ok-next.ensures.reply told s between, c.take.ensures.left ∙ c.in_ok-next.ensures.left told s between)
     (goes_on c.args.scan.now c.requires.left few (rows_of c.args.scan.now.name (current s))
-    (λ rows is. rows_ascend c.args.self.now.limits (pages (engine_sizes c.args.self.now)) (pages_in (engine_sizes c.args.self.now) (now a)) (store_shown c.args.self.now a s c.requires.stands shows) c.args.scan.now.name rows
+    (λ rows is. rows_ascend c.args.self.now.limits (pages (engine_sizes c.args.self.now)) (engine_lines c.args.self.now a) (store_shown c.args.self.now a s c.requires.stands shows) c.args.scan.now.name rows
     (ap (λ (T : List Table). rows_of c.args.scan.now.name T) shows.seen.tables_are ∙ is)))
 
 pub returns-in_err-next-clause-reads : goal.returns-in_err-next-clause-reads

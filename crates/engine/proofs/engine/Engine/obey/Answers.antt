@@ -2,6 +2,7 @@
 use Rattle.std.proofs.Common.{inl, inr}
 use Rattle.script.specs.declared.command.Command.TheVariants as command
 use Rattle.engine.specs.Causes.{IsDamage}
+use Rattle.engine.specs.Engine.{evidence_bytes}
 use Rattle.engine.proofs.CauseLaws.{causes_weaker}
 use Rattle.engine.proofs.StepLaws.{obeys_at, obeys_said, unread}
 use Rattle.engine.proofs.engine.Engine.obey.Goals as goal
@@ -39,7 +40,7 @@ returns-in-Commit g c =
 pub returns-in-Abort : goal.returns-in-Abort
 returns-in-Abort g c =
     obeys_said _ c.args.command command.Abort c.args.self.now (g.W.Devices.standing c.args.world.now) c.abort.new.self (g.W.Devices.standing c.abort.new.world) c.abort.result c.said-in-Abort.result c.in-Abort.is c.said-in-Abort.ensures
-    c.abort.ensures.does c.abort.ensures.replies (λ e h. h) c.abort.ensures.cause (λ is. c.abort.ensures.reads) c.abort.ensures.refused
+    c.abort.ensures.does c.abort.ensures.replies (λ e h. inr (inr (inr h))) c.abort.ensures.cause (λ is. c.abort.ensures.reads) c.abort.ensures.refused
 
 pub returns-in-Checkpoint : goal.returns-in-Checkpoint
 returns-in-Checkpoint g c =
@@ -64,6 +65,6 @@ returns-in-Scan g c =
       replies = c.scan.ensures.replies;
       begun = c.scan.ensures.begun;
       refused = c.scan.ensures.refused;
-      cause = causes_weaker _ (IsDamage c.args.self.now (g.W.Devices.standing c.args.world.now) (g.W.Devices.standing c.scan.new.world) c.scan.new.self.work.page) _ _ c.scan.result (λ e h. inl (inl h.0, λ told. inl (h.1 told))) c.scan.ensures.cause;
+      cause = causes_weaker _ (IsDamage c.args.self.now (g.W.Devices.standing c.args.world.now) c.scan.new.self (g.W.Devices.standing c.scan.new.world) (evidence_bytes c.scan.new.self)) _ _ c.scan.result (λ e h. inl (inl h.0, λ told. inl (h.1 told))) c.scan.ensures.cause;
       reads = λ is. c.scan.ensures.reads;
     })

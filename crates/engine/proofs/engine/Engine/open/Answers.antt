@@ -11,7 +11,7 @@ returns-clause-stands g c =
 pub returns-clause-shows : goal.returns-clause-shows
 returns-clause-shows g c = λ told sizes T held.
     over_shows c.in_ok-parts.parts c.over.result (g.W.Devices.standing c.args.world.now) (g.W.Devices.standing c.recover.new.dev) c.in_ok-parts.ensures.goes c.in_ok-parts.ensures.parts c.over.ensures
-    sizes T (c.in_ok-parts.ensures.recovered told) (c.in_ok-parts.ensures.keeps told) held
+    (c.in_ok-parts.ensures.recovered told) (c.in_ok-parts.ensures.keeps told) sizes T held
 
 pub returns-clause-rests : goal.returns-clause-rests
 returns-clause-rests g c = λ told.
@@ -21,7 +21,7 @@ returns-clause-rests g c = λ told.
 pub returns-clause-steady : goal.returns-clause-steady
 returns-clause-steady g c =
     over_steady c.in_ok-parts.parts c.over.result (g.W.Devices.standing c.args.world.now) (g.W.Devices.standing c.recover.new.dev) c.in_ok-parts.ensures.goes c.in_ok-parts.ensures.parts c.over.ensures
-    (λ told_now. (c.in_ok-parts.ensures.recovered told_now).steady)
+    c.in_ok-parts.ensures.recovered
 
 pub returns-clause-order : goal.returns-clause-order
 returns-clause-order g c = λ told sizes T order. record {

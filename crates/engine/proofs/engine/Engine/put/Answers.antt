@@ -1,5 +1,5 @@
 use Rattle.std.proofs.Common.{ap, sym, inl, Some, arith, false}
-use Rattle.table_catalog.specs.Stored.{is_known}
+use Rattle.rows.specs.Tables.{is_known}
 use Rattle.script.specs.Machine.{State, current}
 use Rattle.script.specs.declared.command.Command.TheVariants as command
 use Rattle.script.specs.declared.command.Reply.TheVariants as reply
@@ -10,6 +10,7 @@ use Rattle.engine.proofs.CommandLaws.{replies_by}
 use Rattle.engine.proofs.RefusalLaws.{refused_all}
 use Rattle.engine.proofs.AnswerLaws.{put_spent}
 use Rattle.engine.specs.Causes.{IsNameDamage, IsNewRowsDamage}
+use Rattle.engine.specs.Engine.{evidence_bytes}
 use Rattle.engine.proofs.CauseLaws.{causes_weaker}
 use Rattle.engine.proofs.engine.Engine.put.Goals as goal
 
@@ -24,7 +25,7 @@ returns-then-accepted-self-clause-replies g c = λ told s shows.
 
 pub returns-then-accepted-self-clause-cause : goal.returns-then-accepted-self-clause-cause
 returns-then-accepted-self-clause-cause g c =
-    causes_weaker (IsNameDamage c.args.self.now (g.W.Devices.standing c.args.world.now) c.refuse_write.new.self.work.page) (IsNewRowsDamage c.args.self.now (g.W.Devices.standing c.args.world.now) (g.W.Devices.standing c.refuse_write.new.world) c.refuse_write.new.self.work.page) _ _ c.refuse_write.result
+    causes_weaker (IsNameDamage c.args.self.now (g.W.Devices.standing c.args.world.now) (evidence_bytes c.refuse_write.new.self)) (IsNewRowsDamage c.args.self.now (g.W.Devices.standing c.args.world.now) c.refuse_write.new.self (g.W.Devices.standing c.refuse_write.new.world) (evidence_bytes c.refuse_write.new.self)) _ _ c.refuse_write.result
     (λ e h. (inl h.0, inl h.1)) c.refuse_write.ensures.cause
 
 pub returns-then-accepted-self-clause-refused : goal.returns-then-accepted-self-clause-refused

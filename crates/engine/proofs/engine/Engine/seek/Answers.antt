@@ -1,12 +1,12 @@
 use Rattle.std.proofs.Common.{◌∙◌, ap, refl, rules, Ok, List}
-use Rattle.table_catalog.specs.Catalog.{Table}
-use Rattle.table_catalog.specs.Stored.{rows_of}
+use Rattle.rows.specs.Tables.{Table}
+use Rattle.rows.specs.Tables.{rows_of}
 use Rattle.table_store.specs.Scanning.{next_of}
 use Rattle.table_store.specs.declared.answer.Next.{Next}
 use Rattle.table_store.specs.declared.answer.Next.TheVariants as next
 use Rattle.script.specs.Machine.{State, current}
 use Rattle.engine.specs.Scanning.{reply_by, scan_by}
-use Rattle.engine.proofs.DoesLaws.{pages_reach}
+use Rattle.flat_transactions.proofs.OpenStoreLaws.{pages_keep}
 use Rattle.engine.proofs.TransactionLaws.{does_still}
 use Rattle.engine.proofs.CommandLaws.{on_device, does_fails, does_stays, cause_fails, fault_is, store_shown}
 use Rattle.engine.proofs.ScanningLaws.{ends_empty}
@@ -29,7 +29,7 @@ returns-in_err-next-clause-does g c =
     let a = g.W.Devices.standing c.args.world.now in
     on_device g.W.Devices.standing (λ (s : State). s) c.args.self.now a _ _ c.scan_next.new.pages.dev.now c.from_residual.result (search rules)
     (does_fails c.args.self.now a (g.W.Devices.standing c.scan_next.new.pages.dev.now) c.scan_next.new.pages.book.now c.scan_next.new.work c.requires
-    (rw (c.over-store.ensures.same.0, c.over-store.ensures.same.1) at c.scan_next.ensures.continues) (ap (λ x. (g.W.Devices.standing x).clock) c.over-store.ensures.before)
+    (rw (c.over-store.ensures.same.0, c.over-store.ensures.same.1) at c.scan_next.ensures.call.continues) (ap (λ x. (g.W.Devices.standing x).clock) c.over-store.ensures.before)
     _ c.from_residual.result c.in_err-next.field-0.0 c.from_residual.ensures
     (λ told s shows. fault_is c.in_err-next.field-0.0 ((rw (c.over-store.ensures.same.0, c.over-store.ensures.same.1) at c.in_err-next.ensures.sound) told (store_shown c.args.self.now a s c.requires shows))))
 
@@ -44,14 +44,14 @@ returns-clause-does g c =
     let a = g.W.Devices.standing c.args.world.now in
     on_device g.W.Devices.standing (λ (s : State). s) c.args.self.now a _ _ c.scan_next.new.pages.dev.now (Ok c.in_ok-next.next) (search rules)
     (does_stays c.args.self.now a (g.W.Devices.standing c.scan_next.new.pages.dev.now) c.scan_next.new.pages.book.now c.scan_next.new.work c.requires
-    (rw (c.over-store.ensures.same.0, c.over-store.ensures.same.1) at c.scan_next.ensures.continues) (ap (λ x. (g.W.Devices.standing x).clock) c.over-store.ensures.before)
-    c.in_ok-next.ensures.ready.0 (rw (c.over-store.ensures.same.0, c.over-store.ensures.same.1) at c.in_ok-next.ensures.keeps) (λ (s : State). s) c.in_ok-next.next
-    (rw (c.over-store.ensures.same.0, c.over-store.ensures.same.1) at c.in_ok-next.ensures.steady) (λ told s shows. refl))
+    (rw (c.over-store.ensures.same.0, c.over-store.ensures.same.1) at c.scan_next.ensures.call.continues) (ap (λ x. (g.W.Devices.standing x).clock) c.over-store.ensures.before)
+    c.in_ok-next.ensures.call.ready.0 (rw (c.over-store.ensures.same.0, c.over-store.ensures.same.1) at c.in_ok-next.ensures.keeps) (λ (s : State). s) c.in_ok-next.next
+    (rw (c.over-store.ensures.same.0, c.over-store.ensures.same.1) at c.in_ok-next.ensures.call.steady) (λ told s shows. refl))
 
 pub returns-clause-same_reach : goal.returns-clause-same_reach
 returns-clause-same_reach g c =
-    pages_reach c.args.self.now.book c.scan_next.new.pages.book.now (g.W.Devices.standing c.args.world.now) (g.W.Devices.standing c.scan_next.new.pages.dev.now) _ _ _ _ _ _
-    (rw (c.over-store.ensures.same.0, c.over-store.ensures.same.1) at c.scan_next.ensures.continues) (ap (λ x. (g.W.Devices.standing x).clock) c.over-store.ensures.before)
+    (pages_keep c.args.self.now.book c.scan_next.new.pages.book.now (g.W.Devices.standing c.args.world.now) (g.W.Devices.standing c.scan_next.new.pages.dev.now)
+    (rw (c.over-store.ensures.same.0, c.over-store.ensures.same.1) at c.scan_next.ensures.call.continues) (ap (λ x. (g.W.Devices.standing x).clock) c.over-store.ensures.before)).reach_is
 
 pub returns-clause-reply : goal.returns-clause-reply
 returns-clause-reply g c = λ told s shows.
@@ -77,7 +77,7 @@ returns-in_err-next-clause-reads g c =
 pub returns-clause-reads : goal.returns-clause-reads
 returns-clause-reads g c =
     reads_stays g.W.Devices.standing c.args.self.now (g.W.Devices.standing c.args.world.now) _ c.scan_next.new.pages.dev.now c.scan_next.new.pages.book.now c.scan_next.new.work c.in_ok-next.next (search rules)
-    (rw (c.over-store.ensures.same.0, c.over-store.ensures.same.1) at c.scan_next.ensures.continues) (ap (λ x. (g.W.Devices.standing x).clock) c.over-store.ensures.before)
+    (rw (c.over-store.ensures.same.0, c.over-store.ensures.same.1) at c.scan_next.ensures.call.continues) (ap (λ x. (g.W.Devices.standing x).clock) c.over-store.ensures.before)
     (rw (c.over-store.ensures.same.0, c.over-store.ensures.same.1) at c.in_ok-next.ensures.keeps)
 
 pub returns-then-scan-clause-reads : goal.returns-then-scan-clause-reads

@@ -1,8 +1,0 @@
-use Rattle.std.proofs.Common.{ℕ, List, arith}
-use Rattle.std.proofs.lemmas.List.{length-map}
-use Rattle.app_texts.specs.DamageText.{page_digits, marked}
-use Rattle.app_texts.proofs.DamageLaws.{length-page_digits}
-use Rattle.app_texts.proofs.damage.damage_lines.Goals as goal
-
-pub returns-in-Page-clause-count : goal.returns-in-Page-clause-count
-returns-in-Page-clause-count c = λ (page : List ℕ). rw c.in-Page.is (omega (arith, length-map (page_digits page) marked, length-page_digits page))

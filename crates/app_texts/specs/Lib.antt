@@ -1,2 +1,0 @@
-pub mod DamageText
-pub mod Laws

@@ -1,0 +1,79 @@
+use Rattle.std.proofs.Common.{◌≡◌, length, IsTrue, true, false, arith, sym, subst}
+use Rattle.line_pages.specs.Lines.{Lines}
+use Rattle.line_pages.specs.Bytes.{bytes_of}
+use Rattle.line_pages.specs.Standing.{ReadsPage}
+use Rattle.line_pages.proofs.StandingLaws.{ReadsPage-trans, KeepsPages-trans}
+use Rattle.rows.specs.Rows.{row_put}
+use Rattle.page_format.specs.Node.{IsWellFormed, leaf_rows}
+use Rattle.page_alloc.proofs.TouchedLaws.{nothing_read}
+use Rattle.node_edit.specs.Record.{FitsLeaf, HoldsLength}
+use Rattle.leaf_lines.specs.Put.{PutByLines, IsFound}
+use Rattle.bplus_tree.proofs.ByLines.{put_of, left_of, put_later, line_edits, record_by, change_by, record_on, change_on}
+use Rattle.bplus_tree.proofs.change.put_at.Goals as goal
+use Rattle.bplus_tree.proofs.change.put_at.Goals.{Then-done, After-put_leaf}
+use Rattle.bplus_tree.proofs.change.put_at.Given as given
+
+put : (g : given.Over) (c : Then-done g) → IsTrue (g.P.Pages.standing c.args.pages.now).told → PutByLines c.args.page c.args.expect.now c.args.key c.args.value.now (g.P.Pages.standing c.args.pages.now) (g.P.Pages.standing c.put_by_lines.new.pages)
+put g c told =
+    let old = g.P.Pages.standing c.args.pages.now in
+    let mid = g.P.Pages.standing c.look.new.pages in
+    let new = g.P.Pages.standing c.put_by_lines.new.pages in
+    let told1 = subst IsTrue (sym c.in_ok-spot.ensures.call.continues.told) told in
+    put_later c.args.page c.args.expect.now c.args.key c.args.value.now old mid new c.in_ok-spot.ensures.reads told
+    (put_of c.args.page c.args.expect.now c.args.key c.args.value.now mid new c.in_ok-done.done c.if-done.true (c.in_ok-done.ensures.put told1))
+
+pub put_by_lines-requires-clause-spot : goal.put_by_lines-requires-clause-spot
+put_by_lines-requires-clause-spot g c = λ told1 well.
+    let old = g.P.Pages.standing c.args.pages.now in
+    let told = subst IsTrue c.in_ok-spot.ensures.call.continues.told told1 in
+    let same = c.in_ok-spot.ensures.reads.current told in
+    let e = c.args.expect.now in
+    let well_old = subst (λ (lines : Lines). IsWellFormed (bytes_of lines c.args.page) e) same well in
+    subst (λ (lines : Lines). IsFound (bytes_of lines c.args.page) e c.args.key c.seen_of-seen.result.found c.seen_of-seen.result.at) (sym same)
+    (c.seen_of-seen.ensures (bytes_of old.current c.args.page) c.args.key c.in_ok-spot.ensures.safe (c.in_ok-spot.ensures.spot told well_old))
+
+pub returns-then-done-clause-edits : goal.returns-then-done-clause-edits
+returns-then-done-clause-edits g c = λ told.
+    line_edits c.args.page c.args.expect.now c.args.key c.args.value.now (g.P.Pages.standing c.args.pages.now) (g.P.Pages.standing c.put_by_lines.new.pages) c.requires.level c.requires.pages (put g (goal.at.returns-then-done-clause-edits g c).Then-done told)
+
+pub returns-then-done-clause-again : goal.returns-then-done-clause-again
+returns-then-done-clause-again g c = λ told well holds.
+    record_by c.args.page c.args.expect.now c.args.key c.args.value.now (g.P.Pages.standing c.args.pages.now) (g.P.Pages.standing c.put_by_lines.new.pages) (put g (goal.at.returns-then-done-clause-again g c).Then-done told) well holds
+
+pub returns-then-done-clause-lines : goal.returns-then-done-clause-lines
+returns-then-done-clause-lines g c = λ told well fits.
+    change_by c.args.page c.args.expect.now c.args.key c.args.value.now (g.P.Pages.standing c.args.pages.now) (g.P.Pages.standing c.put_by_lines.new.pages) (put g (goal.at.returns-then-done-clause-lines g c).Then-done told)
+
+pub returns-then-done-clause-room : goal.returns-then-done-clause-room
+returns-then-done-clause-room g c = omega (arith, c.in_ok-spot.ensures.keeps.room, c.in_ok-done.ensures.room)
+
+left : (g : given.Over) (c : After-put_leaf g) → ReadsPage c.args.page (g.P.Pages.standing c.args.pages.now) (g.P.Pages.standing c.put_by_lines.new.pages)
+left g c =
+    ReadsPage-trans c.in_ok-spot.ensures.reads
+    (left_of c.args.page (g.P.Pages.standing c.look.new.pages) (g.P.Pages.standing c.put_by_lines.new.pages) c.in_ok-done.done c.if-done.false c.in_ok-done.ensures.left)
+
+pub returns-clause-again : goal.returns-clause-again
+returns-clause-again g c = λ told well holds.
+    let old = g.P.Pages.standing c.args.pages.now in
+    let mid = g.P.Pages.standing c.put_by_lines.new.pages in
+    let reads = left g (goal.at.returns-clause-again g c).After-put_leaf in
+    let same = reads.current told in
+    let told2 = subst IsTrue (sym reads.told) told in
+    record_on c.args.page c.args.key old mid (g.P.Pages.standing c.put_leaf.new.pages) c.put_leaf.result same (nothing_read reads)
+    (c.put_leaf.ensures.again told2 (subst (λ (lines : Lines). HoldsLength c.args.key (length c.args.value.now) (leaf_rows (bytes_of lines c.args.page))) (sym same) holds))
+
+pub returns-clause-lines : goal.returns-clause-lines
+returns-clause-lines g c = λ told well fits.
+    let old = g.P.Pages.standing c.args.pages.now in
+    let mid = g.P.Pages.standing c.put_by_lines.new.pages in
+    let reads = left g (goal.at.returns-clause-lines g c).After-put_leaf in
+    let same = reads.current told in
+    let told2 = subst IsTrue (sym reads.told) told in
+    change_on c.args.page old mid (g.P.Pages.standing c.put_leaf.new.pages) c.put_leaf.result same reads.room (nothing_read reads)
+    (c.put_leaf.ensures.lines told2 (subst (λ (lines : Lines). FitsLeaf (c.args.expect.now.root ≡ true) (row_put c.args.key c.args.value.now (leaf_rows (bytes_of lines c.args.page)))) (sym same) fits))
+
+pub returns-clause-call : goal.returns-clause-call
+returns-clause-call g c =
+    let a = c.in_ok-spot.ensures in
+    let b = c.in_ok-done.ensures in
+    KeepsPages-trans (KeepsPages-trans a.call b.call) c.put_leaf.ensures.call

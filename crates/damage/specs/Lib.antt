@@ -1,0 +1,3 @@
+pub mod DamageText
+pub mod Laws
+pub mod Checks

@@ -1,0 +1,17 @@
+pub mod CallsLaws
+pub mod FlushLaws
+pub mod SuperLaws
+pub mod FormatLaws
+pub mod StandsLaws
+pub mod ReplayLaws
+pub mod ReplayCallsLaws
+pub mod ReadingLaws
+pub mod HeadLaws
+pub mod ReplayingLaws
+pub mod GroupLaws
+pub mod ReopenLaws
+pub mod OpeningLaws
+pub mod CompleteLaws
+pub mod SettledLaws
+pub mod RecoverLaws
+pub mod OrderLaws

@@ -1,0 +1,15 @@
+pub mod OpenLaws
+pub mod AsReadLaws
+pub mod WriteLaws
+pub mod BehindLaws
+pub mod EndLaws
+pub mod EmptyLaws
+pub mod AbortLaws
+pub mod AbortEndLaws
+pub mod GroupLaws
+pub mod CheckpointLaws
+pub mod TakingBackLaws
+pub mod ReadBackLaws
+pub mod StepLaws
+pub mod ImageLaws
+pub mod OrderLaws

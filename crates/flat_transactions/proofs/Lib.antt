@@ -1,0 +1,13 @@
+pub mod BookLaws
+pub mod CallLaws
+pub mod ClosingLaws
+pub mod EmptiedLaws
+pub mod EndingLaws
+pub mod FieldSteps
+pub mod NewLaws
+pub mod OpeningLaws
+pub mod OpenStoreLaws
+pub mod SizeLaws
+pub mod StandsLaws
+pub mod TakenBackLaws
+pub mod TakingBackLaws

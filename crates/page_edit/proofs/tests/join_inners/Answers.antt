@@ -1,6 +1,0 @@
-use Rattle.slotted_page.specs.Node.{children}
-use Rattle.slotted_page.proofs.ChildLaws.{begins_first}
-use Rattle.page_edit.proofs.tests.join_inners.Goals as goal
-
-pub inner_join-requires-clause-key : goal.inner_join-requires-clause-key
-inner_join-requires-clause-key c = begins_first c.child_key-key.result (children c.args.right.now) c.child_key-key.ensures

@@ -1,5 +1,0 @@
-pub mod Counted
-pub mod Space
-pub mod Moves
-pub mod Stops
-pub mod Written

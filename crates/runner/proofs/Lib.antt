@@ -1,0 +1,10 @@
+pub mod RunLaws
+pub mod CauseLaws
+pub mod WriteLaws
+pub mod RowsLaws
+pub mod TablesLaws
+pub mod ByteLaws
+pub mod RestLaws
+pub mod StartLaws
+pub mod StatusLaws
+pub mod TalkLaws

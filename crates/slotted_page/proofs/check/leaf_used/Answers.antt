@@ -1,6 +1,0 @@
-use Rattle.std.proofs.Common.{◌∙◌}
-use Rattle.slotted_page.proofs.FactLemmas.{leaf_used_is}
-use Rattle.slotted_page.proofs.check.leaf_used.Goals as goal
-
-pub returns-clause-rows : goal.returns-clause-rows
-returns-clause-rows c = c.used.ensures ∙ leaf_used_is c.args.page.now c.requires

@@ -1,7 +1,0 @@
-use Rattle.std.proofs.Common.{◌≡◌, drop}
-use Rattle.std.specs.List.{list_all}
-use Rattle.slotted_page.specs.Node.{has_printable_value, leaf_rows}
-use Rattle.slotted_page.proofs.check.values_printable.Given as goal
-
-abbrev pub invariant-loop-i : goal.invariant-loop-i
-invariant-loop-i l = record { so_far : list_all has_printable_value (leaf_rows l.page) ≡ list_all has_printable_value (drop l.i (leaf_rows l.page)) }

@@ -1,5 +1,0 @@
-use Rattle.slotted_page.proofs.MarkBits.{run_mask}
-use Rattle.slotted_page.proofs.marks.mask_of.Goals as goal
-
-pub returns : goal.returns
-returns c = run_mask c.args.from c.args.until c.requires.some c.requires.within

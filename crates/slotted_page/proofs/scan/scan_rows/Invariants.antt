@@ -1,6 +1,0 @@
--- The key is in none of the rows so far.
-use Rattle.slotted_page.proofs.KeyLaws.{Between}
-use Rattle.slotted_page.proofs.scan.scan_rows.Given as goal
-
-abbrev pub invariant-loop-i : goal.invariant-loop-i
-invariant-loop-i l = record { between : Between l.page l.key l.i l.count }

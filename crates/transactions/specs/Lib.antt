@@ -1,5 +1,0 @@
-pub mod BookCalls
-pub mod Closing
-pub mod StoreCalls
-pub mod StoreStanding
-pub mod TakenBack
