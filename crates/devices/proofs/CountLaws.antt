@@ -2,7 +2,7 @@
 use Rattle.std.proofs.Common.{◌≡◌, ℕ, ◌≤◌, List, [], ◌∷◌, ◌++◌, refl, ◌∙◌, ap, arith}
 use Rattle.std.specs.Prelude.{true, false, nat_le, ◌+◌, ◌<◌, min, length}
 use Rattle.devices.specs.World.{last_count}
-use Rattle.devices.specs.MemWorld.{moment_after, Marks}
+use Rattle.devices.specs.MemWorld.{moment_after, Marked}
 use Rattle.std.proofs.lemmas.Bool.Decides.{nat_tests}
 use Rattle.std.proofs.lemmas.List.Folds.{list_all-append}
 use Rattle.devices.specs.declared.step.Entry.{Entry}
@@ -40,7 +40,7 @@ moment_more : (entries : List Entry) (e : Entry) (events : ℕ) → nat_le e.eve
 moment_more [] e events test = rw test refl
 moment_more (first ∷ entries) e events test = rw (moment_more entries e events test) refl
 
-pub marks_kept : (entries later : List Entry) (events new : ℕ) (step : Step) → later ≡ entries ++ record { event = new; step = step } ∷ [] → new ≡ min (events + 1) last_count → Marks entries later events new
+pub marks_kept : (entries later : List Entry) (events new : ℕ) (step : Step) → later ≡ entries ++ record { event = new; step = step } ∷ [] → new ≡ min (events + 1) last_count → Marked entries later events new
 marks_kept entries later events new step is counted = record {
   counted = counted;
   earlier = λ low n le.
@@ -49,5 +49,5 @@ marks_kept entries later events new step is counted = record {
       ap (λ (es : List Entry). moment_after es n) is ∙ moment_more entries e n (late new n behind);
 }
 
-pub marks_same : (entries later : List Entry) (events new : ℕ) → later ≡ entries → new ≡ min (events + 1) last_count → Marks entries later events new
+pub marks_same : (entries later : List Entry) (events new : ℕ) → later ≡ entries → new ≡ min (events + 1) last_count → Marked entries later events new
 marks_same entries later events new is counted = record { counted = counted; earlier = λ low n le. ap (λ (es : List Entry). moment_after es n) is }

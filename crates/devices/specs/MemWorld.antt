@@ -4,13 +4,14 @@ use Rattle.std.specs.List.{prefix_len}
 use Rattle.devices.specs.declared.past.Past.{Past}
 use Rattle.devices.specs.declared.stream.Stream.{Stream}
 use Rattle.devices.specs.declared.mem_world.MemWorld.{MemWorld}
+use Rattle.devices.specs.Faults.{is_named}
 use Rattle.devices.specs.World.{Standing, Outside, last_count, now, sent}
 use Rattle.devices.specs.State.{Image, fresh}
 use Rattle.devices.specs.declared.faults.Fault.{Fault}
 use Rattle.devices.specs.declared.faults.FaultKind.{FaultKind}
 use Rattle.devices.specs.declared.faults.FaultKind.TheVariants.{Nvm, Ssd, Settings, Source, Sink}
 use Rattle.devices.specs.declared.step.Entry.{Entry}
-use Rattle.devices.specs.Past.{image_of, replay, changes_of}
+use Rattle.devices.specs.Past.{image_of, replay, changes_of, Same}
 
 -- what stands beside the devices
 abbrev pub outside_of : Past → List ℕ → List ℕ → ℕ → ℕ → ℕ → Outside
@@ -44,17 +45,36 @@ rest_of s = drop s.taken s.bytes.items
 abbrev pub world : MemWorld → Standing
 world w = standing_of w.past w.nvm.faults w.ssd.faults w.block_reads (rest_of w.settings) (rest_of w.script) w.settings_reads.faults w.script_reads.faults w.writes.faults
 
+-- how many calls of a kind were made
+abbrev pub calls_of : FaultKind → MemWorld → ℕ
+calls_of Nvm w = w.nvm.calls
+calls_of Ssd w = w.ssd.calls
+calls_of Settings w = w.settings_reads.calls
+calls_of Source w = w.script_reads.calls
+calls_of Sink w = w.writes.calls
+
+-- the plan names the next call of this kind
+abbrev pub is_planned : FaultKind → MemWorld → Bool
+is_planned kind w = is_named w.plan.items kind (calls_of kind w)
+
 -- A call fails exactly where a fault names it, or where it found no memory.
-pub record FailsExactly {T E : Type 0} (is_planned : Bool) (short_before short_after : ℕ) (result : Result T E) : Type 0 where
-  pub named : IsTrue is_planned → IsErr result
-  pub failed : IsErr result → IsTrue is_planned ⊎ (short_after ≡ min (short_before + 1) last_count)
-  pub ok : OnOk result (short_after ≡ short_before)
+pub record FailsExactly {T E : Type 0} (kind : FaultKind) (old new : MemWorld) (result : Result T E) : Type 0 where
+  pub named : IsTrue (is_planned kind old) → IsErr result
+  pub failed : IsErr result → IsTrue (is_planned kind old) ⊎ (new.short ≡ min (old.short + 1) last_count)
+  pub ok : OnOk result (new.short ≡ old.short)
 
 -- A call that takes no memory fails exactly where a fault names it.
-pub record FailsOnlyAt {T E : Type 0} (is_planned : Bool) (short_before short_after : ℕ) (result : Result T E) : Type 0 where
-  pub named : IsTrue is_planned → IsErr result
-  pub failed : IsErr result → IsTrue is_planned
-  pub short : short_after ≡ short_before
+pub record FailsOnlyAt {T E : Type 0} (kind : FaultKind) (old new : MemWorld) (result : Result T E) : Type 0 where
+  pub named : IsTrue (is_planned kind old) → IsErr result
+  pub failed : IsErr result → IsTrue (is_planned kind old)
+  pub short : new.short ≡ old.short
+
+-- A read that a fault stopped did nothing: what is kept, what is still to be read, and the buffer are as they were.
+pub record ReadsNothing (old new : MemWorld) (buffer_before buffer_after : List ℕ) : Type 0 where
+  pub past : Same old.past new.past
+  pub settings : rest_of new.settings ≡ rest_of old.settings
+  pub input : rest_of new.script ≡ rest_of old.script
+  pub buffer : buffer_after ≡ buffer_before
 
 -- A world before its first call: over these contents, with one version of each word and every block settled.
 pub record IsFresh (line_count block_count : ℕ) (image : Image) (settings script : List ℕ) (w : Standing) : Type 0 where
@@ -98,9 +118,13 @@ abbrev pub moment_after : List Entry → ℕ → ℕ
 moment_after entries events = prefix_len (λ entry. nat_le entry.event events) entries
 
 -- One event more. Where events are still counted, the moments after the earlier ones are as they were.
-pub record Marks (entries later : List Entry) (events_before events_after : ℕ) : Type 0 where
+pub record Marked (entries later : List Entry) (events_before events_after : ℕ) : Type 0 where
   pub counted : events_after ≡ min (events_before + 1) last_count
-  pub earlier : events_before < last_count → (events : ℕ) → events ≤ events_before → moment_after later events ≡ moment_after entries events
+  pub earlier : events_before < last_count → (events : ℕ) → events ≤ events_before
+      → moment_after later events ≡ moment_after entries events
+
+abbrev pub Marks : MemWorld → MemWorld → Type 0
+Marks old new = Marked old.past.entries.items new.past.entries.items old.events new.events
 
 -- One call more of these devices and streams, and the same faults are to come.
 pub record Calls (nvm ssd settings source sink : Bool) (old new : MemWorld) : Type 0 where

@@ -34,7 +34,6 @@ impl Devices for MemWorld {
     ghost use Rattle.devices.specs.State.{line_at};
     ghost use Rattle.devices.specs.State.Call.{store_word, store_line, flush, fence, write_block, sync};
     ghost use Rattle.devices.specs.World.{now, Goes, Stays, Makes, NvmCause, SsdCause, Counts};
-    ghost use Rattle.devices.specs.Faults.{is_named};
     ghost use Rattle.devices.specs.Past.{Same};
     ghost use Rattle.devices.specs.MemWorld.{world, FailsExactly, FailsOnlyAt, Calls, Marks};
     ghost use Rattle.devices.specs.declared.faults.FaultKind.TheVariants.{Nvm, Ssd};
@@ -55,9 +54,9 @@ impl Devices for MemWorld {
         ensures stays { Stays (world self.old) (world self.new) }
         ensures value { IsTrue (world self.old).told → IfOk result (λ found. found ≡ line_at (now (world self.old)) line) }
         ensures cause { NvmCause (world self.old) (world self.new) result }
-        ensures exactly { FailsOnlyAt (is_named self.old.plan.items Nvm self.old.nvm.calls) self.old.short self.new.short result }
+        ensures exactly { FailsOnlyAt Nvm self.old self.new result }
         ensures calls { Calls true false false false false self.old self.new }
-        ensures marks { Marks self.old.past.entries.items self.new.past.entries.items self.old.events self.new.events }
+        ensures marks { Marks self.old self.new }
     {
         begin(&self.plan, FaultKind::Nvm, &mut self.nvm, &mut self.events)?;
         Ok(self.past.load(line))
@@ -69,10 +68,10 @@ impl Devices for MemWorld {
         ensures goes { Goes (world self.old) (world self.new) }
         ensures makes { Makes (store_word line word value) (world self.old) (world self.new) result }
         ensures cause { NvmCause (world self.old) (world self.new) result }
-        ensures exactly { FailsExactly (is_named self.old.plan.items Nvm self.old.nvm.calls) self.old.short self.new.short result }
+        ensures exactly { FailsExactly Nvm self.old self.new result }
         ensures undone { OnErr result (Same self.old.past self.new.past) }
         ensures calls { Calls true false false false false self.old self.new }
-        ensures marks { Marks self.old.past.entries.items self.new.past.entries.items self.old.events self.new.events }
+        ensures marks { Marks self.old self.new }
     {
         begin(&self.plan, FaultKind::Nvm, &mut self.nvm, &mut self.events)?;
         match self.past.store_word(self.events, line, word, value) {
@@ -86,10 +85,10 @@ impl Devices for MemWorld {
         ensures goes { Goes (world self.old) (world self.new) }
         ensures makes { Makes (store_line line value.now) (world self.old) (world self.new) result }
         ensures cause { NvmCause (world self.old) (world self.new) result }
-        ensures exactly { FailsExactly (is_named self.old.plan.items Nvm self.old.nvm.calls) self.old.short self.new.short result }
+        ensures exactly { FailsExactly Nvm self.old self.new result }
         ensures undone { OnErr result (Same self.old.past self.new.past) }
         ensures calls { Calls true false false false false self.old self.new }
-        ensures marks { Marks self.old.past.entries.items self.new.past.entries.items self.old.events self.new.events }
+        ensures marks { Marks self.old self.new }
     {
         begin(&self.plan, FaultKind::Nvm, &mut self.nvm, &mut self.events)?;
         match self.past.store_line(self.events, line, value) {
@@ -103,10 +102,10 @@ impl Devices for MemWorld {
         ensures goes { Goes (world self.old) (world self.new) }
         ensures makes { Makes (flush line) (world self.old) (world self.new) result }
         ensures cause { NvmCause (world self.old) (world self.new) result }
-        ensures exactly { FailsExactly (is_named self.old.plan.items Nvm self.old.nvm.calls) self.old.short self.new.short result }
+        ensures exactly { FailsExactly Nvm self.old self.new result }
         ensures undone { OnErr result (Same self.old.past self.new.past) }
         ensures calls { Calls true false false false false self.old self.new }
-        ensures marks { Marks self.old.past.entries.items self.new.past.entries.items self.old.events self.new.events }
+        ensures marks { Marks self.old self.new }
     {
         begin(&self.plan, FaultKind::Nvm, &mut self.nvm, &mut self.events)?;
         match self.past.flush(self.events, line) {
@@ -120,10 +119,10 @@ impl Devices for MemWorld {
         ensures makes { Makes fence (world self.old) (world self.new) result }
         ensures or_not { OnErr result (Stays (world self.old) (world self.new)) }
         ensures cause { NvmCause (world self.old) (world self.new) result }
-        ensures exactly { FailsExactly (is_named self.old.plan.items Nvm self.old.nvm.calls) self.old.short self.new.short result }
+        ensures exactly { FailsExactly Nvm self.old self.new result }
         ensures undone { OnErr result (Same self.old.past self.new.past) }
         ensures calls { Calls true false false false false self.old self.new }
-        ensures marks { Marks self.old.past.entries.items self.new.past.entries.items self.old.events self.new.events }
+        ensures marks { Marks self.old self.new }
     {
         begin(&self.plan, FaultKind::Nvm, &mut self.nvm, &mut self.events)?;
         match self.past.fence(self.events) {
@@ -139,9 +138,10 @@ impl Devices for MemWorld {
         ensures value { IsTrue (world self.old).told → OnOk result (into.new ≡ ((now (world self.old)).ssd block).bytes) }
         ensures cause { SsdCause (world self.old) (world self.new) result }
         ensures counts { Counts (world self.old) (world self.new) }
-        ensures exactly { FailsOnlyAt (is_named self.old.plan.items Ssd self.old.ssd.calls) self.old.short self.new.short result }
+        ensures exactly { FailsOnlyAt Ssd self.old self.new result }
+        ensures undone { OnErr result (into.new ≡ into.old) }
         ensures calls { Calls false true false false false self.old self.new }
-        ensures marks { Marks self.old.past.entries.items self.new.past.entries.items self.old.events self.new.events }
+        ensures marks { Marks self.old self.new }
     {
         self.block_reads = self.block_reads.saturating_add(1);
         begin(&self.plan, FaultKind::Ssd, &mut self.ssd, &mut self.events)?;
@@ -155,10 +155,10 @@ impl Devices for MemWorld {
         ensures makes { Makes (write_block block from.now) (world self.old) (world self.new) result }
         ensures cause { SsdCause (world self.old) (world self.new) result }
         ensures reads { (world self.new).block_reads ≡ (world self.old).block_reads }
-        ensures exactly { FailsExactly (is_named self.old.plan.items Ssd self.old.ssd.calls) self.old.short self.new.short result }
+        ensures exactly { FailsExactly Ssd self.old self.new result }
         ensures undone { OnErr result (Same self.old.past self.new.past) }
         ensures calls { Calls false true false false false self.old self.new }
-        ensures marks { Marks self.old.past.entries.items self.new.past.entries.items self.old.events self.new.events }
+        ensures marks { Marks self.old self.new }
     {
         begin(&self.plan, FaultKind::Ssd, &mut self.ssd, &mut self.events)?;
         match self.past.write_block(self.events, block, from) {
@@ -173,10 +173,10 @@ impl Devices for MemWorld {
         ensures or_not { OnErr result (Stays (world self.old) (world self.new)) }
         ensures cause { SsdCause (world self.old) (world self.new) result }
         ensures reads { (world self.new).block_reads ≡ (world self.old).block_reads }
-        ensures exactly { FailsExactly (is_named self.old.plan.items Ssd self.old.ssd.calls) self.old.short self.new.short result }
+        ensures exactly { FailsExactly Ssd self.old self.new result }
         ensures undone { OnErr result (Same self.old.past self.new.past) }
         ensures calls { Calls false true false false false self.old self.new }
-        ensures marks { Marks self.old.past.entries.items self.new.past.entries.items self.old.events self.new.events }
+        ensures marks { Marks self.old self.new }
     {
         begin(&self.plan, FaultKind::Ssd, &mut self.ssd, &mut self.events)?;
         match self.past.sync(self.events) {
@@ -189,10 +189,9 @@ impl Devices for MemWorld {
 impl World for MemWorld {
     ghost use Rattle.std.specs.Prelude.{◌≡◌, ◌<◌, ◌≤◌, ℕ, true, false, length, IfOk, OnErr};
     ghost use Rattle.devices.specs.World.{ReadsNext, OnlyChanges, Sends, WorldCall, OwnCause};
-    ghost use Rattle.devices.specs.Faults.{is_named};
     ghost use Rattle.devices.specs.Laws.{sent_later};
     ghost use Rattle.devices.specs.Past.{Same};
-    ghost use Rattle.devices.specs.MemWorld.{world, FailsExactly, FailsOnlyAt, Calls, Marks};
+    ghost use Rattle.devices.specs.MemWorld.{world, FailsExactly, FailsOnlyAt, ReadsNothing, Calls, Marks};
     ghost use Rattle.devices.specs.declared.faults.FaultKind.TheVariants.{Settings, Source, Sink};
 
     ghost timed = { λ w m le. sent_later w.past m w.sound le };
@@ -204,9 +203,10 @@ impl World for MemWorld {
         ensures cause { OwnCause (world self.old).outside.settings_faults (world self.new).outside.settings_faults result }
         ensures reads { ReadsNext (world self.old).told (world self.old).outside.settings (world self.new).outside.settings result into.new }
         ensures rest { OnlyChanges true false false (world self.old) (world self.new) }
-        ensures exactly { FailsOnlyAt (is_named self.old.plan.items Settings self.old.settings_reads.calls) self.old.short self.new.short result }
+        ensures exactly { FailsOnlyAt Settings self.old self.new result }
+        ensures undone { OnErr result (ReadsNothing self.old self.new into.old into.new) }
         ensures calls { Calls false false true false false self.old self.new }
-        ensures marks { Marks self.old.past.entries.items self.new.past.entries.items self.old.events self.new.events }
+        ensures marks { Marks self.old self.new }
     {
         begin(
             &self.plan,
@@ -224,9 +224,10 @@ impl World for MemWorld {
         ensures cause { OwnCause (world self.old).outside.source_faults (world self.new).outside.source_faults result }
         ensures reads { ReadsNext (world self.old).told (world self.old).outside.input (world self.new).outside.input result into.new }
         ensures rest { OnlyChanges false true false (world self.old) (world self.new) }
-        ensures exactly { FailsOnlyAt (is_named self.old.plan.items Source self.old.script_reads.calls) self.old.short self.new.short result }
+        ensures exactly { FailsOnlyAt Source self.old self.new result }
+        ensures undone { OnErr result (ReadsNothing self.old self.new into.old into.new) }
         ensures calls { Calls false false false true false self.old self.new }
-        ensures marks { Marks self.old.past.entries.items self.new.past.entries.items self.old.events self.new.events }
+        ensures marks { Marks self.old self.new }
     {
         begin(
             &self.plan,
@@ -244,10 +245,10 @@ impl World for MemWorld {
         ensures cause { OwnCause (world self.old).outside.sink_faults (world self.new).outside.sink_faults result }
         ensures sends { Sends (world self.old) (world self.new) bytes.now result }
         ensures rest { OnlyChanges false false true (world self.old) (world self.new) }
-        ensures exactly { FailsExactly (is_named self.old.plan.items Sink self.old.writes.calls) self.old.short self.new.short result }
+        ensures exactly { FailsExactly Sink self.old self.new result }
         ensures undone { OnErr result (Same self.old.past self.new.past) }
         ensures calls { Calls false false false false true self.old self.new }
-        ensures marks { Marks self.old.past.entries.items self.new.past.entries.items self.old.events self.new.events }
+        ensures marks { Marks self.old self.new }
         ensures whole { IfOk result (λ count. count ≡ length bytes.now) }
     {
         begin(
