@@ -9,7 +9,7 @@ use Rattle.std.specs.Io.KnownBytes.{Consumes, IsAtEnd}
 use Rattle.std.proofs.KnownBytes.{Consumes-trans}
 use borrow.Rule.Slice.PartMut.{put_mid, post_of}
 use lib.Seq.{take-add, take-append-le}
-use Rattle.device_files.specs.Positioned.{padded, bytes_from, with_bytes, Writes}
+use Rattle.device_files.specs.Positioned.{padded, bytes_from, with_bytes, WritesBytes}
 
 pub take_split : (a b : ℕ) (old new : List ℕ) → a ≤ b → take a new ≡ take a old → take a old ++ slice_range new a b ≡ take b new
 take_split a b old new h front =
@@ -139,8 +139,8 @@ with_bytes_more start (x ∷ a) (y ∷ b) xs = spliced_more start (x ∷ a) (y �
 
 -- one more piece behind those that were written
 pub writes_more : (start at count : ℕ) (bytes : List ℕ) (old middle new : Option (List ℕ)) → at ≤ length bytes
-    → Writes start (take at bytes) old middle → Writes (start + at) (take count (take (length bytes - at) (drop at bytes))) middle new
-    → Writes start (take (at + count) bytes) old new
+    → WritesBytes start (take at bytes) old middle → WritesBytes (start + at) (take count (take (length bytes - at) (drop at bytes))) middle new
+    → WritesBytes start (take (at + count) bytes) old new
 writes_more start at count bytes None middle new within before next = record { each = tt }
 writes_more start at count bytes (Some xs) None new within before next =
     let none : None ≡ Some (with_bytes start (take at bytes) xs) = before.each in

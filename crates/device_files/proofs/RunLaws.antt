@@ -3,7 +3,7 @@ use Rattle.std.proofs.Common.{◌≡◌, ℕ, ◌+◌, ◌*◌, ◌≤◌, List,
 use Rattle.std.specs.Prelude.{Option, Some, None}
 use Rattle.device_files.specs.declared.placed_line.PlacedLine.{PlacedLine}
 use Rattle.device_files.specs.declared.run.Run.{Run}
-use Rattle.device_files.specs.Positioned.{with_bytes, Writes}
+use Rattle.device_files.specs.Positioned.{with_bytes, WritesBytes}
 use Rattle.device_files.specs.LineBytes.{line_start, with_line, with_lines, WritesLines}
 use Rattle.device_files.specs.Run.{run_bytes, with_run, Adds, Pends}
 use Rattle.device_files.proofs.PositionLaws.{with_bytes_more}
@@ -24,7 +24,7 @@ pub length-run_bytes : (run : Run) → run.count ≤ 64 → length run.bytes ≡
 length-run_bytes run bound size = length-take-le (64 * run.count) run.bytes (omega arith)
 
 -- where nothing is written, nothing changes
-pub writes_none : (start : ℕ) (bytes : List ℕ) (known : Option (List ℕ)) → bytes ≡ [] → Writes start bytes known known
+pub writes_none : (start : ℕ) (bytes : List ℕ) (known : Option (List ℕ)) → bytes ≡ [] → WritesBytes start bytes known known
 writes_none start bytes None none = record { each = tt }
 writes_none start bytes (Some xs) none = record { each = ap (λ (l : List ℕ). Some (with_bytes start l xs)) (sym none) }
 
@@ -36,7 +36,7 @@ adds_pushed placed old new (Some xs) taken = record { each = taken xs }
 
 -- the run is written, and begins with the line
 pub adds_written : (placed : PlacedLine) (old refused empty new : Run) (before after : Option (List ℕ))
-    → ((xs : List ℕ) → with_run refused xs ≡ with_run old xs) → Writes (line_start refused.first) (run_bytes refused) before after
+    → ((xs : List ℕ) → with_run refused xs ≡ with_run old xs) → WritesBytes (line_start refused.first) (run_bytes refused) before after
     → empty.count ≡ 0 → ((xs : List ℕ) → with_run new xs ≡ with_line placed (with_run empty xs)) → Adds placed old new before after
 adds_written placed old refused empty new None after same written none taken = record { each = tt }
 adds_written placed old refused empty new (Some xs) None same written none taken =
@@ -67,7 +67,7 @@ pends_more lines more placed run new_run (Some xs) (Some ys) (Some zs) is before
 
 -- at the end the run is written too
 pub pends_done : (lines : List PlacedLine) (run : Run) (old now new : Option (List ℕ)) → Pends lines run old now
-    → Writes (line_start run.first) (run_bytes run) now new → WritesLines lines old new
+    → WritesBytes (line_start run.first) (run_bytes run) now new → WritesLines lines old new
 pends_done lines run None now new before next = record { each = tt }
 pends_done lines run (Some xs) None new before next = absurd before.each
 pends_done lines run (Some xs) (Some ys) new before next = record { each = next.each ∙ ap (λ (l : List ℕ). Some l) before.each }

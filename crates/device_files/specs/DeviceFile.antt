@@ -3,7 +3,7 @@ use Rattle.std.specs.Prelude.{◌≡◌, ℕ, List, Option, Some, IfSome, IsSome
 use Rattle.byteorder.specs.Endian.{little_number, IsRead}
 use Rattle.nvm_model.specs.declared.line.Line.{Line}
 use Rattle.device_files.specs.LineBytes.{line_start}
-use Rattle.device_files.specs.Positioned.{padded, bytes_from, Writes}
+use Rattle.device_files.specs.Positioned.{padded, bytes_from, WritesBytes}
 
 -- From the file so many bytes were read from `start` on, with zeros past its end. It is open now, and one that was open is
 -- as it was.
@@ -15,7 +15,7 @@ pub record ReadsAt {F : Type 0} (known : F → Option (List ℕ)) (start size : 
 pub record WritesAt {F : Type 0} (known : F → Option (List ℕ)) (start : ℕ) (open_file new_file : Option F) (bytes : List ℕ) : Type 0 where
   pub opened : F
   pub same : IfSome open_file (λ file. opened ≡ file)
-  pub written : IsSomeAnd new_file (λ file. Writes start bytes (known opened) (known file))
+  pub written : IsSomeAnd new_file (λ file. WritesBytes start bytes (known opened) (known file))
 
 -- among these bytes of a file the line has this value
 pub record IsLineOf (xs : List ℕ) (line : ℕ) (value : Line) : Type 0 where

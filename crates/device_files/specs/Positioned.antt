@@ -16,5 +16,5 @@ with_bytes start [] xs = xs
 with_bytes start (b ∷ bs) xs = padded start xs ++ (b ∷ bs) ++ drop (start + length (b ∷ bs)) xs
 
 -- where the bytes of a file are known, these were written from that position on, and no other changed
-pub record Writes (start : ℕ) (bytes : List ℕ) (old new : Option (List ℕ)) : Type 0 where
+pub record WritesBytes (start : ℕ) (bytes : List ℕ) (old new : Option (List ℕ)) : Type 0 where
   pub each : IfSome old (λ xs. new ≡ Some (with_bytes start bytes xs))

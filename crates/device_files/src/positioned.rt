@@ -2,7 +2,7 @@
 ghost use Rattle.std.specs.Prelude.{◌≡◌, ◌<◌, ◌≤◌, ◌+◌, ◌-◌, ◌^◌, ◌++◌, ℕ, List, Option, None, length, take, replicate, IfOk, OnErr, OnOk, IfSome};
 ghost use Rattle.std.specs.Io.{ReadsAtMost, WritesAtMost};
 ghost use Rattle.std.specs.Io.KnownBytes.{Consumes, IsAtEnd, Keeps};
-ghost use Rattle.device_files.specs.Positioned.{padded, bytes_from, Writes};
+ghost use Rattle.device_files.specs.Positioned.{padded, bytes_from, WritesBytes};
 
 use std::fs::File;
 use std::io;
@@ -24,7 +24,7 @@ pub trait PositionedFile {
     /// write that fails changes nothing.
     fn write_some_at(&mut self, start: u64, bytes: &[u8]) -> io::Result<usize>
         ensures bound { WritesAtMost result bytes.now }
-        ensures sent { IfOk result (λ count. Writes start (take count bytes.now) (known_bytes self.old) (known_bytes self.new)) }
+        ensures sent { IfOk result (λ count. WritesBytes start (take count bytes.now) (known_bytes self.old) (known_bytes self.new)) }
         ensures none { OnErr result (Keeps (known_bytes self.old) (known_bytes self.new)) };
 }
 
@@ -62,7 +62,7 @@ pub fn fill_at<F: PositionedFile>(file: &F, start: u64, into: &mut [u8]) -> io::
 /// Writes all of the bytes from `start` on. After an error any first part of them may have been written.
 pub fn drain_at<F: PositionedFile>(file: &mut F, start: u64, bytes: &[u8]) -> io::Result<()>
     requires { start + length bytes.now < 2 ^ 64 }
-    ensures { OnOk result (Writes start bytes.now (F.known_bytes file.old) (F.known_bytes file.new)) }
+    ensures { OnOk result (WritesBytes start bytes.now (F.known_bytes file.old) (F.known_bytes file.new)) }
 {
     let mut at = 0;
     'pieces: for _ in 0..u64::MAX {
@@ -97,7 +97,7 @@ fn read_piece<F: PositionedFile>(file: &F, start: u64, into: &mut [u8]) -> io::R
 /// One write, of at least a byte, tried again where a signal interrupts it. A file that takes none is at fault.
 fn write_piece<F: PositionedFile>(file: &mut F, start: u64, bytes: &[u8]) -> io::Result<usize>
     ensures bound { IfOk result (λ count. (1 ≤ count) × (count ≤ length bytes.now)) }
-    ensures sent { IfOk result (λ count. Writes start (take count bytes.now) (F.known_bytes file.old) (F.known_bytes file.new)) }
+    ensures sent { IfOk result (λ count. WritesBytes start (take count bytes.now) (F.known_bytes file.old) (F.known_bytes file.new)) }
 {
     'tries: for _ in 0..u64::MAX {
         match file.write_some_at(start, bytes) {

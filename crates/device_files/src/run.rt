@@ -25,7 +25,7 @@ pub struct Run {
 
 impl Run {
     ghost use Rattle.device_files.specs.LineBytes.{line_start, with_line};
-    ghost use Rattle.device_files.specs.Positioned.{Writes};
+    ghost use Rattle.device_files.specs.Positioned.{WritesBytes};
     ghost use Rattle.device_files.specs.Run.{run_bytes, with_run};
 
     /// A run of no lines.
@@ -97,7 +97,7 @@ impl Run {
 
     /// Writes the lines where they stand, and the run is empty then.
     pub fn write<F: PositionedFile>(&mut self, file: &mut F) -> io::Result<()>
-        ensures written { OnOk result (Writes (line_start self.old.first) (run_bytes self.old) (F.known_bytes file.old) (F.known_bytes file.new)) }
+        ensures written { OnOk result (WritesBytes (line_start self.old.first) (run_bytes self.old) (F.known_bytes file.old) (F.known_bytes file.new)) }
         ensures empty { OnOk result (self.new.count ≡ 0) }
     {
         if self.count > 0 {

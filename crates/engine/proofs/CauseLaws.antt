@@ -7,7 +7,8 @@ use Rattle.line_pages.specs.declared.stop.Stop.{Stop}
 use Rattle.line_pages.specs.declared.stop.Stop.TheVariants.{Nvm, Ssd, Damaged}
 use Rattle.line_pages.specs.Standing.{Standing, HasCause, IsCause}
 use Rattle.flat_transactions.specs.declared.book.Book.{Book}
-use Rattle.flat_transactions.specs.OpenStore.{HasFault, IsCounted, HasAbortCause, IsCountedOrDamage, IsLogDamage, IsFaultAlone}
+use Rattle.line_pages.specs.Standing.{IsFault}
+use Rattle.flat_transactions.specs.OpenStore.{HasFault, IsCounted, HasAbortCause, IsCountedOrDamage, IsLogDamage}
 use Rattle.flat_transactions.specs.StoreStanding.{standing_of}
 use Rattle.engine.specs.declared.engine.Engine.{Engine}
 use Rattle.engine.specs.Causes.{IsDamage, IsUndoDamage, Stops, StopsUndoing}
@@ -31,7 +32,7 @@ fault_cause P old new a b x y z p q r Ssd h = h
 fault_cause P old new a b x y z p q r (Damaged e) h = absurd h
 
 abort_cause : (P : Evidence → Type 0) (old new : Book) (a b : Device) (x y z p q r : ℕ) (why : Stop) → ((e : Evidence) → IsLogDamage old a e × (IsTrue a.told → ⊥) → P e)
-    → (IsTrue a.told → IsFaultAlone why) → IsCountedOrDamage old a b why → IsCause P (standing_of old a x y z) (standing_of new b p q r) why
+    → (IsTrue a.told → IsFault why) → IsCountedOrDamage old a b why → IsCause P (standing_of old a x y z) (standing_of new b p q r) why
 abort_cause P old new a b x y z p q r Nvm weaker sound h = h
 abort_cause P old new a b x y z p q r Ssd weaker sound h = h
 abort_cause P old new a b x y z p q r (Damaged e) weaker sound h = weaker e (h, λ told. sound told)
@@ -42,7 +43,7 @@ module _ (P : Evidence → Type 0) (old new : Book) (a b : Device) where
   stops_fault (Err found) why is cause =
       record { failed = subst (λ (x : Stop). IsCause P (standing_of old a 0 0 0) (standing_of new b 0 0 0) x) (sym is.1) (fault_cause P old new a b 0 0 0 0 0 0 why cause.failed); kept = tt }
 
-  pub stops_abort : {T U : Type 0} (r : Result T Stop) (why : Stop) → IsErr r × IsErrAnd r (λ found. found ≡ why) → ((e : Evidence) → IsLogDamage old a e × (IsTrue a.told → ⊥) → P e) → (IsTrue a.told → IsFaultAlone why)
+  pub stops_abort : {T U : Type 0} (r : Result T Stop) (why : Stop) → IsErr r × IsErrAnd r (λ found. found ≡ why) → ((e : Evidence) → IsLogDamage old a e × (IsTrue a.told → ⊥) → P e) → (IsTrue a.told → IsFault why)
       → HasAbortCause {T = U} old a b (Err why) → HasCause P (standing_of old a 0 0 0) (standing_of new b 0 0 0) r
   stops_abort (Ok v) why is weaker sound cause = let none : false ≡ true = is.0 in absurd (cc)
   stops_abort (Err found) why is weaker sound cause =

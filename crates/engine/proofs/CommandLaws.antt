@@ -9,7 +9,6 @@ use Rattle.damage.specs.declared.evidence.Evidence.{Evidence}
 use Rattle.line_pages.specs.declared.stop.Stop.{Stop}
 use Rattle.line_pages.specs.declared.stop.Stop.TheVariants.{Nvm, Ssd, Damaged}
 use Rattle.page_format.specs.Search.{Keeps}
-use Rattle.page_alloc.specs.Stops.{IsFault as IsTreeFault}
 use Rattle.table_catalog.specs.Stored.{IsStore}
 use Rattle.page_format.specs.declared.work.Work.{Work}
 use Rattle.rows.specs.Tables.{Table}
@@ -23,7 +22,8 @@ use Rattle.script.specs.Machine.{State, Open, current, written}
 use Rattle.script.specs.declared.command.Reply.{Reply}
 use Rattle.engine.specs.declared.engine.Engine.{Engine}
 use Rattle.engine.specs.Holds.{AreLimits, HoldsTables}
-use Rattle.engine.specs.Engine.{engine_sizes, engine_lines, has_open, writes_done, most_writes, log_end, StandsFor, Shows, IsTransaction, IsFault}
+use Rattle.engine.specs.Engine.{engine_sizes, engine_lines, has_open, writes_done, most_writes, log_end, StandsFor, Shows, IsTransaction}
+use Rattle.line_pages.specs.Standing.{IsFault}
 use Rattle.engine.specs.Steps.{Does}
 use Rattle.engine.proofs.HoldsLaws.{holds_same, holds_with}
 use Rattle.engine.proofs.DoesLaws.{does_kept}
@@ -41,12 +41,6 @@ handed_on (Err found) why is = ap Err is.1
 pub on_device : {W T : Type 0} (standing : W → Device) (after : State → State) (old : Engine) (a : Device) (new : Engine) (w v : W) (r : Result T Stop) → w ≡ v
     → Does after old a new (standing v) r → Does after old a new (standing w) r
 on_device {W} {T} standing after old a new w v r is it = subst (λ (x : W). Does after old a new (standing x) r) (sym is) it
-
--- the stops of a call of trees are those of a call of an engine
-pub fault_is : (why : Stop) → IsTreeFault why → IsFault why
-fault_is Nvm h = tt
-fault_is Ssd h = tt
-fault_is (Damaged e) h = h
 
 -- why a call stopped, the references being of no name, and what the buffer fails
 cause_is : (Fails Damage : Evidence → Type 0) (old new : Book) (a b : Device) (book_name device_name since book_name_after device_name_after since_after : ℕ) (why : Stop) → Keeps Fails why

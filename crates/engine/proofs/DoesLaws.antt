@@ -11,7 +11,8 @@ use Rattle.flat_transactions.proofs.OpenStoreLaws.{ready_near, ready_store, stea
 use Rattle.script.specs.Machine.{State, current as current_tables}
 use Rattle.engine.specs.declared.engine.Engine.{Engine}
 use Rattle.engine.specs.Holds.{HoldsTables, HasEither, InOrder, Holds}
-use Rattle.engine.specs.Engine.{engine_sizes, engine_lines, engine_reach, log_end, StandsFor, IsSteadyFor, Shows, IsFault}
+use Rattle.engine.specs.Engine.{engine_sizes, engine_lines, engine_reach, log_end, StandsFor, IsSteadyFor, Shows}
+use Rattle.line_pages.specs.Standing.{IsFault}
 use Rattle.engine.specs.Steps.{Does}
 use Rattle.engine.proofs.HoldsLaws.{in_order, image_in_order}
 

@@ -24,7 +24,8 @@ use Rattle.engine.specs.declared.engine.Engine.{Engine}
 use Rattle.engine.specs.declared.scan.Step.{Step}
 use Rattle.engine.specs.declared.scan.Step.TheVariants.{Silent, Said}
 use Rattle.engine.specs.Holds.{bounds_in}
-use Rattle.engine.specs.Engine.{engine_sizes, has_open, evidence_bytes, StandsFor, IsTransaction, Shows, IsFault}
+use Rattle.engine.specs.Engine.{engine_sizes, has_open, evidence_bytes, StandsFor, IsTransaction, Shows}
+use Rattle.line_pages.specs.Standing.{IsFault}
 use Rattle.engine.specs.Commands.{shown}
 use Rattle.engine.specs.Causes.{IsDamage, IsUndoDamage, Stops, StopsUndoing}
 use Rattle.engine.specs.Steps.{Does, Replies, after_command, after_line, step_replies, IsBegun}

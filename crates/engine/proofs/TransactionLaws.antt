@@ -18,7 +18,8 @@ use Rattle.script.specs.declared.command.Command.TheVariants as command
 use Rattle.script.specs.declared.command.Reply.TheVariants as reply
 use Rattle.engine.specs.declared.engine.Engine.{Engine}
 use Rattle.engine.specs.Holds.{HoldsTables, bounds_in}
-use Rattle.engine.specs.Engine.{IsSteadyFor, engine_sizes, engine_lines, has_open, writes_done, most_writes, log_end, StandsFor, IsTransaction, Shows, IsFault}
+use Rattle.engine.specs.Engine.{IsSteadyFor, engine_sizes, engine_lines, has_open, writes_done, most_writes, log_end, StandsFor, IsTransaction, Shows}
+use Rattle.line_pages.specs.Standing.{IsFault}
 use Rattle.engine.specs.Steps.{Does, Replies, after_command}
 use Rattle.engine.proofs.HoldsLaws.{holds_same}
 use Rattle.engine.proofs.DoesLaws.{does_same, does_kept, does_chosen}

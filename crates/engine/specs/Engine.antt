@@ -68,9 +68,3 @@ pub record Shows (engine : Engine) (d : Standing) (s : State) : Type 0 where
   pub seen : HoldsTables (engine_sizes engine) (engine_lines engine d) (current s)
   pub transaction : IsTransaction engine.book s.transaction
   pub commits : engine.commits ≡ s.commits
-
--- a stop that is a fault, and no damage
-abbrev pub IsFault : Stop → Type 0
-IsFault Nvm = Unit {0}
-IsFault Ssd = Unit {0}
-IsFault (Damaged evidence) = ⊥

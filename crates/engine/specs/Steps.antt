@@ -16,7 +16,8 @@ use Rattle.engine.specs.declared.scan.Scan.{Scan}
 use Rattle.engine.specs.declared.scan.Step.{Step}
 use Rattle.engine.specs.declared.scan.Step.TheVariants.{Silent, Said, Scanning}
 use Rattle.engine.specs.Holds.{bounds_in, HasEither}
-use Rattle.engine.specs.Engine.{engine_sizes, engine_reach, StandsFor, IsSteadyFor, Shows, IsFault}
+use Rattle.engine.specs.Engine.{engine_sizes, engine_reach, StandsFor, IsSteadyFor, Shows}
+use Rattle.line_pages.specs.Standing.{IsFault}
 
 -- the rows that a scan has still to give, and its end
 abbrev pub rows_left : Scan → List Row → List Row

@@ -2,7 +2,8 @@
 ghost use Rattle.std.specs.Prelude.{◌≡◌, ◌+◌, ◌^◌, ◌≤◌, true, false, OnOk, IfErr, IsTrue};
 ghost use Rattle.flat_transactions.specs.StoreStanding.{IsReady, IsSteady};
 ghost use Rattle.flat_transactions.specs.StoreCalls.{StoreCall, IsCommitted, IsOldOrNew, KeepsLines, CommitsLines, AbortsLines, Begins, Ends, Checkpoints};
-ghost use Rattle.flat_transactions.specs.OpenStore.{account, HasFault, HasAbortCause, IsFaultAlone};
+ghost use Rattle.line_pages.specs.Standing.{IsFault};
+ghost use Rattle.flat_transactions.specs.OpenStore.{account, HasFault, HasAbortCause};
 
 use devices::Devices;
 use flat_transactions::{Book, Store};
@@ -49,7 +50,7 @@ pub(crate) fn abort<D: Devices>(book: &mut Book, dev: &mut D) -> Result<(), Stop
     ensures ready { OnOk result (IsReady book.new (D.standing dev.new)) }
     ensures steady { IsSteady book.old (D.standing dev.old) → OnOk result (IsSteady book.new (D.standing dev.new)) }
     ensures cause { HasAbortCause book.old (D.standing dev.old) (D.standing dev.new) result }
-    ensures sound { IsTrue (D.standing dev.old).told → IfErr result IsFaultAlone }
+    ensures sound { IsTrue (D.standing dev.old).told → IfErr result IsFault }
     ensures call { StoreCall (IsCommitted (D.standing dev.old)) book.old (D.standing dev.old) book.new (D.standing dev.new) }
 {
     Store::over(book, dev).abort()

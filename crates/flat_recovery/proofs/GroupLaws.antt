@@ -22,7 +22,7 @@ use Rattle.flat_store_meaning.proofs.LogLaws.{changes-append}
 use Rattle.flat_recovery.specs.Calls.{undo_calls, ending_calls, groups_calls, replay_calls}
 use Rattle.flat_recovery.specs.Reading.{entries_from, entry_at, change_at, PassFrom, IsRecordAt, AreRecords}
 use Rattle.flat_recovery.specs.Heads.{ReadsHead}
-use Rattle.flat_recovery.specs.Replaying.{group_end, held_lines, group_changes, open_changes, Writes, UndoesGroup, EndsGroup, IsNext, TakesEntry}
+use Rattle.flat_recovery.specs.Replaying.{group_end, held_lines, group_changes, open_changes, MakesCalls, UndoesGroup, EndsGroup, IsNext, TakesEntry}
 use Rattle.flat_recovery.specs.declared.replaying.Group.{Group}
 use Rattle.flat_recovery.specs.declared.errors.OpenError.{OpenError}
 use Rattle.flat_recovery.specs.declared.errors.OpenError.TheVariants.{Nvm, Ssd, NotAStore, TooSmall, LogEnded, Damaged, NoMemory}
@@ -120,10 +120,10 @@ module _ (log : Log) (group : Group) (a b : Standing) (goes : Goes a b) (stays :
     end_here : IsTrue a.told → Says (head.End kind) (f at)
     end_here told = subst (λ (x : Line). Says (head.End kind) x) (read.held told) (read.judged).1
 
-    end_writes : {T : Type 0} (r : Result T OpenError) → EndsGroup log group kind b d r → IsTrue a.told → Records → Writes (ending_calls g (group_changes f group) (entry_at f at)) a d r
+    end_writes : {T : Type 0} (r : Result T OpenError) → EndsGroup log group kind b d r → IsTrue a.told → Records → MakesCalls (ending_calls g (group_changes f group) (entry_at f at)) a d r
     end_writes r ends told records =
         let same : held_lines log b ≡ held_lines log a = held_same log a b goes stays told in
-        let there : Writes (ending_calls g (group_changes (held_lines log b) group) (end_entry kind)) b d r =
+        let there : MakesCalls (ending_calls g (group_changes (held_lines log b) group) (end_entry kind)) b d r =
         ends.writes (told_then goes told) (subst (λ (x : ℕ → Line). AreRecords g x log.tail group.first group.count) (sym same) records) in
         record {
           makes = makes_as (ap (λ (x : ℕ → Line). ending_calls g (group_changes x group) (end_entry kind)) same ∙ sym (ap (ending_calls g (group_changes f group)) (entry_of_end f at kind (end_here told))))
@@ -134,7 +134,7 @@ module _ (log : Log) (group : Group) (a b : Standing) (goes : Goes a b) (stays :
     pub end_taken : EndsGroup {T = Unit {0}} log group kind b d (Ok tt) → TakesEntry log group a d (Ok (record { first = at + 1; count = 0 }))
     end_taken ends = record {
       writes = λ told records passes.
-          let there : Writes {T = Unit {0}} (ending_calls g (group_changes f group) (entry_at f at)) a d (Ok tt) = end_writes (Ok tt) ends told records in
+          let there : MakesCalls {T = Unit {0}} (ending_calls g (group_changes f group) (entry_at f at)) a d (Ok tt) = end_writes (Ok tt) ends told records in
           record { makes = record { whole = there.makes.whole; part = there.makes.part }; only = tt };
       next = λ told records passes.
           let step : Advances g f log.tail at 1 = advance_end g f log.tail at less (by_kind kind (end_here told)) (passes_here g f log.tail at less passes) in
@@ -158,7 +158,7 @@ module _ (log : Log) (group : Group) (a b : Standing) (goes : Goes a b) (stays :
     pub end_stops : (why : OpenError) (r : Result Group OpenError) → r ≡ Err why → EndsGroup {T = Unit {0}} log group kind b d (Err why) → TakesEntry log group a d r
     end_stops why r is ends = subst (λ (x : Result Group OpenError). TakesEntry log group a d x) (sym is) (record {
       writes = λ told records passes.
-          let there : Writes {T = Unit {0}} (ending_calls g (group_changes f group) (entry_at f at)) a d (Err why) = end_writes (Err why) ends told records in
+          let there : MakesCalls {T = Unit {0}} (ending_calls g (group_changes f group) (entry_at f at)) a d (Err why) = end_writes (Err why) ends told records in
           record { makes = record { whole = λ told. tt; part = there.makes.part }; only = there.only };
       next = λ told records passes. tt;
     })
@@ -231,7 +231,7 @@ module _ (log : Log) (group : Group) (old mid : Standing) (goes : Goes old mid) 
   -- one entry more
   pub replay_more : (new : Standing) (next : Group) → Goes mid new → TakesEntry log group mid new (Ok next) → UpTo log next old new
   replay_more new next goes_new takes =
-      let made : Writes (ending_calls g₁ (group_changes (held_lines log mid) group) (entry_at (held_lines log mid) (group_end group))) mid new (Ok next) =
+      let made : MakesCalls (ending_calls g₁ (group_changes (held_lines log mid) group) (entry_at (held_lines log mid) (group_end group))) mid new (Ok next) =
       takes.writes (told_then goes told) records_mid passes_mid in
       let is : IsNext g₁ f₁ log.tail group next = subst (λ (x : ℕ → Line). IsNext g₁ x log.tail group next) same_held (takes.next (told_then goes told) records_mid passes_mid) in
       record {
@@ -245,9 +245,9 @@ module _ (log : Log) (group : Group) (old mid : Standing) (goes : Goes old mid) 
 
   -- an entry that stops
   pub replay_stops : {T : Type 0} (new : Standing) (why : OpenError) (r : Result T OpenError) → r ≡ Err why → group_end group < log.tail → Goes mid new → TakesEntry log group mid new (Err why)
-      → Writes (replay_calls g₁ (grouped no_log (entries_from f₁ log.tail log.start))) old new r
+      → MakesCalls (replay_calls g₁ (grouped no_log (entries_from f₁ log.tail log.start))) old new r
   replay_stops {T} new why r is less goes_new takes =
-      let made : Writes (ending_calls g₁ (group_changes (held_lines log mid) group) (entry_at (held_lines log mid) (group_end group))) mid new (Err why) =
+      let made : MakesCalls (ending_calls g₁ (group_changes (held_lines log mid) group) (entry_at (held_lines log mid) (group_end group))) mid new (Err why) =
       takes.writes (told_then goes told) records_mid passes_mid in
       let step : (n : ℕ) × Advances g₁ f₁ log.tail (group_end group) n = advance_some g₁ f₁ log.tail (group_end group) less it.passes in
       let begins : BeginsWith (replay_calls g₁ (grouped it.so_far (entry_at f₁ (group_end group) ∷ entries_from f₁ log.tail (group_end group + step.0))))
@@ -255,16 +255,16 @@ module _ (log : Log) (group : Group) (old mid : Standing) (goes : Goes old mid) 
       ending_begins g₁ it.so_far (entry_at f₁ (group_end group)) (entries_from f₁ log.tail (group_end group + step.0)) in
       let front : MakesAll {T = Group} (groups_calls g₁ (it.so_far).closed ++ ending_calls g₁ (changes (it.so_far).open_items) (entry_at f₁ (group_end group))) old new (Err why) =
       makes_then goes goes_new it.makes (makes_as calls_are made.makes) in
-      subst (λ (x : Result T OpenError). Writes (replay_calls g₁ (grouped no_log (entries_from f₁ log.tail log.start))) old new x) (sym is) (record {
+      subst (λ (x : Result T OpenError). MakesCalls (replay_calls g₁ (grouped no_log (entries_from f₁ log.tail log.start))) old new x) (sym is) (record {
         makes = makes_as (sym begins.is ∙ ap (λ (es : List Entry). replay_calls g₁ (grouped it.so_far es)) (sym (step.1).first) ∙ ap (replay_calls g₁) it.left) (makes_stop begins.rest {e = why} (Err why) (err_is T why) front);
         only = made.only;
       })
 
   -- the open group at the tail
   pub replay_ends : {T : Type 0} (new : Standing) (r : Result T OpenError) → log.tail ≤ group_end group → Goes mid new → UndoesGroup log group mid new r
-      → Writes (replay_calls g₁ (grouped no_log (entries_from f₁ log.tail log.start))) old new r
+      → MakesCalls (replay_calls g₁ (grouped no_log (entries_from f₁ log.tail log.start))) old new r
   replay_ends new r above goes_new undoes =
-      let made : Writes (undo_calls g₁ (group_changes (held_lines log mid) group)) mid new r = undoes.writes (told_then goes told) records_mid in
+      let made : MakesCalls (undo_calls g₁ (group_changes (held_lines log mid) group)) mid new r = undoes.writes (told_then goes told) records_mid in
       let all : grouped no_log (entries_from f₁ log.tail log.start) ≡ it.so_far =
       sym it.left ∙ ap (λ (lines : List Line). grouped it.so_far (entries whole_lines 0 lines)) (none_left f₁ log.tail (group_end group) above) in
       record {

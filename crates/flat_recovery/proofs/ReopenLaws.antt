@@ -22,7 +22,7 @@ use Rattle.flat_store_laws.specs.OpenFacts.{super_with}
 use Rattle.flat_recovery.specs.Calls.{super_calls, replay_calls, settle_calls, recover_calls}
 use Rattle.flat_recovery.specs.Reading.{entries_from, PassFrom}
 use Rattle.flat_recovery.specs.Heads.{KeepsEvidence, IsFoundFault, FindsFault, ChecksLog, fault_in}
-use Rattle.flat_recovery.specs.Replaying.{held_lines, Writes, ReplaysLog}
+use Rattle.flat_recovery.specs.Replaying.{held_lines, MakesCalls, ReplaysLog}
 use Rattle.flat_recovery.specs.Opening.{ReopensLog}
 use Rattle.flat_recovery.specs.declared.errors.OpenError.{OpenError}
 use Rattle.flat_recovery.specs.declared.errors.OpenError.TheVariants.{Nvm, Ssd, NotAStore, TooSmall, LogEnded, Damaged, NoMemory}
@@ -123,10 +123,10 @@ module _ (gates : Gates) (log : Log) (of : IsOf log gates) (a b : Standing) (goe
           let front : MakesAll {T = Unit {0}} {E = OpenError} super_calls b c (Ok tt) = record { whole = supers.whole; part = supers.part } in
           makes_then (Goes-trans goes goes_c) goes_end (makes_behind goes goes_c stays front) rest
 
-      replayed : {T : Type 0} (r : Result T OpenError) → ReplaysLog log c d r → IsTrue a.told → Writes all_replays c d r
+      replayed : {T : Type 0} (r : Result T OpenError) → ReplaysLog log c d r → IsTrue a.told → MakesCalls all_replays c d r
       replayed r replays told =
           let same : held_lines log c ≡ held_lines log a = held_on told in
-          let there : Writes (replay_calls g (grouped no_log (entries_from (held_lines log c) log.tail log.start))) c d r =
+          let there : MakesCalls (replay_calls g (grouped no_log (entries_from (held_lines log c) log.tail log.start))) c d r =
           replays.writes (told_then goes_c (told_then goes told)) ring (subst (λ (x : ℕ → Line). PassFrom g x log.tail log.start) (sym same) (checks.finds told)) in
           record {
             makes = makes_as (ap (λ (x : ℕ → Line). replay_calls g (grouped no_log (entries_from x log.tail log.start))) same) there.makes;
@@ -138,7 +138,7 @@ module _ (gates : Gates) (log : Log) (of : IsOf log gates) (a b : Standing) (goe
         finds = λ told e.
             subst (λ (x : OpenError). IsFoundFault (image_log_check whole_lines i) (log_line (super_of i).sizes (super_of i).start i) (super_of i).tail x) (sym (replayed (Err why) replays told).only) tt;
         writes = λ told e none.
-            let made : Writes {T = Unit {0}} all_replays c d (Err why) = replayed (Err why) replays told in
+            let made : MakesCalls {T = Unit {0}} all_replays c d (Err why) = replayed (Err why) replays told in
             record { makes = makes_as (calls_are e) (behind (Err why) goes_d (makes_stop (settle_calls g log.tail) {e = why} (Err why) (err_is T why) made.makes)); only = made.only };
         nothing = λ told e other. absurd (other (replayed (Err why) replays told).only);
         refused = λ told e fault some. absurd (no_refusal e fault some (checks.finds told));

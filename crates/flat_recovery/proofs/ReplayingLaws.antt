@@ -16,7 +16,7 @@ use Rattle.flat_store_meaning.specs.Format.{word_in}
 use Rattle.flat_recovery.specs.Calls.{redo_calls, undo_calls}
 use Rattle.flat_recovery.specs.Reading.{lines_at, changes_at, IsRecordAt, AreRecords}
 use Rattle.flat_recovery.specs.Heads.{ReadsHead}
-use Rattle.flat_recovery.specs.Replaying.{side_line, held_lines, Writes, CopiesLine, StoresRecord}
+use Rattle.flat_recovery.specs.Replaying.{side_line, held_lines, MakesCalls, CopiesLine, StoresRecord}
 use Rattle.flat_recovery.specs.declared.replaying.Group.{Group}
 use Rattle.flat_recovery.specs.declared.replaying.Side.{Side}
 use Rattle.flat_recovery.specs.declared.replaying.Side.TheVariants.{Before, After}
@@ -60,7 +60,7 @@ record_stored {T} log at side a b d page l place from r p q stays head place_is 
   writes = λ told is.
       let line : head.line ≡ held_lines log a at = head.held told in
       let same : held_lines log b ≡ held_lines log a = held_same log a b p stays told in
-      let made : Writes (store_line place (held_lines log b from) ∷ []) b d r = copies.writes (told_then p told) in
+      let made : MakesCalls (store_line place (held_lines log b from) ∷ []) b d r = copies.writes (told_then p told) in
       let e : place ≡ frame_line (sizes_of log.geometry) (word_in (held_lines log a at) 1) (word_in (held_lines log a at) 2) =
       place_is ∙ ap (λ n. frame_line (sizes_of log.geometry) n l) (sym ((head.judged).1).page_is ∙ ap (λ (x : Line). word_in x 1) line)
       ∙ ap (λ n. frame_line (sizes_of log.geometry) (word_in (held_lines log a at) 1) n) (sym ((head.judged).1).line_is ∙ ap (λ (x : Line). word_in x 2) line) in
@@ -98,9 +98,9 @@ module _ (log : Log) (group : Group) (a : Standing) where
 
   -- the next store
   next_store : {T : Type 0} (side : Side) (b d : Standing) (at : ℕ) (r : Result T OpenError) → Goes a b → IsTrue a.told → held_lines log b ≡ held_lines log a → IsRecordAt g f log.tail at → StoresRecord log at side b d r
-      → Writes (store_line (frame_line g (word_in (f at) 1) (word_in (f at) 2)) (f (at + side_line side)) ∷ []) b d r
+      → MakesCalls (store_line (frame_line g (word_in (f at) 1) (word_in (f at) 2)) (f (at + side_line side)) ∷ []) b d r
   next_store side b d at r p told same is stored =
-      let made : Writes (store_line (frame_line g (word_in (held_lines log b at) 1) (word_in (held_lines log b at) 2)) (held_lines log b (at + side_line side)) ∷ []) b d r =
+      let made : MakesCalls (store_line (frame_line g (word_in (held_lines log b at) 1) (word_in (held_lines log b at) 2)) (held_lines log b (at + side_line side)) ∷ []) b d r =
       stored.writes (told_then p told) (still b at same is) in
       record {
         makes = makes_as (ap (λ (x : ℕ → Line). store_line (frame_line g (word_in (x at) 1) (word_in (x at) 2)) (x (at + side_line side)) ∷ []) same) made.makes;
@@ -119,13 +119,13 @@ module _ (log : Log) (group : Group) (a : Standing) where
 
   pub redo_stopped : {T : Type 0} (i : ℕ) (b d : Standing) (e : OpenError) (r : Result T OpenError) → r ≡ Err e → i < group.count → Goes a b → Goes b d → IsTrue a.told → Records
       → MakesAll {T = Unit {0}} {E = OpenError} (redo_calls g (changes_at f group.first i)) a b (Ok tt) → StoresRecord {T = Unit {0}} log (group.first + 3 * i) After b d (Err e)
-      → Writes (redo_calls g (changes_at f group.first group.count)) a d r
+      → MakesCalls (redo_calls g (changes_at f group.first group.count)) a d r
   redo_stopped {T} i b d e r is less p q told records front stored =
       let same : held_lines log b ≡ held_lines log a = lines_kept log (redo_calls g (changes_at f group.first i)) a b records.ring (redo_frames g (changes_at f group.first i)) told front in
-      let one : Writes {T = Unit {0}} (store_line (frame_line g (word_in (f (group.first + 3 * i)) 1) (word_in (f (group.first + 3 * i)) 2)) (f (group.first + 3 * i + 2)) ∷ []) b d (Err e) =
+      let one : MakesCalls {T = Unit {0}} (store_line (frame_line g (word_in (f (group.first + 3 * i)) 1) (word_in (f (group.first + 3 * i)) 2)) (f (group.first + 3 * i + 2)) ∷ []) b d (Err e) =
       next_store After b d (group.first + 3 * i) (Err e) p told same (records.each i less) stored in
       let many : i + (1 + (group.count - i - 1)) ≡ group.count = omega arith in
-      subst (λ (x : Result T OpenError). Writes (redo_calls g (changes_at f group.first group.count)) a d x) (sym is) (record {
+      subst (λ (x : Result T OpenError). MakesCalls (redo_calls g (changes_at f group.first group.count)) a d x) (sym is) (record {
         makes = makes_as (sym (redo_split i (1 + (group.count - i - 1))) ∙ ap (λ n. redo_calls g (changes_at f group.first n)) many)
             (makes_then p q front (makes_as (sym (ap (redo_calls g) (changes_at-more f (group.first + 3 * i) 1 (group.count - i - 1))))
             (makes_stop (redo_calls g (changes_at f (group.first + 3 * i + 3 * 1) (group.count - i - 1))) {e = e} (Err e) (err_is T e) one.makes)));
@@ -159,14 +159,14 @@ module _ (log : Log) (group : Group) (a : Standing) where
 
   pub undo_stopped : {T : Type 0} (n : ℕ) (b d : Standing) (e : OpenError) (r : Result T OpenError) → r ≡ Err e → n < group.count → Goes a b → Goes b d → IsTrue a.told → Records
       → MakesAll {T = Unit {0}} {E = OpenError} (undo_calls g (changes_at f (group.first + 3 * (n + 1)) (group.count - (n + 1)))) a b (Ok tt)
-      → StoresRecord {T = Unit {0}} log (group.first + 3 * n) Before b d (Err e) → Writes (undo_calls g (changes_at f group.first group.count)) a d r
+      → StoresRecord {T = Unit {0}} log (group.first + 3 * n) Before b d (Err e) → MakesCalls (undo_calls g (changes_at f group.first group.count)) a d r
   undo_stopped {T} n b d e r is less p q told records front stored =
       let same : held_lines log b ≡ held_lines log a =
       lines_kept log (undo_calls g (changes_at f (group.first + 3 * (n + 1)) (group.count - (n + 1)))) a b records.ring (undo_frames g (changes_at f (group.first + 3 * (n + 1)) (group.count - (n + 1)))) told front in
-      let one : Writes {T = Unit {0}} (store_line (frame_line g (word_in (f (group.first + 3 * n)) 1) (word_in (f (group.first + 3 * n)) 2)) (f (group.first + 3 * n + 1)) ∷ []) b d (Err e) =
+      let one : MakesCalls {T = Unit {0}} (store_line (frame_line g (word_in (f (group.first + 3 * n)) 1) (word_in (f (group.first + 3 * n)) 2)) (f (group.first + 3 * n + 1)) ∷ []) b d (Err e) =
       next_store Before b d (group.first + 3 * n) (Err e) p told same (records.each n less) stored in
       let many : n + (group.count - n) ≡ group.count = omega arith in
-      subst (λ (x : Result T OpenError). Writes (undo_calls g (changes_at f group.first group.count)) a d x) (sym is) (record {
+      subst (λ (x : Result T OpenError). MakesCalls (undo_calls g (changes_at f group.first group.count)) a d x) (sym is) (record {
         makes = makes_as (sym (undo_split n (group.count - n)) ∙ ap (λ k. undo_calls g (changes_at f group.first k)) many)
             (makes_stop (undo_calls g (changes_at f group.first n)) (Err e) (err_is T e) (makes_as (sym (undo_next n less)) (makes_then p q front one.makes)));
         only = one.only;

@@ -22,7 +22,7 @@ head_lines (head.Line page l) = 3
 head_lines (head.End kind) = 1
 
 -- A line at an offset of a log with this tail that fails a check, kept as evidence.
-pub record IsFault (g : Sizes) (tail at : ℕ) (line : Line) (kept : Evidence) : Type 0 where
+pub record FailsEntryCheck (g : Sizes) (tail at : ℕ) (line : Line) (kept : Evidence) : Type 0 where
   pub check : ℕ
   pub fails_it : entry_check whole_lines g line (tail - at - 1) ≡ Some check
   pub keeps : kept ≡ evidence.Log at line tail check
@@ -30,7 +30,7 @@ pub record IsFault (g : Sizes) (tail at : ℕ) (line : Line) (kept : Evidence) :
 -- the line is a head where no check fails, and else the first that fails is told
 abbrev pub IsJudged : Log → ℕ → Line → Result Head OpenError → Type 0
 IsJudged log at line (Ok found) = (entry_check whole_lines (sizes_of log.geometry) line (log.tail - at - 1) ≡ None) × Says found line
-IsJudged log at line (Err (Damaged kept)) = IsFault (sizes_of log.geometry) log.tail at line kept
+IsJudged log at line (Err (Damaged kept)) = FailsEntryCheck (sizes_of log.geometry) log.tail at line kept
 IsJudged log at line (Err Nvm) = ⊥
 IsJudged log at line (Err Ssd) = ⊥
 IsJudged log at line (Err NotAStore) = ⊥
@@ -59,7 +59,7 @@ pub record ReadsHead (log : Log) (at : ℕ) (old : Standing) (result : Result He
 pub record IsLogEvidence (g : Sizes) (tail : ℕ) (kept : Evidence) : Type 0 where
   pub offset : ℕ
   pub line : Line
-  pub fault : IsFault g tail offset line kept
+  pub fault : FailsEntryCheck g tail offset line kept
 
 -- the first head that fails a check, and that check
 pub record IsFirstFault (found : Option LogFault) (line_at : ℕ → Line) (tail : ℕ) (kept : Evidence) : Type 0 where

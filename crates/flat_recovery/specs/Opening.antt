@@ -22,7 +22,7 @@ use Rattle.flat_store_laws.specs.ShownPages.{pages_in, committed_in}
 use Rattle.flat_recovery.specs.Calls.{recover_calls}
 use Rattle.flat_recovery.specs.Recovering.{LeavesStores, HoldsFacts}
 use Rattle.flat_recovery.specs.Heads.{IsLogEvidence, IsFirstFault, FindsFault}
-use Rattle.flat_recovery.specs.Replaying.{Writes}
+use Rattle.flat_recovery.specs.Replaying.{MakesCalls}
 use Rattle.flat_recovery.specs.declared.opening.Parts.{Parts}
 use Rattle.flat_recovery.specs.declared.errors.OpenError.{OpenError}
 use Rattle.flat_recovery.specs.declared.errors.OpenError.TheVariants.{Nvm, Ssd, NotAStore, TooSmall, LogEnded, Damaged, NoMemory}
@@ -129,7 +129,7 @@ pub record ReopensLog {T : Type 0} (gates : Gates) (old new : Standing) (result 
   pub finds : IsTrue old.told → super_of (current (now old)) ≡ gates_of gates
       → FindsFault (image_log_check whole_lines (current (now old))) (log_line (super_of (current (now old))).sizes (super_of (current (now old))).start (current (now old))) (super_of (current (now old))).tail result
   pub writes : IsTrue old.told → super_of (current (now old)) ≡ gates_of gates → image_log_check whole_lines (current (now old)) ≡ None
-      → Writes (recover_calls (super_of (current (now old))).sizes (log_of whole_lines (current (now old))) (super_of (current (now old))).tail) old new result
+      → MakesCalls (recover_calls (super_of (current (now old))).sizes (log_of whole_lines (current (now old))) (super_of (current (now old))).tail) old new result
   pub nothing : IsTrue old.told → super_of (current (now old)) ≡ gates_of gates → IfErr result (λ why. why ≢ Nvm → Stays old new)
   pub refused : IsTrue old.told → super_of (current (now old)) ≡ gates_of gates → (fault : LogFault) → image_log_check whole_lines (current (now old)) ≡ Some fault → Stays old new
 

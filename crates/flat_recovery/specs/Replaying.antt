@@ -37,30 +37,30 @@ abbrev pub group_changes : (ℕ → Line) → Group → List Change
 group_changes f group = changes_at f group.first group.count
 
 -- The calls were made, up to the first that failed, and only a fault stops them.
-pub record Writes {T : Type 0} (calls : List Call) (old new : Standing) (result : Result T OpenError) : Type 0 where
+pub record MakesCalls {T : Type 0} (calls : List Call) (old new : Standing) (result : Result T OpenError) : Type 0 where
   pub makes : MakesAll calls old new result
   pub only : IfErr result (λ why. why ≡ Nvm)
 
 pub record CopiesLine {T : Type 0} (log : Log) (at place : ℕ) (old new : Standing) (result : Result T OpenError) : Type 0 where
-  pub writes : IsTrue old.told → Writes (store_line place (held_lines log old at) ∷ []) old new result
+  pub writes : IsTrue old.told → MakesCalls (store_line place (held_lines log old at) ∷ []) old new result
 
 -- where a record stands, one of its lines is stored in the place that it names
 pub record StoresRecord {T : Type 0} (log : Log) (at : ℕ) (side : Side) (old new : Standing) (result : Result T OpenError) : Type 0 where
   pub writes : IsTrue old.told → IsRecordAt (sizes_of log.geometry) (held_lines log old) log.tail at
-      → Writes (store_line (frame_line (sizes_of log.geometry) (word_in (held_lines log old at) 1) (word_in (held_lines log old at) 2)) (held_lines log old (at + side_line side)) ∷ []) old new result
+      → MakesCalls (store_line (frame_line (sizes_of log.geometry) (word_in (held_lines log old at) 1) (word_in (held_lines log old at) 2)) (held_lines log old (at + side_line side)) ∷ []) old new result
 
 -- where records stand, their lines are stored
 pub record RedoesGroup {T : Type 0} (log : Log) (group : Group) (old new : Standing) (result : Result T OpenError) : Type 0 where
   pub writes : IsTrue old.told → AreRecords (sizes_of log.geometry) (held_lines log old) log.tail group.first group.count
-      → Writes (redo_calls (sizes_of log.geometry) (group_changes (held_lines log old) group)) old new result
+      → MakesCalls (redo_calls (sizes_of log.geometry) (group_changes (held_lines log old) group)) old new result
 
 pub record UndoesGroup {T : Type 0} (log : Log) (group : Group) (old new : Standing) (result : Result T OpenError) : Type 0 where
   pub writes : IsTrue old.told → AreRecords (sizes_of log.geometry) (held_lines log old) log.tail group.first group.count
-      → Writes (undo_calls (sizes_of log.geometry) (group_changes (held_lines log old) group)) old new result
+      → MakesCalls (undo_calls (sizes_of log.geometry) (group_changes (held_lines log old) group)) old new result
 
 pub record EndsGroup {T : Type 0} (log : Log) (group : Group) (kind : EndKind) (old new : Standing) (result : Result T OpenError) : Type 0 where
   pub writes : IsTrue old.told → AreRecords (sizes_of log.geometry) (held_lines log old) log.tail group.first group.count
-      → Writes (ending_calls (sizes_of log.geometry) (group_changes (held_lines log old) group) (end_entry kind)) old new result
+      → MakesCalls (ending_calls (sizes_of log.geometry) (group_changes (held_lines log old) group) (end_entry kind)) old new result
 
 -- the records that are left open with an entry more
 abbrev pub open_changes : List Change → Entry → List Change
@@ -80,7 +80,7 @@ pub record IsNext (g : Sizes) (f : ℕ → Line) (tail : ℕ) (group next : Grou
 pub record TakesEntry (log : Log) (group : Group) (old new : Standing) (result : Result Group OpenError) : Type 0 where
   pub writes : IsTrue old.told → AreRecords (sizes_of log.geometry) (held_lines log old) log.tail group.first group.count
       → PassFrom (sizes_of log.geometry) (held_lines log old) log.tail (group_end group)
-      → Writes (ending_calls (sizes_of log.geometry) (group_changes (held_lines log old) group) (entry_at (held_lines log old) (group_end group))) old new result
+      → MakesCalls (ending_calls (sizes_of log.geometry) (group_changes (held_lines log old) group) (entry_at (held_lines log old) (group_end group))) old new result
   pub next : IsTrue old.told → AreRecords (sizes_of log.geometry) (held_lines log old) log.tail group.first group.count
       → PassFrom (sizes_of log.geometry) (held_lines log old) log.tail (group_end group)
       → IfOk result (λ made. IsNext (sizes_of log.geometry) (held_lines log old) log.tail group made)
@@ -97,4 +97,4 @@ IsBehind log group result = IfOk result (λ next. EndsLater log group next)
 -- where no check fails, the whole log is replayed
 pub record ReplaysLog {T : Type 0} (log : Log) (old new : Standing) (result : Result T OpenError) : Type 0 where
   pub writes : IsTrue old.told → 0 < log.geometry.log_blocks → PassFrom (sizes_of log.geometry) (held_lines log old) log.tail log.start
-      → Writes (replay_calls (sizes_of log.geometry) (grouped no_log (entries_from (held_lines log old) log.tail log.start))) old new result
+      → MakesCalls (replay_calls (sizes_of log.geometry) (grouped no_log (entries_from (held_lines log old) log.tail log.start))) old new result

@@ -19,10 +19,11 @@ use Rattle.flat_nvm_layout.specs.declared.geometry.Geometry.{Geometry}
 use Rattle.flat_nvm_log.specs.declared.log.Log.{Log}
 use Rattle.flat_transactions.specs.declared.book.Book.{Book}
 use Rattle.flat_transactions.specs.StoreStanding.{Apart, standing_of, book_sizes, reach, Stands, IsReady, IsSteady}
-use Rattle.flat_transactions.specs.StoreCalls.{StoreCall, NextWrite, FaultCause, IsFault}
+use Rattle.flat_transactions.specs.StoreCalls.{StoreCall, NextWrite, FaultCause, IsNvmFault}
 use Rattle.flat_transactions.specs.TakenBack.{AbortCause, StopsFor, IsNvm}
 use Rattle.flat_transactions.specs.Order.{Sizes, nvm_lines, Fits, IsOrdered, IsOrderedWith, IsStoreOf}
-use Rattle.flat_transactions.specs.OpenStore.{account, current_lines, committed_lines, LeavesCommitted, LeavesEither, CallsPages, KeepsStore, HasFault, IsCounted, HasAbortCause, IsCountedOrDamage, IsFaultAlone}
+use Rattle.line_pages.specs.Standing.{IsFault}
+use Rattle.flat_transactions.specs.OpenStore.{account, current_lines, committed_lines, LeavesCommitted, LeavesEither, CallsPages, KeepsStore, HasFault, IsCounted, HasAbortCause, IsCountedOrDamage}
 
 -- ---- what is left
 
@@ -193,7 +194,7 @@ next_tail old new next = ap (λ (x : Log). x.tail) next.log
 
 -- ---- causes
 
-counted : (a b : Device) (why : Stop) → IsFault a b why → IsCounted a b why
+counted : (a b : Device) (why : Stop) → IsNvmFault a b why → IsCounted a b why
 counted a b Nvm is = is
 counted a b Ssd is = absurd is
 counted a b (Damaged kept) is = absurd is
@@ -211,6 +212,6 @@ pub has_abort_cause : {T : Type 0} (book : Book) (a b : Device) (r : Result T St
 has_abort_cause book a b (Ok v) it = record { failed = tt; nvm = it.nvm; ssd = it.ssd }
 has_abort_cause book a b (Err why) it = record { failed = counted_or_damage book a b why it.failed; nvm = tt; ssd = tt }
 
-pub fault_alone : {T : Type 0} (r : Result T Stop) → IfErr r IsNvm → IfErr r IsFaultAlone
+pub fault_alone : {T : Type 0} (r : Result T Stop) → IfErr r IsNvm → IfErr r IsFault
 fault_alone (Ok v) is = tt
-fault_alone (Err why) is = subst IsFaultAlone (sym is) tt
+fault_alone (Err why) is = subst IsFault (sym is) tt

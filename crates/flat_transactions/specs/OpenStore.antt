@@ -99,9 +99,3 @@ pub record HasAbortCause {T : Type 0} (book : Book) (a b : Device) (result : Res
   pub failed : IfErr result (IsCountedOrDamage book a b)
   pub nvm : OnOk result (b.nvm_faults ≡ a.nvm_faults)
   pub ssd : OnOk result (b.ssd_faults ≡ a.ssd_faults)
-
--- a stop that is a fault, and no damage
-abbrev pub IsFaultAlone : Stop → Type 0
-IsFaultAlone Nvm = Unit {0}
-IsFaultAlone Ssd = Unit {0}
-IsFaultAlone (Damaged kept) = ⊥

@@ -107,13 +107,13 @@ pub record Checkpoints (old new : Book) : Type 0 where
   pub loose : pairs_of new.loose ≡ no_pairs
 
 -- A fault of the NVM was counted. The disk is not used, and no damage is found.
-abbrev pub IsFault : Device → Device → Stop → Type 0
-IsFault a b Nvm = Rose a.nvm_faults b.nvm_faults
-IsFault a b Ssd = ⊥
-IsFault a b (Damaged evidence) = ⊥
+abbrev pub IsNvmFault : Device → Device → Stop → Type 0
+IsNvmFault a b Nvm = Rose a.nvm_faults b.nvm_faults
+IsNvmFault a b Ssd = ⊥
+IsNvmFault a b (Damaged evidence) = ⊥
 
 -- each stop has its cause, and no fault is passed over
 pub record FaultCause {T : Type 0} (a b : Device) (result : Result T Stop) : Type 0 where
-  pub failed : IfErr result (IsFault a b)
+  pub failed : IfErr result (IsNvmFault a b)
   pub nvm : OnOk result (b.nvm_faults ≡ a.nvm_faults)
   pub ssd : OnOk result (b.ssd_faults ≡ a.ssd_faults)

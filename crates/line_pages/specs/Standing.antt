@@ -7,6 +7,12 @@ use Rattle.line_pages.specs.declared.stop.Stop.TheVariants.{Nvm, Ssd, Damaged}
 use Rattle.line_pages.specs.Lines.{Lines, with_line}
 use Rattle.line_pages.specs.Touch.{Touch, Access, begins, touch_of, accesses, accesses_from, access_after, writes_line}
 
+-- a stop that is a fault, and no damage
+abbrev pub IsFault : Stop → Type 0
+IsFault Nvm = Unit {0}
+IsFault Ssd = Unit {0}
+IsFault (Damaged evidence) = ⊥
+
 -- What is known of a store at one moment. `told` says whether its content is known: each clause on lines holds there
 -- alone. `committed` are the lines that recovery gives, `room` is the number of line writes still allowed, `visits` that
 -- of the accesses begun, `touches` are those of the calls that answered ok, `access` is the open access, `clock` the

@@ -3,14 +3,9 @@ use Rattle.std.specs.Prelude.{◌≡◌, ℕ, ◌+◌, ◌-◌, ◌≤◌, ◌�
 use Rattle.damage.specs.declared.evidence.Evidence.TheVariants.{Super, Frames, Log, Page, Walk}
 use Rattle.line_pages.specs.declared.stop.Stop.{Stop}
 use Rattle.line_pages.specs.declared.stop.Stop.TheVariants.{Nvm, Ssd, Damaged}
+pub use Rattle.line_pages.specs.Standing.{IsFault}
 use Rattle.line_pages.specs.Lines.{Lines}
 use Rattle.page_alloc.specs.Space.{high_of}
-
--- a stop that is no damage
-abbrev pub IsFault : Stop → Type 0
-IsFault Nvm = Unit {0}
-IsFault Ssd = Unit {0}
-IsFault (Damaged evidence) = ⊥
 
 -- the pages that can be taken: the free ones, and those above the high water
 abbrev pub spare_pages : ℕ → Lines → List ℕ → ℕ

@@ -12,10 +12,11 @@ use Rattle.script.specs.declared.command.Command.{Command}
 use Rattle.script.specs.Grammar.{forms, command_in, commands}
 use Rattle.script.specs.Machine.{State}
 use Rattle.engine.specs.declared.engine.Engine.{Engine}
-use Rattle.engine.specs.Engine.{StandsFor, IsFault as IsStoreFault}
+use Rattle.engine.specs.Engine.{StandsFor}
+use Rattle.line_pages.specs.Standing.{IsFault}
 use Rattle.runner.specs.declared.stop.Halt.{Halt}
 use Rattle.runner.specs.declared.stop.Halt.TheVariants.{Store}
-use Rattle.runner.specs.Cause.{IsFault}
+use Rattle.runner.specs.Cause.{HaltsByFault}
 use Rattle.runner.specs.Run.{Aim, Owes, Comes}
 use Rattle.runner.proofs.RunLaws.{still_safe, owes_still, idle_safe, comes_then, comes_ok, comes_err, handed_on}
 
@@ -85,7 +86,7 @@ module _ (aim : Aim) (engine : Engine) (s : State) (cs : List (Option Command)) 
   }
 
 -- one that fails
-pub read_fails : {T U : Type 0} {aim : Aim} {engine after : Engine} {xs ys : List (Option Command)} {old new : Standing} {v : U} (q : Result T Halt) (why : Halt) → IsErr q × IsErrAnd q (λ found. found ≡ why) → IsFault why
+pub read_fails : {T U : Type 0} {aim : Aim} {engine after : Engine} {xs ys : List (Option Command)} {old new : Standing} {v : U} (q : Result T Halt) (why : Halt) → IsErr q × IsErrAnd q (λ found. found ≡ why) → HaltsByFault why
     → Comes aim engine [] xs old new (Ok v) → Comes aim after [] ys old new q
 read_fails {T} {U} {aim} {engine} {after} {xs} {ys} {old} {new} {v} q why is fault comes =
     subst (λ (r : Result T Halt). Comes aim after [] ys old new r) (sym (handed_on q why is)) (record { s = comes.s; proceeds = record { safe = comes.proceeds.safe; sound = fault; ok = tt } })
@@ -93,11 +94,11 @@ read_fails {T} {U} {aim} {engine} {after} {xs} {ys} {old} {new} {v} q why is fau
 -- ---- faults
 
 -- a fault that `?` hands on
-pub fault_err : {T : Type 0} (q : Result T Halt) (why : Halt) → IsErr q × IsErrAnd q (λ found. found ≡ why) → IsFault why → IfErr q IsFault
-fault_err {T} q why is fault = subst (λ (r : Result T Halt). IfErr r IsFault) (sym (handed_on q why is)) fault
+pub fault_err : {T : Type 0} (q : Result T Halt) (why : Halt) → IsErr q × IsErrAnd q (λ found. found ≡ why) → HaltsByFault why → IfErr q HaltsByFault
+fault_err {T} q why is fault = subst (λ (r : Result T Halt). IfErr r HaltsByFault) (sym (handed_on q why is)) fault
 
 -- a fault of the engine is one of the run
-pub store_fault : (why : Stop) → IsStoreFault why → IsFault (Store why)
+pub store_fault : (why : Stop) → IsFault why → HaltsByFault (Store why)
 store_fault Nvm fault = fault
 store_fault Ssd fault = fault
 store_fault (Damaged kept) fault = fault

@@ -30,7 +30,8 @@ use Rattle.script.proofs.MachineLaws.{tells, step_keeps}
 use Rattle.script.proofs.ScriptLaws.{IsState-line, acked-step}
 use Rattle.script.proofs.ValuesLaws.{IsState}
 use Rattle.engine.specs.declared.engine.Engine.{Engine}
-use Rattle.engine.specs.Engine.{engine_sizes, engine_lines, StandsFor, IsSteadyFor, Shows, IsFault as IsStopFault}
+use Rattle.engine.specs.Engine.{engine_sizes, engine_lines, StandsFor, IsSteadyFor, Shows}
+use Rattle.line_pages.specs.Standing.{IsFault}
 use Rattle.engine.specs.Holds.{bounds_in, InOrder}
 use Rattle.engine.specs.Answers.{closed}
 use Rattle.engine.specs.Steps.{Does, after_line}
@@ -38,8 +39,8 @@ use Rattle.engine.proofs.DoesLaws.{engine_fits}
 use Rattle.engine.proofs.HoldsLaws.{holds_same, image_in_order}
 use Rattle.runner.specs.declared.stop.Halt.{Halt}
 use Rattle.runner.specs.declared.stop.Halt.TheVariants.{Store}
-use Rattle.runner.specs.Cause.{IsFault}
-use Rattle.runner.specs.Sent.{Writes}
+use Rattle.runner.specs.Cause.{HaltsByFault}
+use Rattle.runner.specs.Sent.{SendsBytes}
 use Rattle.runner.specs.Run.{Aim, Owes, IsSafe, AreSafe, Proceeds, Comes, IsDone}
 
 -- ---- an engine over a call that leaves the devices
@@ -149,7 +150,7 @@ module _ (aim : Aim) (engine : Engine) (s : State) (bytes : List ℕ) (commands 
       (λ m low high. let same : m ≡ old.clock = omega arith in ap (λ (k : ℕ). sent_at old k) same)
 
   -- the first of the bytes are sent, or a part of them
-  pub said_safe : {T E : Type 0} (first more : List ℕ) (new : Standing) (r : Result T E) → first ++ more ≡ bytes → WorldCall old new → Writes first old new r → AreSafe aim old new
+  pub said_safe : {T E : Type 0} (first more : List ℕ) (new : Standing) (r : Result T E) → first ++ more ≡ bytes → WorldCall old new → SendsBytes first old new r → AreSafe aim old new
   said_safe first more new r is call writes = record {
     each = λ m low high.
         let part = writes.part m low high in
@@ -219,14 +220,14 @@ proceeds_err {T} {U} {aim} {engine} {after} {s} {t} {bytes} {more} {xs} {ys} {ol
     subst (λ (x : Result U Halt). Proceeds {T = U} aim after t more ys old new x) (sym (handed_on q why is)) (record { safe = proceeds.safe; sound = proceeds.sound; ok = tt })
 
 -- a fault of an engine is one of the run
-fault_halt : (why : Stop) → IsStopFault why → IsFault (Store why)
+fault_halt : (why : Stop) → IsFault why → HaltsByFault (Store why)
 fault_halt Nvm h = tt
 fault_halt Ssd h = tt
 fault_halt (Damaged kept) h = h
 
 -- a call of an engine that stops, of which the stop is handed on
 pub proceeds_stop : {T : Type 0} {aim : Aim} {engine : Engine} {s : State} {bytes : List ℕ} {commands : List (Option Command)} {old new : Standing} (q : Result T Halt) (why : Stop) → IsErr q × IsErrAnd q (λ found. found ≡ Store why)
-    → AreSafe aim old new → IsStopFault why → Proceeds {T = T} aim engine s bytes commands old new q
+    → AreSafe aim old new → IsFault why → Proceeds {T = T} aim engine s bytes commands old new q
 proceeds_stop {T} {aim} {engine} {s} {bytes} {commands} {old} {new} q why is safe fault =
     subst (λ (x : Result T Halt). Proceeds {T = T} aim engine s bytes commands old new x) (sym (handed_on q (Store why) is)) (record { safe = safe; sound = fault_halt why fault; ok = tt })
 

@@ -15,8 +15,8 @@ use Rattle.engine.specs.Engine.{Shows, evidence_bytes}
 use Rattle.damage.specs.DamageText.{damage_text}
 use Rattle.runner.specs.declared.stop.Halt.{Halt}
 use Rattle.runner.specs.declared.stop.Halt.TheVariants.{Store}
-use Rattle.runner.specs.Cause.{Shown, Caused, IsFault}
-use Rattle.runner.specs.Sent.{Writes, SendsReplies}
+use Rattle.runner.specs.Cause.{Shown, Caused, HaltsByFault}
+use Rattle.runner.specs.Sent.{SendsBytes, SendsReplies}
 use Rattle.runner.proofs.CauseLaws.{shown_later}
 use Rattle.engine.specs.Resting.{IsPageOf}
 use Rattle.runner.specs.Resting.{IsHaltOf}
@@ -25,7 +25,7 @@ use Rattle.runner.specs.Statuses.{IsOneOf, IsFirstPage, Told, ScriptCauses}
 -- ---- the text of damage
 
 -- what was shown is told
-pub told_by : {T E : Type 0} {v : T} (page bytes : List ℕ) (kept : Evidence) (before engine : Engine) (begin old new : Standing) → bytes ≡ page → WorldCall old new → new.outside.input ≡ old.outside.input → (IsTrue old.told → Writes {T = T} {E = E} (damage_text kept bytes) old new (Ok v))
+pub told_by : {T E : Type 0} {v : T} (page bytes : List ℕ) (kept : Evidence) (before engine : Engine) (begin old new : Standing) → bytes ≡ page → WorldCall old new → new.outside.input ≡ old.outside.input → (IsTrue old.told → SendsBytes {T = T} {E = E} (damage_text kept bytes) old new (Ok v))
     → Shown page kept engine begin old → IsFirstPage before begin page kept old → (IsTrue old.told → SendsReplies begin old) → Told before begin engine new
 told_by page bytes kept before engine begin old new is call same writes shown first said = record {
   kept = kept;
@@ -49,8 +49,8 @@ module _ (why : Halt) (stop : Stop) (kept : Evidence) (first : why ≡ Store sto
   is_damage = first ∙ ap (λ (x : Stop). Store x) second
 
   -- it is no fault
-  pub no_fault : IsFault why → ⊥
-  no_fault fault = subst IsFault is_damage fault
+  pub no_fault : HaltsByFault why → ⊥
+  no_fault fault = subst HaltsByFault is_damage fault
 
   -- and its evidence is shown
   pub shown_of : (old : Standing) (engine : Engine) (new : Standing) → Caused why old engine new → Shown (evidence_bytes engine) kept engine old new

@@ -5,7 +5,7 @@ use Rattle.std.proofs.lemmas.Bool.{cases_lt}
 use Rattle.std.proofs.lemmas.Result.{IfOk-from_err}
 use Rattle.std.proofs.Math.Seq.{take-add, take-append-add}
 use Rattle.devices.specs.World.{Standing, GoesOn, Sends, sent, sent_at}
-use Rattle.runner.specs.Sent.{Writes}
+use Rattle.runner.specs.Sent.{SendsBytes}
 
 -- some first part of the bytes was sent, and these are left
 pub record Far (bytes rest : List ℕ) (old mid : Standing) : Type 0 where
@@ -51,10 +51,10 @@ module _ (bytes : List ℕ) (old : Standing) where
       part = part_on;
     }
 
-    pub far_err : {T F : Type 0} (r : Result T F) → IsErr r → Writes bytes old new r
+    pub far_err : {T F : Type 0} (r : Result T F) → IsErr r → SendsBytes bytes old new r
     far_err r is = record { ok = IfOk-from_err r _ is; part = part_on }
 
-  pub far_end : {T E : Type 0} (mid : Standing) (rest : List ℕ) → Far bytes rest old mid → length rest ≡ 0 → (value : T) → Writes {E = E} bytes old mid (Ok value)
+  pub far_end : {T E : Type 0} (mid : Standing) (rest : List ℕ) → Far bytes rest old mid → length rest ≡ 0 → (value : T) → SendsBytes {E = E} bytes old mid (Ok value)
   far_end mid rest far none value =
       let whole : take far.count bytes ≡ bytes = take_all far.count bytes (omega (arith, length-drop far.count bytes, ap length far.left, none)) in
       record { ok = far.sent_now ∙ ap (λ (l : List ℕ). sent old ++ l) whole; part = far.part }
@@ -79,7 +79,7 @@ wrote_none a = record {
   part = λ m low high. let same : m ≡ a.clock = omega arith in (0, rw same (sym (append-nil (sent a))));
 }
 
-pub wrote_all : {T E : Type 0} (xs all : List ℕ) (old mid : Standing) (v : T) → xs ≡ all → Wrote xs old mid → Writes {E = E} all old mid (Ok v)
+pub wrote_all : {T E : Type 0} (xs all : List ℕ) (old mid : Standing) (v : T) → xs ≡ all → Wrote xs old mid → SendsBytes {E = E} all old mid (Ok v)
 wrote_all xs all old mid v same wrote = record {
   ok = wrote.whole ∙ ap (λ (l : List ℕ). sent old ++ l) same;
   part = λ m low high. let part = wrote.part m low high in (part.0, part.1 ∙ ap (λ (l : List ℕ). sent old ++ take part.0 l) same);
@@ -87,7 +87,7 @@ wrote_all xs all old mid v same wrote = record {
 
 -- and one write more
 module _ (xs ys all : List ℕ) (old mid new : Standing) (wrote : Wrote xs old mid) (goes : GoesOn mid new) (is : xs ++ ys ≡ all) where
-  part_then : {T E : Type 0} {r : Result T E} → Writes ys mid new r → (m : ℕ) → old.clock ≤ m → m ≤ new.clock → (k : ℕ) × (sent_at new m ≡ sent old ++ take k all)
+  part_then : {T E : Type 0} {r : Result T E} → SendsBytes ys mid new r → (m : ℕ) → old.clock ≤ m → m ≤ new.clock → (k : ℕ) × (sent_at new m ≡ sent old ++ take k all)
   part_then writes m low high = elim (cases_lt mid.clock m) [
     | inr before ↦
         let part = wrote.part m low before in
@@ -101,14 +101,14 @@ module _ (xs ys all : List ℕ) (old mid new : Standing) (wrote : Wrote xs old m
         )
   ]
 
-  pub wrote_then : {T E : Type 0} {v : T} → Writes {E = E} ys mid new (Ok v) → Wrote all old new
+  pub wrote_then : {T E : Type 0} {v : T} → SendsBytes {E = E} ys mid new (Ok v) → Wrote all old new
   wrote_then writes = record {
     whole = writes.ok ∙ ap (λ (l : List ℕ). l ++ ys) wrote.whole ∙ append_assoc (sent old) xs ys ∙ ap (λ (l : List ℕ). sent old ++ l) is;
     part = part_then writes;
   }
 
   -- where it fails, a part of what was still to be sent stayed behind
-  pub wrote_fails : {T E U F : Type 0} {r : Result T E} (more whole : List ℕ) (q : Result U F) → IsErr q → all ++ more ≡ whole → Writes ys mid new r → Writes whole old new q
+  pub wrote_fails : {T E U F : Type 0} {r : Result T E} (more whole : List ℕ) (q : Result U F) → IsErr q → all ++ more ≡ whole → SendsBytes ys mid new r → SendsBytes whole old new q
   wrote_fails more whole q failed same writes = record {
     ok = IfOk-from_err q _ failed;
     part = λ m low high.

@@ -45,9 +45,9 @@ pub record HasCause {T : Type 0} (old : Standing) (engine : Engine) (new : Stand
   pub ok : OnOk result (NoFault old new)
 
 -- a stop that is no damage
-abbrev pub IsFault : Halt → Type 0
-IsFault (Store Nvm) = Unit {0}
-IsFault (Store Ssd) = Unit {0}
-IsFault (Store (Damaged kept)) = ⊥
-IsFault Source = Unit {0}
-IsFault Sink = Unit {0}
+abbrev pub HaltsByFault : Halt → Type 0
+HaltsByFault (Store Nvm) = Unit {0}
+HaltsByFault (Store Ssd) = Unit {0}
+HaltsByFault (Store (Damaged kept)) = ⊥
+HaltsByFault Source = Unit {0}
+HaltsByFault Sink = Unit {0}

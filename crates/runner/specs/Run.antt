@@ -21,7 +21,7 @@ use Rattle.engine.specs.Engine.{engine_sizes, IsSteadyFor, Shows}
 use Rattle.runner.specs.declared.stop.Ending.{Ending}
 use Rattle.runner.specs.declared.stop.Ending.TheVariants.{End, Limit}
 use Rattle.runner.specs.declared.stop.Halt.{Halt}
-use Rattle.runner.specs.Cause.{IsFault}
+use Rattle.runner.specs.Cause.{HaltsByFault}
 
 -- What is fixed for a whole run: what was sent before it, all that it is to send, the tables at its beginning and after each of
 -- its commits, the sizes of the store and of the devices, and whether the store was in order when it began.
@@ -103,7 +103,7 @@ pub record AreSafe (aim : Aim) (old new : Standing) : Type 0 where
 -- Each moment of the call is safe, it does not stop for damage, and after ok the run stands there.
 pub record Proceeds {T : Type 0} (aim : Aim) (engine : Engine) (s : State) (bytes : List ℕ) (commands : List (Option Command)) (old new : Standing) (result : Result T Halt) : Type 0 where
   pub safe : AreSafe aim old new
-  pub sound : IfErr result IsFault
+  pub sound : IfErr result HaltsByFault
   pub ok : OnOk result (Owes aim engine s bytes commands new)
 
 -- the same, with the state left open

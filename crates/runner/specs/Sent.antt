@@ -7,7 +7,7 @@ use Rattle.runner.specs.declared.stop.Halt.{Halt}
 use Rattle.runner.specs.declared.stop.Halt.TheVariants.{Store, Source, Sink}
 
 -- At each moment of the call some of the bytes were added to what was sent, and after ok all of them.
-pub record Writes {T E : Type 0} (bytes : List ℕ) (old new : Standing) (result : Result T E) : Type 0 where
+pub record SendsBytes {T E : Type 0} (bytes : List ℕ) (old new : Standing) (result : Result T E) : Type 0 where
   pub ok : OnOk result (sent new ≡ sent old ++ bytes)
   pub part : (m : ℕ) → old.clock ≤ m → m ≤ new.clock → (k : ℕ) × (sent_at new m ≡ sent old ++ take k bytes)
 

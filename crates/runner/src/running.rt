@@ -6,7 +6,7 @@ ghost use Rattle.script.specs.Grammar.{commands};
 ghost use Rattle.script.specs.Machine.{State};
 ghost use Rattle.engine.specs.declared.engine.Engine.{Engine};
 ghost use Rattle.engine.specs.Engine.{engine_sizes, StandsFor, engine_reach, evidence_bytes};
-ghost use Rattle.runner.specs.Cause.{HasCause, IsFault};
+ghost use Rattle.runner.specs.Cause.{HasCause, HaltsByFault};
 ghost use Rattle.runner.specs.Run.{Aim, Owes, AreSafe, Proceeds, Comes, Reaches, Ends};
 ghost use Rattle.runner.specs.Sent.{TalksOn};
 ghost use Rattle.runner.specs.Resting.{IsHaltOf, ReadsOn, Follows, TakesOn};
@@ -91,7 +91,7 @@ fn read_script<W: World>(world: &mut W, into: &mut [u8]) -> Result<usize, Halt>
     ensures call { WorldCall (W.Devices.standing world.old) (W.Devices.standing world.new) }
     ensures rest { OnlyChanges false true false (W.Devices.standing world.old) (W.Devices.standing world.new) }
     ensures cause { (engine : Engine) → HasCause (W.Devices.standing world.old) engine (W.Devices.standing world.new) result }
-    ensures fault { IfErr result IsFault }
+    ensures fault { IfErr result HaltsByFault }
     ensures source { IfErr result (λ why. why ≡ Halt.Source) }
     ensures bound { IfOk result (λ count. count ≤ length into.new) }
     ensures reads { ReadsNext (W.Devices.standing world.old).told (W.Devices.standing world.old).outside.input (W.Devices.standing world.new).outside.input result into.new }
@@ -151,7 +151,7 @@ fn end_run<W: World>(engine: &mut Engine, world: &mut W, line: &[u8]) -> Result<
     ensures safe { (aim : Aim) (s : State) → IsTrue (W.Devices.standing world.old).told → Owes aim engine.old s [] (commands line.now) (W.Devices.standing world.old)
         → AreSafe aim (W.Devices.standing world.old) (W.Devices.standing world.new) }
     ensures sound { (aim : Aim) (s : State) → IsTrue (W.Devices.standing world.old).told → Owes aim engine.old s [] (commands line.now) (W.Devices.standing world.old)
-        → IfErr result IsFault }
+        → IfErr result HaltsByFault }
     ensures ends { (aim : Aim) (s : State) → IsTrue (W.Devices.standing world.old).told → Owes aim engine.old s [] (commands line.now) (W.Devices.standing world.old)
         → IfOk result (λ ending. Ends aim engine.new ending (W.Devices.standing world.new)) }
 {
@@ -180,7 +180,7 @@ pub(crate) fn run_lines<W: World>(
     ensures safe { (aim : Aim) (s : State) → IsTrue (W.Devices.standing world.old).told → Owes aim engine.old s [] (commands (W.Devices.standing world.old).outside.input) (W.Devices.standing world.old)
         → AreSafe aim (W.Devices.standing world.old) (W.Devices.standing world.new) }
     ensures sound { (aim : Aim) (s : State) → IsTrue (W.Devices.standing world.old).told → Owes aim engine.old s [] (commands (W.Devices.standing world.old).outside.input) (W.Devices.standing world.old)
-        → IfErr result IsFault }
+        → IfErr result HaltsByFault }
     ensures ends { (aim : Aim) (s : State) → IsTrue (W.Devices.standing world.old).told → Owes aim engine.old s [] (commands (W.Devices.standing world.old).outside.input) (W.Devices.standing world.old)
         → IfOk result (λ ending. Ends aim engine.new ending (W.Devices.standing world.new)) }
 {

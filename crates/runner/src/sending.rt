@@ -6,7 +6,7 @@ ghost use Rattle.script.specs.Machine.{State};
 ghost use Rattle.texts.specs.Output.{IsWhole};
 ghost use Rattle.engine.specs.Engine.{StandsFor};
 ghost use Rattle.engine.specs.declared.engine.Engine.{Engine};
-ghost use Rattle.runner.specs.Sent.{Writes};
+ghost use Rattle.runner.specs.Sent.{SendsBytes};
 ghost use Rattle.runner.specs.Cause.{HasCause};
 ghost use Rattle.runner.specs.Run.{Aim, Owes, Proceeds};
 
@@ -18,7 +18,7 @@ pub fn write_all<W: World>(world: &mut W, bytes: &[u8]) -> Result<(), Failed>
     ensures call { WorldCall (W.Devices.standing world.old) (W.Devices.standing world.new) }
     ensures rest { OnlyChanges false false true (W.Devices.standing world.old) (W.Devices.standing world.new) }
     ensures cause { OwnCause (W.Devices.standing world.old).outside.sink_faults (W.Devices.standing world.new).outside.sink_faults result }
-    ensures writes { IsTrue (W.Devices.standing world.old).told → Writes bytes.now (W.Devices.standing world.old) (W.Devices.standing world.new) result }
+    ensures writes { IsTrue (W.Devices.standing world.old).told → SendsBytes bytes.now (W.Devices.standing world.old) (W.Devices.standing world.new) result }
 {
     let mut rest = bytes;
     while !rest.is_empty() {

@@ -2,7 +2,7 @@
 ghost use Rattle.std.specs.Prelude.{false, true, IsTrue};
 ghost use Rattle.devices.specs.World.{Standing, WorldCall, OwnCause, OnlyChanges};
 ghost use Rattle.damage.specs.DamageText.{damage_text};
-ghost use Rattle.runner.specs.Sent.{Writes};
+ghost use Rattle.runner.specs.Sent.{SendsBytes};
 
 use crate::sending::write_all;
 use damage::{Evidence, damage_line, damage_lines};
@@ -19,7 +19,7 @@ pub fn tell_damage<W: World>(
     ensures call { WorldCall (W.Devices.standing world.old) (W.Devices.standing world.new) }
     ensures rest { OnlyChanges false false true (W.Devices.standing world.old) (W.Devices.standing world.new) }
     ensures cause { OwnCause (W.Devices.standing world.old).outside.sink_faults (W.Devices.standing world.new).outside.sink_faults result }
-    ensures writes { IsTrue (W.Devices.standing world.old).told → Writes (damage_text evidence.now page.now) (W.Devices.standing world.old) (W.Devices.standing world.new) result }
+    ensures writes { IsTrue (W.Devices.standing world.old).told → SendsBytes (damage_text evidence.now page.now) (W.Devices.standing world.old) (W.Devices.standing world.new) result }
 {
     for at in 0..damage_lines(evidence) {
         let line = damage_line(evidence, page, at);

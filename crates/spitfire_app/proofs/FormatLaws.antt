@@ -8,7 +8,7 @@ use Rattle.devices.proofs.MomentLaws.{Goes-sent, Moments-map}
 use Rattle.flat_transactions.specs.Order.{Sizes, nvm_lines, ssd_blocks}
 use Rattle.flat_recovery.specs.Empty.{IsEmptyStore, MayFormat as MayLeaveEmpty, Formats, MakesEmpty}
 use Rattle.engine.specs.Holds.{InOrder}
-use Rattle.runner.specs.Sent.{Writes}
+use Rattle.runner.specs.Sent.{SendsBytes}
 use Rattle.spitfire_app.specs.Promises.{first_sizes, formatted, MayFormat, Formatted}
 use Rattle.spitfire_app.proofs.OrderLaws.{left_in_order, empty_in_order}
 
@@ -43,7 +43,7 @@ module _ (old mid : Standing) (timed : IsTimed old) (goes : Goes old mid) {T E :
   }
 
   -- it was made, and the line is sent
-  module _ {U F : Type 0} (new : Standing) (result : Result U F) (told : IsTrue mid.told) (call : WorldCall mid new) (writes : Writes formatted mid new result) (made : IsEmptyStore first_sizes 0 old.lines old.blocks (now mid)) where
+  module _ {U F : Type 0} (new : Standing) (result : Result U F) (told : IsTrue mid.told) (call : WorldCall mid new) (writes : SendsBytes formatted mid new result) (made : IsEmptyStore first_sizes 0 old.lines old.blocks (now mid)) where
     order : InOrder first_sizes [] old.lines old.blocks (now mid)
     order = empty_in_order first_sizes 0 old.lines old.blocks (now mid) refl made
 

@@ -12,7 +12,7 @@ use Rattle.ssd_model.specs.declared.choice.BlockChoice.{BlockChoice}
 use Rattle.ssd_model.specs.Choose.{chosen_bytes}
 use Rattle.ssd_model.specs.declared.sector.Sector.{Sector}
 use Rattle.ssd_model.specs.Block.{zero_disk, settled_block, with_block, all_settled}
-use Rattle.ssd_model.specs.Sectors.{block_in, synced_in, disk_in, synced_disk_in, restarted, IsWritten, Writes, SameSectors, AreUpTo, AreWithin, AreRestarted}
+use Rattle.ssd_model.specs.Sectors.{block_in, synced_in, disk_in, synced_disk_in, restarted, IsWritten, WritesBlock, SameSectors, AreUpTo, AreWithin, AreRestarted}
 
 -- what both outcomes give
 pub on_both : {T E P Q X : Type 0} (r : Result T E) → OnOk r P → OnErr r Q → (P → X) → (Q → X) → X
@@ -55,21 +55,21 @@ written_synced i bytes old new written =
 
 module _ (old new : BTreeMap ℕ Sector) where
   -- the disk after a write
-  pub disk_written : (i block : ℕ) (bytes : List ℕ) → Writes i block bytes old new → disk_in i new ≡ with_block block bytes (disk_in i old)
+  pub disk_written : (i block : ℕ) (bytes : List ℕ) → WritesBlock i block bytes old new → disk_in i new ≡ with_block block bytes (disk_in i old)
   disk_written i block bytes writes = fun_ext (λ b. elim (cases_eq b block) [
     | inl same ↦ ap (λ q. block_in i (get nat_cmp new q)) same ∙ ap (block_in i) writes.here.1
         ∙ written_block i bytes (get nat_cmp old block) writes.here.0 writes.here.2 ∙ sym (rw (eq-eqb b block same) refl)
     | inr other ↦ ap (block_in i) (writes.others b other) ∙ sym (rw (ne_eqb b block other) refl)
   ])
 
-  pub synced_written : (i block : ℕ) (bytes : List ℕ) → Writes i block bytes old new → synced_disk_in i new ≡ synced_disk_in i old
+  pub synced_written : (i block : ℕ) (bytes : List ℕ) → WritesBlock i block bytes old new → synced_disk_in i new ≡ synced_disk_in i old
   synced_written i block bytes writes = fun_ext (λ b. elim (cases_eq b block) [
     | inl same ↦ ap (λ q. synced_in i (get nat_cmp new q)) same ∙ ap (synced_in i) writes.here.1
         ∙ written_synced i bytes (get nat_cmp old block) writes.here.0 writes.here.2 ∙ ap (λ q. synced_in i (get nat_cmp old q)) (sym same)
     | inr other ↦ ap (synced_in i) (writes.others b other)
   ])
 
-  pub up_to_written : (i block : ℕ) (bytes : List ℕ) → Writes i block bytes old new → AreUpTo i old → AreUpTo i new
+  pub up_to_written : (i block : ℕ) (bytes : List ℕ) → WritesBlock i block bytes old new → AreUpTo i old → AreUpTo i new
   up_to_written i block bytes writes up_to q x found = elim (cases_eq q block) [
     | inl same ↦
         let is : Some writes.here.0 ≡ Some x = sym writes.here.1 ∙ ap (get nat_cmp new) (sym same) ∙ found in
@@ -79,7 +79,7 @@ module _ (old new : BTreeMap ℕ Sector) where
     | inr other ↦ up_to q x (sym (writes.others q other) ∙ found)
   ]
 
-  pub within_written : (i block blocks : ℕ) (bytes : List ℕ) → Writes i block bytes old new → block < blocks → AreWithin blocks old → AreWithin blocks new
+  pub within_written : (i block blocks : ℕ) (bytes : List ℕ) → WritesBlock i block bytes old new → block < blocks → AreWithin blocks old → AreWithin blocks new
   within_written i block blocks bytes writes fits within q x found = elim (cases_eq q block) [
     | inl same ↦ omega arith
     | inr other ↦ within q x (sym (writes.others q other) ∙ found)

@@ -47,7 +47,7 @@ pub record IsWritten (now : ℕ) (bytes : List ℕ) (old : Option Sector) (new :
   pub interval : new.interval ≡ now
 
 -- One block was written, and no other has changed.
-pub record Writes (interval block : ℕ) (bytes : List ℕ) (old new : BTreeMap ℕ Sector) : Type 0 where
+pub record WritesBlock (interval block : ℕ) (bytes : List ℕ) (old new : BTreeMap ℕ Sector) : Type 0 where
   pub here : (sector : Sector) × (get nat_cmp new block ≡ Some sector) × IsWritten interval bytes (get nat_cmp old block) sector
   pub others : (q : ℕ) → q ≢ block → get nat_cmp new q ≡ get nat_cmp old q
 

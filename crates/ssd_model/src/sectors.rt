@@ -1,6 +1,6 @@
 //! The blocks that were written, by number.
 ghost use Rattle.std.specs.Prelude.{◌≡◌, OnOk, OnErr, length};
-ghost use Rattle.ssd_model.specs.Sectors.{Writes, SameSectors, AreRestarted};
+ghost use Rattle.ssd_model.specs.Sectors.{WritesBlock, SameSectors, AreRestarted};
 
 use crate::page::PageBuf;
 use crate::sector::Sector;
@@ -15,7 +15,7 @@ pub fn write_at(
     block: u64,
     from: &PageBuf,
 ) -> Result<(), AllocError>
-    ensures writes { OnOk result (Writes interval block from.now written.old written.new) }
+    ensures writes { OnOk result (WritesBlock interval block from.now written.old written.new) }
     ensures unchanged { OnErr result (SameSectors written.old written.new) }
     ensures page { length from.now ≡ 4096 }
 {

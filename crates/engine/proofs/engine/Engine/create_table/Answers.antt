@@ -6,7 +6,7 @@ use Rattle.script.specs.declared.command.Command.TheVariants as command
 use Rattle.script.specs.declared.command.Reason.TheVariants as reason
 use Rattle.script.specs.declared.command.Reply.TheVariants as reply
 use Rattle.engine.specs.Steps.{after_command}
-use Rattle.engine.proofs.CommandLaws.{on_device, does_fails, does_stays, does_writes, cause_fails, fault_is, store_shown}
+use Rattle.engine.proofs.CommandLaws.{on_device, does_fails, does_stays, does_writes, cause_fails, store_shown}
 use Rattle.engine.proofs.RefusalLaws.{stays_kept}
 use Rattle.engine.proofs.AnswerLaws.{enough_pages, create_writes, make_holds, create_there, create_no_more}
 use Rattle.engine.proofs.engine.Engine.create_table.Goals as goal
@@ -18,7 +18,7 @@ returns-in_err-create-clause-does g c =
     (does_fails c.args.self.now a (g.W.Devices.standing c.create.new.pages.dev.now) c.create.new.pages.book.now c.create.new.work c.requires.stands
     (rw (c.over-store.ensures.same.0, c.over-store.ensures.same.1) at c.create.ensures.call.continues) (ap (λ x. (g.W.Devices.standing x).clock) c.over-store.ensures.before)
     _ c.from_residual.result c.in_err-create.field-0.0 c.from_residual.ensures
-    (λ told s shows. fault_is c.in_err-create.field-0.0 ((rw (c.over-store.ensures.same.0, c.over-store.ensures.same.1) at c.in_err-create.ensures.sound) told (store_shown c.args.self.now a s c.requires.stands shows) (enough_pages c.args.self.now a c.requires.stands))))
+    (λ told s shows. ((rw (c.over-store.ensures.same.0, c.over-store.ensures.same.1) at c.in_err-create.ensures.sound) told (store_shown c.args.self.now a s c.requires.stands shows) (enough_pages c.args.self.now a c.requires.stands))))
 
 pub returns-in_err-create-clause-cause : goal.returns-in_err-create-clause-cause
 returns-in_err-create-clause-cause g c =

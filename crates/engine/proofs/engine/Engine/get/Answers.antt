@@ -8,7 +8,7 @@ use Rattle.engine.specs.Holds.{bounds_in}
 use Rattle.engine.specs.Engine.{engine_sizes}
 use Rattle.engine.specs.Steps.{after_command}
 use Rattle.engine.proofs.TableLaws.{get_gives}
-use Rattle.engine.proofs.CommandLaws.{on_device, does_fails, does_stays, cause_fails, fault_is, store_shown}
+use Rattle.engine.proofs.CommandLaws.{on_device, does_fails, does_stays, cause_fails, store_shown}
 use Rattle.engine.proofs.RestLaws.{reads_row, reads_stays}
 use Rattle.engine.proofs.RefusalLaws.{stays_kept, refused_any}
 use Rattle.engine.proofs.engine.Engine.get.Goals as goal
@@ -20,7 +20,7 @@ returns-in_err-got-clause-does g c =
     (does_fails c.args.self.now a (g.W.Devices.standing c.get.new.pages.dev.now) c.get.new.pages.book.now c.get.new.work c.requires
     (rw (c.over-store.ensures.same.0, c.over-store.ensures.same.1) at c.get.ensures.call.continues) (ap (λ x. (g.W.Devices.standing x).clock) c.over-store.ensures.before)
     _ c.from_residual.result c.in_err-got.field-0.0 c.from_residual.ensures
-    (λ told s shows. fault_is c.in_err-got.field-0.0 ((rw (c.over-store.ensures.same.0, c.over-store.ensures.same.1) at c.in_err-got.ensures.sound) told (store_shown c.args.self.now a s c.requires shows))))
+    (λ told s shows. ((rw (c.over-store.ensures.same.0, c.over-store.ensures.same.1) at c.in_err-got.ensures.sound) told (store_shown c.args.self.now a s c.requires shows))))
 
 pub returns-clause-does : goal.returns-clause-does
 returns-clause-does g c =

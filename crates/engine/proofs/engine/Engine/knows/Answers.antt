@@ -3,7 +3,7 @@ use Rattle.line_pages.proofs.StandingLaws.{page_keeps}
 use Rattle.rows.specs.Tables.{Table}
 use Rattle.rows.specs.Tables.{is_known}
 use Rattle.script.specs.Machine.{State}
-use Rattle.engine.proofs.CommandLaws.{on_device, does_fails, does_stays, cause_fails, fault_is, store_shown}
+use Rattle.engine.proofs.CommandLaws.{on_device, does_fails, does_stays, cause_fails, store_shown}
 use Rattle.engine.proofs.RestLaws.{reads_name, reads_stays}
 use Rattle.engine.proofs.RefusalLaws.{stays_kept}
 use Rattle.engine.proofs.engine.Engine.knows.Goals as goal
@@ -15,7 +15,7 @@ returns-in_err-known-clause-does g c =
     (does_fails c.args.self.now a (g.W.Devices.standing c.has_table.new.pages.dev.now) c.has_table.new.pages.book.now c.has_table.new.work c.requires
     (rw (c.over-store.ensures.same.0, c.over-store.ensures.same.1) at c.has_table.ensures.call.continues) (ap (λ x. (g.W.Devices.standing x).clock) c.over-store.ensures.before)
     _ c.from_residual.result c.in_err-known.field-0.0 c.from_residual.ensures
-    (λ told s shows. fault_is c.in_err-known.field-0.0 ((rw (c.over-store.ensures.same.0, c.over-store.ensures.same.1) at c.in_err-known.ensures.sound) told (store_shown c.args.self.now a s c.requires shows))))
+    (λ told s shows. ((rw (c.over-store.ensures.same.0, c.over-store.ensures.same.1) at c.in_err-known.ensures.sound) told (store_shown c.args.self.now a s c.requires shows))))
 
 pub returns-in_err-known-clause-cause : goal.returns-in_err-known-clause-cause
 returns-in_err-known-clause-cause g c =

@@ -8,7 +8,7 @@ use Rattle.script.specs.declared.command.Reply.TheVariants as reply
 use Rattle.table_store.specs.Changed.{IsChangeDamage}
 use Rattle.engine.specs.Engine.{engine_sizes, engine_lines}
 use Rattle.engine.specs.Steps.{after_command}
-use Rattle.engine.proofs.CommandLaws.{on_device, does_fails, does_stays, does_writes, cause_fails_at, fault_is, store_shown}
+use Rattle.engine.proofs.CommandLaws.{on_device, does_fails, does_stays, does_writes, cause_fails_at, store_shown}
 use Rattle.engine.proofs.RefusalLaws.{stays_kept}
 use Rattle.engine.proofs.AnswerLaws.{stepped, enough_pages, put_writes, put_holds, put_no_room, put_no_table}
 use Rattle.engine.proofs.engine.Engine.put_row.Goals as goal
@@ -20,7 +20,7 @@ returns-in_err-put-clause-does g c =
     (does_fails c.args.self.now a (g.W.Devices.standing c.put.new.pages.dev.now) c.put.new.pages.book.now c.put.new.work c.requires.stands
     (rw (c.over-store.ensures.same.0, c.over-store.ensures.same.1) at c.put.ensures.call.continues) (ap (λ x. (g.W.Devices.standing x).clock) c.over-store.ensures.before)
     _ c.from_residual.result c.in_err-put.field-0.0 c.from_residual.ensures
-    (λ told s shows. fault_is c.in_err-put.field-0.0 ((rw (c.over-store.ensures.same.0, c.over-store.ensures.same.1) at c.in_err-put.ensures.sound) told (store_shown c.args.self.now a s c.requires.stands shows) (enough_pages c.args.self.now a c.requires.stands))))
+    (λ told s shows. ((rw (c.over-store.ensures.same.0, c.over-store.ensures.same.1) at c.in_err-put.ensures.sound) told (store_shown c.args.self.now a s c.requires.stands shows) (enough_pages c.args.self.now a c.requires.stands))))
 
 pub returns-in_err-put-clause-cause : goal.returns-in_err-put-clause-cause
 returns-in_err-put-clause-cause g c =

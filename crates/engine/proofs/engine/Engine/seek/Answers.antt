@@ -8,7 +8,7 @@ use Rattle.script.specs.Machine.{State, current}
 use Rattle.engine.specs.Scanning.{reply_by, scan_by}
 use Rattle.flat_transactions.proofs.OpenStoreLaws.{pages_keep}
 use Rattle.engine.proofs.TransactionLaws.{does_still}
-use Rattle.engine.proofs.CommandLaws.{on_device, does_fails, does_stays, cause_fails, fault_is, store_shown}
+use Rattle.engine.proofs.CommandLaws.{on_device, does_fails, does_stays, cause_fails, store_shown}
 use Rattle.engine.proofs.ScanningLaws.{ends_empty}
 use Rattle.engine.proofs.RestLaws.{reads_row, reads_stays, reads_still}
 use Rattle.engine.proofs.engine.Engine.seek.Goals as goal
@@ -31,7 +31,7 @@ returns-in_err-next-clause-does g c =
     (does_fails c.args.self.now a (g.W.Devices.standing c.scan_next.new.pages.dev.now) c.scan_next.new.pages.book.now c.scan_next.new.work c.requires
     (rw (c.over-store.ensures.same.0, c.over-store.ensures.same.1) at c.scan_next.ensures.call.continues) (ap (λ x. (g.W.Devices.standing x).clock) c.over-store.ensures.before)
     _ c.from_residual.result c.in_err-next.field-0.0 c.from_residual.ensures
-    (λ told s shows. fault_is c.in_err-next.field-0.0 ((rw (c.over-store.ensures.same.0, c.over-store.ensures.same.1) at c.in_err-next.ensures.sound) told (store_shown c.args.self.now a s c.requires shows))))
+    (λ told s shows. ((rw (c.over-store.ensures.same.0, c.over-store.ensures.same.1) at c.in_err-next.ensures.sound) told (store_shown c.args.self.now a s c.requires shows))))
 
 pub returns-in_err-next-clause-cause : goal.returns-in_err-next-clause-cause
 returns-in_err-next-clause-cause g c =
