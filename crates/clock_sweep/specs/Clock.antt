@@ -1,6 +1,6 @@
 -- The CLOCK rule of replacement. A clock is the circle of its places, read from the hand: each place with
 -- its number and its slot, the place under the hand first.
-use Rattle.std.specs.Prelude.{ℕ, zero, suc, ◌+◌, ◌≤◌, Bool, true, false, ◌==◌, ◌&&◌, List, [], ◌∷◌, ◌++◌, length, map, min, cond, Option, Some, None}
+use Rattle.std.specs.Prelude.{ℕ, zero, suc, ◌+◌, Bool, true, false, ◌==◌, List, [], ◌∷◌, ◌++◌, length, map, min, cond, Option, Some, None}
 use Rattle.std.specs.List.{list_any}
 use Rattle.std.specs.Option.{option_map}
 use Rattle.clock_sweep.specs.declared.clock.Slot.{Slot}
@@ -52,35 +52,9 @@ touched place circle = with_slot place Set circle
 abbrev pub removed : ℕ → Circle → Circle
 removed place circle = with_slot place Empty circle
 
--- the same, if there is such a place
-abbrev pub removed_if : Option ℕ → Circle → Circle
-removed_if None circle = circle
-removed_if (Some place) circle = removed place circle
-
-abbrev pub inserted_if : Option ℕ → Circle → Circle
-inserted_if None circle = circle
-inserted_if (Some place) circle = inserted place circle
-
 -- whether any place stands
 abbrev pub any_stands : Circle → Bool
 any_stands circle = list_any (λ e. stands e.1) circle
-
--- how often a place is in the circle, and how often it stands there
-abbrev pub one_if : Bool → ℕ
-one_if true = 1
-one_if false = 0
-
-abbrev pub place_count : ℕ → Circle → ℕ
-place_count place [] = 0
-place_count place (e ∷ circle) = one_if (e.0 == place) + place_count place circle
-
-abbrev pub stand_count : ℕ → Circle → ℕ
-stand_count place [] = 0
-stand_count place (e ∷ circle) = one_if (e.0 == place && stands e.1) + stand_count place circle
-
--- each place is there at most once
-abbrev pub IsClock : Circle → Type 0
-IsClock circle = (place : ℕ) → place_count place circle ≤ 1
 
 -- the lower of a place and one that may be there
 abbrev pub lower : ℕ → Option ℕ → Option ℕ

@@ -1,8 +1,11 @@
 //! A clock: places that stand or are empty, each with a bit, and a hand that looks for a victim.
-ghost use Rattle.std.specs.Prelude.{◌≡◌, ◌⊎◌, ◌+◌, ◌-◌, ◌*◌, ◌<◌, ◌≤◌, ◌^◌, ℕ, IsTrue, IfOk, IfSome, length, replicate, slice_index_or, slice_set};
-ghost use Rattle.clock_sweep.specs.Circles.{turned, left_behind, found_at, vacancy, low_after, vacant_found, low_found};
+ghost use Rattle.std.specs.Prelude.{◌≡◌, ◌⊎◌, ◌+◌, ◌-◌, ◌*◌, ◌<◌, ◌≤◌, ◌^◌, ℕ, IsTrue, IfOk, IfSome};
+ghost use Rattle.std.specs.Prelude.{length, replicate, slice_index_or, slice_set};
+ghost use Rattle.clock_sweep.specs.Circles.{turned, left_behind, found_at, vacancy, low_after};
+ghost use Rattle.clock_sweep.specs.Circles.{vacant_found, low_found};
 ghost use Rattle.std.specs.List.{position};
-ghost use Rattle.clock_sweep.specs.Clock.{with_slot, any_stands, victim, is_empty, new_clock, lowest_empty, inserted, touched, removed};
+ghost use Rattle.clock_sweep.specs.Clock.{with_slot, any_stands, victim, is_empty, new_clock};
+ghost use Rattle.clock_sweep.specs.Clock.{lowest_empty, inserted, touched, removed};
 
 use crate::steps::Steps;
 use nvm_model::NoMemory;

@@ -1,16 +1,11 @@
-//! Measures frames and mini pages: makes 65,536 of each, and does what the first argument names (`nothing`, `put`, `line`,
-//! `fill` or `find`) as often as the second one says. Instructions and time are counted from outside.
+//! Measures frames and mini pages: does what the first argument names (`frames`, `minis`, `put`, `line`, `fill` or `find`)
+//! as often as the second one says. Instructions and time are counted from outside.
 #![tactic(auto)]
 
 mod measured;
 
 use crate::measured::{Ended, Task};
-use mini_page::MiniArena;
-use page_frame::FrameArena;
 use std::env;
-
-/// How many frames there are, and how many mini pages.
-const COUNT: u32 = 65536;
 
 /// What a word names.
 fn task(word: Option<String>) -> Result<Task, Ended> {
@@ -32,9 +27,7 @@ fn main(rt: HostRuntime) -> Result<(), Ended> {
     let mut words = env::args(&rt)?.skip(1);
     let task = task(words.next())?;
     let count = number(words.next())?;
-    let mut frames = FrameArena::new(rt.alloc(), COUNT)?;
-    let mut minis = MiniArena::new(rt.alloc(), COUNT)?;
-    let sum = task.perform(&mut frames, &mut minis, count);
+    let sum = task.perform(rt.alloc(), count)?;
     println!(rt; "sum {sum}")?;
     Ok(())
 }

@@ -7,9 +7,13 @@ use mini_page::MiniArena;
 use nvm_model::{Line, NoMemory};
 use page_frame::FrameArena;
 use ssd_model::PageBuf;
+use std::alloc::Global;
 use std::io;
 
-/// Over how many frames, and mini pages, the calls go.
+/// How many frames are made, and how many mini pages.
+const COUNT: u32 = 65_536;
+
+/// Over how many of them the calls go.
 const SPREAD: u64 = 4096;
 
 /// An odd number, whose multiples jump about.
@@ -52,7 +56,10 @@ impl From<io::Error> for Ended {
 /// What is done as often as the second argument says.
 #[derive(Clone, Copy, Debug)]
 pub enum Task {
-    Nothing,
+    /// `FrameArena::new` of 65,536 frames, which are put away again.
+    Frames,
+    /// `MiniArena::new` of 65,536 mini pages, which are put away again.
+    Minis,
     /// `set_line`.
     Put,
     /// `resident` and `line`, of which each word is read.
@@ -66,8 +73,10 @@ pub enum Task {
 impl Task {
     /// The task of this name.
     pub fn named(word: &str) -> Option<Task> {
-        if word == "nothing" {
-            Some(Task::Nothing)
+        if word == "frames" {
+            Some(Task::Frames)
+        } else if word == "minis" {
+            Some(Task::Minis)
         } else if word == "put" {
             Some(Task::Put)
         } else if word == "line" {
@@ -82,30 +91,64 @@ impl Task {
     }
 
     /// Does it so often. The answer is a sum of what was read.
-    pub fn perform(self, frames: &mut FrameArena, minis: &mut MiniArena, count: u64) -> u64
-        requires frames { 4096 ≤ length (frames_of frames.old) }
-        requires minis { 4096 ≤ length (minis_of minis.old) }
-    {
+    pub fn perform(self, alloc: Global, count: u64) -> Result<u64, NoMemory> {
         match self {
-            Task::Nothing => 0,
-            Task::Put => {
-                put_lines(frames, count);
-                0
-            }
-            Task::Line => {
-                put_lines(frames, SPREAD * 64);
-                sum_lines(frames, count)
-            }
-            Task::Fill => {
-                fill_frames(frames, count);
-                0
-            }
-            Task::Find => {
-                add_lines(minis);
-                find_lines(minis, count)
-            }
+            Task::Frames => make_frames(alloc, count),
+            Task::Minis => make_minis(alloc, count),
+            Task::Put => put_alone(alloc, count),
+            Task::Line => put_and_sum(alloc, count),
+            Task::Fill => fill_alone(alloc, count),
+            Task::Find => add_and_find(alloc, count),
         }
     }
+}
+
+/// Makes as many frames as there may be, so often.
+fn make_frames(alloc: Global, count: u64) -> Result<u64, NoMemory> {
+    let mut resident = 0;
+    for _ in 0..count {
+        let frames = FrameArena::new(alloc, COUNT)?;
+        resident |= frames.resident(COUNT - 1);
+    }
+    Ok(resident)
+}
+
+/// Makes as many mini pages as there may be, so often.
+fn make_minis(alloc: Global, count: u64) -> Result<u64, NoMemory> {
+    let mut resident = 0;
+    for _ in 0..count {
+        let minis = MiniArena::new(alloc, COUNT)?;
+        resident |= minis.mask(COUNT - 1).resident;
+    }
+    Ok(resident)
+}
+
+/// Puts lines.
+fn put_alone(alloc: Global, count: u64) -> Result<u64, NoMemory> {
+    let mut frames = FrameArena::new(alloc, COUNT)?;
+    put_lines(&mut frames, count);
+    Ok(0)
+}
+
+/// Puts each line, and reads so many.
+fn put_and_sum(alloc: Global, count: u64) -> Result<u64, NoMemory> {
+    let mut frames = FrameArena::new(alloc, COUNT)?;
+    put_lines(&mut frames, SPREAD * 64);
+    Ok(sum_lines(&frames, count))
+}
+
+/// Fills frames.
+fn fill_alone(alloc: Global, count: u64) -> Result<u64, NoMemory> {
+    let mut frames = FrameArena::new(alloc, COUNT)?;
+    fill_frames(&mut frames, count);
+    Ok(0)
+}
+
+/// Adds sixteen lines to each mini page, and looks for so many.
+fn add_and_find(alloc: Global, count: u64) -> Result<u64, NoMemory> {
+    let mut minis = MiniArena::new(alloc, COUNT)?;
+    add_lines(&mut minis);
+    Ok(find_lines(&minis, count))
 }
 
 /// The sum of the words of a line, without carries.

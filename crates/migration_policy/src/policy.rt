@@ -49,9 +49,11 @@ impl Policy {
 
     /// One draw with the probability that decides the question.
     pub fn decide(&self, draws: &mut Draws, question: Question) -> bool
-        ensures answer { result ≡ says_yes (rate (rates_of self.now) question) (pcg32 draws.old).0 }
+        ensures answer { let p = rate (rates_of self.now) question in
+            result ≡ says_yes p (pcg32 draws.old).0 }
         ensures next { draws.new ≡ (pcg32 draws.old).1 }
-        ensures words { AnswersByWord (rate (rates_of self.now) question) draws.old draws.new result }
+        ensures words { let p = rate (rates_of self.now) question in
+            AnswersByWord p draws.old draws.new result }
     {
         draws.yes(self.probability(question))
     }

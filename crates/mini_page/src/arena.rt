@@ -1,11 +1,14 @@
 //! Mini pages: up to sixteen lines of a page each, over one block of which no byte is touched before it is written.
-ghost use Rattle.std.specs.Prelude.{◌≡◌, ◌*◌, ◌+◌, ◌<◌, ◌≤◌, ◌↔◌, IsTrue, true, false, replicate, length, get_or, IfOk, IsErr, OnOk, OnErr};
+ghost use Rattle.std.specs.Prelude.{◌≡◌, ◌*◌, ◌+◌, ◌<◌, ◌≤◌, ◌↔◌, IsTrue, true, false};
+ghost use Rattle.std.specs.Prelude.{replicate, length, get_or, IfOk, IsErr, OnOk, OnErr};
 ghost use Rattle.page_frame.specs.Blocks.{places_of};
 ghost use Rattle.page_frame.specs.Places.{IsFilled};
 ghost use Rattle.page_frame.specs.LineSets.{has_line};
-ghost use Rattle.page_frame.specs.Frames.{Frame, line_at, resident_lines, is_resident, frame_at, with_frame};
+ghost use Rattle.page_frame.specs.Frames.{Frame, line_at, resident_lines, is_resident};
+ghost use Rattle.page_frame.specs.Frames.{frame_at, with_frame, frame_changed};
 ghost use Rattle.page_frame.specs.Arena.{frames_of};
-ghost use Rattle.mini_page.specs.MiniPages.{MiniPage, IsMini, empty_mini, is_full, added, with_place, changed_line, cleaned_mini, mini_at, with_mini};
+ghost use Rattle.mini_page.specs.MiniPages.{MiniPage, IsMini, empty_mini, is_full, mini_at};
+ghost use Rattle.mini_page.specs.MiniPages.{added, with_place, changed_line, cleaned_mini, with_mini, mini_changed};
 ghost use Rattle.mini_page.specs.Tables.{AreKept};
 
 use crate::mask::{LineMask, MiniFull};
@@ -68,7 +71,8 @@ impl MiniArena {
     /// The sets of its resident and of its dirty lines.
     pub fn mask(&self, mini: u32) -> LineMask
         requires { mini < length (minis_of self.now) }
-        ensures resident { result.resident ≡ resident_lines (mini_at (minis_of self.now) mini).places }
+        ensures resident { let places = (mini_at (minis_of self.now) mini).places in
+            result.resident ≡ resident_lines places }
         ensures dirty { result.dirty ≡ (mini_at (minis_of self.now) mini).dirty }
         ensures is_mini { IsMini (mini_at (minis_of self.now) mini) }
     {
@@ -108,13 +112,15 @@ impl MiniArena {
         Some(*self.lines.get(self.place(mini, line)))
     }
 
-    /// Adds a line that is not resident, which is then clean. `MiniFull` exactly where sixteen lines stand, and then nothing changed.
+    /// Adds a line that is not resident, which is then clean. `MiniFull` exactly where sixteen lines stand, and then
+    /// nothing changed.
     pub fn add(&mut self, mini: u32, line: usize, value: &Line) -> Result<(), MiniFull>
         requires mini { mini < length (minis_of self.old) }
         requires line { line < 64 }
         requires absent { is_resident (mini_at (minis_of self.old) mini).places line ≡ false }
         ensures refused { IsErr result ↔ IsTrue (is_full (mini_at (minis_of self.old) mini)) }
-        ensures added { OnOk result (minis_of self.new ≡ with_mini mini (added line value.now (mini_at (minis_of self.old) mini)) (minis_of self.old)) }
+        ensures added { let minis = mini_changed mini (added line value.now) (minis_of self.old) in
+            OnOk result (minis_of self.new ≡ minis) }
         ensures unchanged { OnErr result (self.new ≡ self.old) }
     {
         let count = self.resident[mini as usize].count_ones();
@@ -132,7 +138,8 @@ impl MiniArena {
         requires mini { mini < length (minis_of self.old) }
         requires line { line < 64 }
         requires resident { IsTrue (is_resident (mini_at (minis_of self.old) mini).places line) }
-        ensures { minis_of self.new ≡ with_mini mini (changed_line line value.now (mini_at (minis_of self.old) mini)) (minis_of self.old) }
+        ensures { let change = changed_line line value.now in
+            minis_of self.new ≡ mini_changed mini change (minis_of self.old) }
     {
         let place = self.place(mini, line);
         self.lines.put(place, value);
@@ -142,7 +149,7 @@ impl MiniArena {
     /// Makes each line of a mini page clean.
     pub fn clean(&mut self, mini: u32)
         requires { mini < length (minis_of self.old) }
-        ensures { minis_of self.new ≡ with_mini mini (cleaned_mini (mini_at (minis_of self.old) mini)) (minis_of self.old) }
+        ensures { minis_of self.new ≡ mini_changed mini cleaned_mini (minis_of self.old) }
     {
         self.dirty[mini as usize] = 0;
     }
@@ -161,7 +168,8 @@ impl MiniArena {
         requires mini { mini < length (minis_of self.now) }
         requires line { line < 64 }
         requires frame { frame < length (frames_of frames.old) }
-        ensures { frames_of frames.new ≡ with_frame frame (with_place line (line_at (mini_at (minis_of self.now) mini).places line) (frame_at (frames_of frames.old) frame)) (frames_of frames.old) }
+        ensures { let change = with_place line (line_at (mini_at (minis_of self.now) mini).places line) in
+            frames_of frames.new ≡ frame_changed frame change (frames_of frames.old) }
     {
         if let Some(value) = self.find(mini, line) {
             frames.set_line(frame, line, &value);
@@ -173,9 +181,11 @@ impl MiniArena {
         requires mini { mini < length (minis_of self.old) }
         requires frame { frame < length (frames_of frames.old) }
         requires empty { resident_lines (frame_at (frames_of frames.old) frame) ≡ 0 }
-        ensures frame { frames_of frames.new ≡ with_frame frame (mini_at (minis_of self.old) mini).places (frames_of frames.old) }
+        ensures frame { let places = (mini_at (minis_of self.old) mini).places in
+            frames_of frames.new ≡ with_frame frame places (frames_of frames.old) }
         ensures mini { minis_of self.new ≡ with_mini mini empty_mini (minis_of self.old) }
-        ensures resident { result.resident ≡ resident_lines (mini_at (minis_of self.old) mini).places }
+        ensures resident { let places = (mini_at (minis_of self.old) mini).places in
+            result.resident ≡ resident_lines places }
         ensures dirty { result.dirty ≡ (mini_at (minis_of self.old) mini).dirty }
         ensures is_mini { IsMini (mini_at (minis_of self.old) mini) }
     {

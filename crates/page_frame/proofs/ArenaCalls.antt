@@ -1,15 +1,17 @@
 -- What follows for the frames of an arena at a call that names one of them.
-use Rattle.std.proofs.Common.{◌≡◌, ℕ, ◌+◌, ◌*◌, ◌^◌, ◌%◌, ◌<◌, IsTrue, List, length, get_or, Some, None, ap, ◌∙◌, arith, slice_set}
+use Rattle.std.proofs.Common.{◌≡◌, ℕ, ◌+◌, ◌*◌, ◌^◌, ◌%◌, ◌<◌, IsTrue, List, length, get_or, Some, None, refl, sym, ap, ◌∙◌, arith, slice_set}
 use Rattle.std.specs.Int.RustNames.{bit_or}
 use Rattle.nvm_model.specs.declared.line.Line.{Line}
 use Rattle.page_frame.specs.declared.arena.FrameArena.{FrameArena}
 use Rattle.page_frame.specs.declared.block.LineBlock.{LineBlock}
-use Rattle.page_frame.specs.Places.{IsFilled, emptied}
+use Rattle.page_frame.specs.Places.{IsFilled, emptied, replaced}
 use Rattle.page_frame.specs.Blocks.{places_of}
-use Rattle.page_frame.specs.Frames.{Frame, empty_frame, line_at, with_value, is_resident, frame_at, with_frame}
+use Rattle.page_frame.specs.Frames.{Frame, empty_frame, line_at, with_value, filled, is_resident, frame_at, with_frame, lines_of_page}
+use Rattle.page_frame.specs.LineSets.{all_lines}
 use Rattle.page_frame.specs.Arena.{frames_of}
-use Rattle.page_frame.proofs.Memory.{length-emptied}
-use Rattle.page_frame.proofs.ArenaLaws.{frames_counted, frame_long, resident_line, Follows, line_put, frame_cleared}
+use Rattle.page_frame.proofs.Memory.{length-replaced}
+use Rattle.page_frame.proofs.ArenaLaws.{frames_counted, frame_long, resident_line, Follows, line_put, blank_mask, whole_frame}
+use Rattle.page_frame.proofs.FillLaws.{page_counted, page_mask}
 
 module _ (self : FrameArena) (f : ℕ) (known : f < length (frames_of self)) where
   -- these masks and places are those of the frames that are told
@@ -34,5 +36,12 @@ module _ (self : FrameArena) (f : ℕ) (known : f < length (frames_of self)) whe
       → Becomes (slice_set self.resident.items f 0) new (with_frame f empty_frame (frames_of self))
   cleared new none =
       let long = self.places in
-      frame_cleared self.resident.items (places_of self.lines) self.places self.masks f (places_of new) in_masks none
-      (ap length none ∙ length-emptied (places_of self.lines) (64 * f) 64 (omega (arith, long, in_masks)))
+      whole_frame self.resident.items (places_of self.lines) self.places self.masks f 0 empty_frame (places_of new) in_masks refl (sym blank_mask) none
+      (ap length none ∙ length-replaced empty_frame (places_of self.lines) (64 * f) 64 (omega (arith, long, in_masks)) refl)
+
+  pub page_put : (bytes : List ℕ) (new : LineBlock) → places_of new ≡ replaced (64 * f) 64 (filled (lines_of_page bytes)) (places_of self.lines)
+      → Becomes (slice_set self.resident.items f all_lines) new (with_frame f (filled (lines_of_page bytes)) (frames_of self))
+  page_put bytes new lines =
+      let long = self.places in let frame = filled (lines_of_page bytes) in let whole = page_counted bytes in
+      whole_frame self.resident.items (places_of self.lines) self.places self.masks f all_lines frame (places_of new) in_masks whole (page_mask bytes) lines
+      (ap length lines ∙ length-replaced frame (places_of self.lines) (64 * f) 64 (omega (arith, long, in_masks)) whole)

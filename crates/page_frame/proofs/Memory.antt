@@ -36,7 +36,7 @@ use Rattle.std.specs.Prelude.{Option, Some, None}
 use Rattle.std.specs.Mem.{type_size}
 use Rattle.core.proofs.mem.Param.{El, R, el_x, elτ}
 use Rattle.std_alloc.proofs.RcSteps.{Good, word}
-use Rattle.page_frame.specs.Places.{emptied}
+use Rattle.page_frame.specs.Places.{emptied, replaced}
 use Rattle.page_frame.specs.Ownership.{place_at, places_at, place_lent, places_lent}
 use Rattle.page_frame.specs.contracts.cells.Cells as cells-type
 use Rattle.page_frame.specs.contracts.cells.Base as base-type
@@ -130,17 +130,20 @@ filled_within [] i x e = cc
 filled_within (place ∷ places) zero x e = omega arith
 filled_within (place ∷ places) (suc i) x e = omega (arith, filled_within places i x e)
 
-pub length-emptied : {X : Type 0} (places : List (Option X)) (from len : ℕ) → from + len ≤ length places → length (emptied from len places) ≡ length places
-length-emptied {X} places from len le =
-    let none : List (Option X) = replicate len None in
+pub length-replaced : {X : Type 0} (others places : List (Option X)) (from len : ℕ) → from + len ≤ length places → length others ≡ len
+    → length (replaced from len others places) ≡ length places
+length-replaced others places from len le as_many =
     omega (
       arith,
-      length-append (take from places) (none ++ drop (from + len) places),
-      length-append none (drop (from + len) places),
+      as_many,
+      length-append (take from places) (others ++ drop (from + len) places),
+      length-append others (drop (from + len) places),
       length-take from places,
-      length-replicate {A = Option X} len None,
       length-drop (from + len) places,
     )
+
+pub length-emptied : {X : Type 0} (places : List (Option X)) (from len : ℕ) → from + len ≤ length places → length (emptied from len places) ≡ length places
+length-emptied {X} places from len le = length-replaced (replicate len None) places from len le (length-replicate {A = Option X} len None)
 
 module _ (E : El) {M : Type 1} {𝓤 : Ura M} (𝓛 : Logic 𝓤) (b : ℕ) where
   open 𝓛 use {H}

@@ -1,12 +1,15 @@
 //! A row of places over one raw block, each empty or holding a line.
 ghost use Rattle.std.specs.Prelude.{◌≡◌, ◌+◌, ◌<◌, ◌≤◌, Some, None, length, replicate, get_or, slice_set, IfOk};
 ghost use denote.RawPtr.{◌+ₚ◌};
-ghost use Rattle.page_frame.specs.Places.{IsFilled, emptied};
+ghost use Rattle.page_frame.specs.Places.{IsFilled, emptied, replaced};
+ghost use Rattle.page_frame.specs.Frames.{filled, lines_of_page};
 ghost use Rattle.page_frame.specs.Ownership.{front};
 ghost use Rattle.page_frame.specs.Parts.{IsBlock};
 
 use crate::cells::{Base, Cells, Deed};
+use line_pages::page_line;
 use nvm_model::{Line, NoMemory};
+use ssd_model::PageBuf;
 use std::alloc::Global;
 use std_alloc::room::may_hold;
 
@@ -61,6 +64,17 @@ impl LineBlock {
         ensures { places_of self.new ≡ slice_set (places_of self.old) place (Some line.now) }
     {
         self.cells.put(self.base, place, *line);
+    }
+
+    /// Puts the lines of a page into the 64 places from `from` on, over what stands there.
+    pub fn put_page(&mut self, from: usize, page: &PageBuf)
+        requires { from + 64 ≤ length (places_of self.old) }
+        ensures { let lines = filled (lines_of_page page.now) in
+            places_of self.new ≡ replaced from 64 lines (places_of self.old) }
+    {
+        for line in 0..64 {
+            self.put(from + line, &page_line(page, line));
+        }
     }
 
     /// Makes `count` places from `from` on empty. It does nothing when it runs.

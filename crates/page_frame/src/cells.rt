@@ -132,7 +132,8 @@ impl<T> Cells<T> {
     /// Puts a value into a place, over what stands there.
     pub(crate) fn put(&mut self, base: Base<T>, place: usize, value: T)
         requires { (base.ptr ≡ self.old.at) × (place < length self.old.slots) }
-        ensures { (self.new.at ≡ self.old.at) × (self.new.slots ≡ slice_set self.old.slots place (Some value)) }
+        ensures { let slots = slice_set self.old.slots place (Some value) in
+            (self.new.at ≡ self.old.at) × (self.new.slots ≡ slots) }
     {
         unsafe { base.ptr.add(place).write(value) }
     }

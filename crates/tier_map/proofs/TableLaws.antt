@@ -5,7 +5,7 @@ use Rattle.std.specs.Global.{Vec}
 use Rattle.std.specs.Vec.{with_items}
 use Rattle.std.proofs.lemmas.Bool.{cases_eq, cases_lt}
 use Rattle.std.proofs.lemmas.List.{get_or-set_same, get_or-set_other, get_or-replicate, get_or_past, length-set, length-replicate, with_items_is}
-use Rattle.tier_map.specs.declared.place.Spot.{Spot}
+use Rattle.tier_map.specs.declared.place.PagePlaces.{PagePlaces}
 use Rattle.tier_map.specs.declared.place.Place.{Place}
 use Rattle.tier_map.specs.declared.place.Place.TheVariants.{Absent, Full, Mini}
 use Rattle.tier_map.specs.Placement.{changed, Agrees, nothing_placed, with_full, with_mini, with_nvm, without_dram, without_nvm}
@@ -51,19 +51,19 @@ written v old new k x e f =
     with_items_is v new (omega arith) ∙ f ∙ ap (λ xs. slice_set xs k x) e
 
 -- the same, where one part of what stood there was written
-pub placed : (v : Vec Spot) (old new : List Spot) (p : ℕ) (place : Place) → old ≡ v.items
+pub placed : (v : Vec PagePlaces) (old new : List PagePlaces) (p : ℕ) (place : Place) → old ≡ v.items
     → new ≡ slice_set old p (record (slice_index_or old p nowhere) { place = place })
     → (with_items v new).items ≡ slice_set v.items p (record (slice_index_or v.items p nowhere) { place = place })
 placed v old new p place e f = written v old new p (record (slice_index_or v.items p nowhere) { place = place }) e (f ∙ ap (λ xs. slice_set old p (record (slice_index_or xs p nowhere) { place = place })) e)
 
-pub framed : (v : Vec Spot) (old new : List Spot) (p : ℕ) (nvm : Option ℕ) → old ≡ v.items
+pub framed : (v : Vec PagePlaces) (old new : List PagePlaces) (p : ℕ) (nvm : Option ℕ) → old ≡ v.items
     → new ≡ slice_set old p (record (slice_index_or old p nowhere) { nvm = nvm })
     → (with_items v new).items ≡ slice_set v.items p (record (slice_index_or v.items p nowhere) { nvm = nvm })
 framed v old new p nvm e f = written v old new p (record (slice_index_or v.items p nowhere) { nvm = nvm }) e (f ∙ ap (λ xs. slice_set old p (record (slice_index_or xs p nowhere) { nvm = nvm })) e)
 
 -- ---- what two writes show
 
-module _ (pages : List Spot) (fulls minis frames : List (Option ℕ)) (p i : ℕ) (here : p < length pages) where
+module _ (pages : List PagePlaces) (fulls minis frames : List (Option ℕ)) (p i : ℕ) (here : p < length pages) where
   pub full-shows : i < length fulls
       → shown (slice_set pages p (record (slice_index_or pages p nowhere) { place = Full i })) (slice_set fulls i (Some p)) minis frames
       ≡ with_full p i (shown pages fulls minis frames)
@@ -160,7 +160,7 @@ nothing-agrees = record { full = λ p i. (λ h. absurd (cc), λ h. absurd (cc));
 
 -- ---- what the map shows after each of its calls wrote two places
 
-module _ (pages : Vec Spot) (owners : Vec (Option ℕ)) {spots spots' : List Spot} {places places' : List (Option ℕ)} (others more : List (Option ℕ)) (p i : ℕ)
+module _ (pages : Vec PagePlaces) (owners : Vec (Option ℕ)) {spots spots' : List PagePlaces} {places places' : List (Option ℕ)} (others more : List (Option ℕ)) (p i : ℕ)
     (here : p < length pages.items) (there : i < length owners.items) (spots-is : spots ≡ pages.items) (places-is : places ≡ owners.items) where
   pub after_full : spots' ≡ slice_set spots p (record (slice_index_or spots p nowhere) { place = Full i }) → places' ≡ slice_set places i (Some p)
       → shown (with_items pages spots').items (with_items owners places').items others more ≡ with_full p i (shown pages.items owners.items others more)

@@ -5,4 +5,6 @@ mod map;
 mod place;
 
 pub use map::TierMap;
-pub use place::{Place, Spot};
+#[doc(hidden)]
+pub use place::PagePlaces;
+pub use place::Place;

@@ -3,7 +3,7 @@ ghost use Rattle.std.specs.Prelude.{◌≡◌, ◌<◌, ℕ, IfOk, None, Some, l
 ghost use Rattle.tier_map.specs.Placement.{Agrees, nothing_placed, with_full, with_mini, with_nvm, without_dram, without_nvm};
 ghost use Rattle.tier_map.specs.Tables.{shown, nowhere};
 
-use crate::place::{Place, Spot};
+use crate::place::{PagePlaces, Place};
 use nvm_model::NoMemory;
 use std::alloc::Global;
 
@@ -11,7 +11,7 @@ use std::alloc::Global;
 /// and `sizes_of`. The two directions agree.
 #[derive(Drop)]
 pub struct TierMap {
-    pages: Vec<Spot>,
+    pages: Vec<PagePlaces>,
     fulls: Vec<Option<u64>>,
     minis: Vec<Option<u64>>,
     frames: Vec<Option<u64>>,
@@ -19,21 +19,21 @@ pub struct TierMap {
 }
 
 /// The copy of a page in DRAM becomes this one.
-fn put_place(spots: &mut [Spot], page: usize, place: Place)
-    requires { page < length spots.old }
-    ensures { let before = slice_index_or spots.old page nowhere in
-        spots.new ≡ slice_set spots.old page (record before { place = place }) }
+fn put_place(pages: &mut [PagePlaces], page: usize, place: Place)
+    requires { page < length pages.old }
+    ensures { let before = slice_index_or pages.old page nowhere in
+        pages.new ≡ slice_set pages.old page (record before { place = place }) }
 {
-    spots[page].place = place;
+    pages[page].place = place;
 }
 
 /// The NVM frame of a page becomes this one.
-fn put_frame(spots: &mut [Spot], page: usize, frame: Option<u32>)
-    requires { page < length spots.old }
-    ensures { let before = slice_index_or spots.old page nowhere in
-        spots.new ≡ slice_set spots.old page (record before { nvm = frame }) }
+fn put_frame(pages: &mut [PagePlaces], page: usize, frame: Option<u32>)
+    requires { page < length pages.old }
+    ensures { let before = slice_index_or pages.old page nowhere in
+        pages.new ≡ slice_set pages.old page (record before { nvm = frame }) }
 {
-    spots[page].nvm = frame;
+    pages[page].nvm = frame;
 }
 
 /// The page of a place becomes this one.
@@ -52,10 +52,10 @@ fn free_places(alloc: Global, count: usize) -> Result<Vec<Option<u64>>, NoMemory
 }
 
 /// So many pages that lie nowhere.
-fn unplaced_pages(alloc: Global, count: usize) -> Result<Vec<Spot>, NoMemory>
-    ensures { IfOk result (λ spots. spots.items ≡ replicate count nowhere) }
+fn unplaced_pages(alloc: Global, count: usize) -> Result<Vec<PagePlaces>, NoMemory>
+    ensures { IfOk result (λ made. made.items ≡ replicate count nowhere) }
 {
-    let nowhere = Spot {
+    let nowhere = PagePlaces {
         place: Place::Absent,
         nvm: None,
     };

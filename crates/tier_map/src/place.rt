@@ -11,9 +11,9 @@ pub enum Place {
     Mini(u32),
 }
 
-/// Where a page lies in both tiers: 16 bytes.
+/// Where a page lies in both tiers, as a map keeps it: 16 bytes.
 #[derive(Clone, Copy, Debug, PartialEq, Eq)]
-pub struct Spot {
+pub struct PagePlaces {
     /// Its copy in DRAM.
     pub place: Place,
     /// The number of its frame in NVM, if it has one.

@@ -34,6 +34,8 @@ fn measured(alloc: Global, name: &str, count: u64) -> Result<u64, Ended> {
         clocks::rooms(alloc, count)
     } else if name == "place" {
         maps::places(alloc, count)
+    } else if name == "map" {
+        maps::largest(alloc, count)
     } else if name == "yes" {
         policies::draws(count)
     } else if name == "ask" {

@@ -1,9 +1,12 @@
 //! Worked examples, the words of the generator against those of another program, and the largest sizes.
-ghost use Rattle.std.specs.Prelude.{◌≡◌, ◌<◌, IfOk, IsTrue, length};
+ghost use Rattle.std.specs.Prelude.{◌≡◌, ◌<◌, ◌≤◌, IfOk, IsTrue, length};
 ghost use Rattle.clock_sweep.specs.Clock.{any_stands};
+ghost use Rattle.tier_map.specs.Contents.{sizes_of};
+ghost use Rattle.tier_tests.specs.Largest.{largest};
 
 use clock_sweep::{Clock, Steps};
 use migration_policy::{AdmissionQueue, Draws, Policy, Question};
+use nvm_model::NoMemory;
 use rand_core::SeedableRng;
 use rand_core::utils::NextWord;
 use rand_pcg::Lcg64Xsh32;
@@ -11,7 +14,14 @@ use std::alloc::Global;
 use std::test::Fail;
 use tier_map::{Place, TierMap};
 
-/// The seeds, and the first eight words of each, as the crate `rand_pcg` 0.3.1 for Rust gives them.
+/// How many full places, mini places and pages in the queue there may be, and how many frames.
+const PLACES: u32 = 65_536;
+
+const FRAMES: u32 = 65_535;
+
+/// The seeds, and the first eight words of each. They were computed with the crates `rand_pcg` 0.3.1 and
+/// `rand_core` 0.6.3 for Rust, as Debian has them (`librust-rand-pcg-dev` 0.3.1-2), and `rustc`, by
+/// `Lcg64Xsh32::seed_from_u64` and then eight times `next_u32`.
 const WORDS: [(u64, [u32; 8]); 4] = [
     (
         0,
@@ -90,24 +100,41 @@ fn words_are_those_of_the_crate(rt: HostRuntime) {
     }
 }
 
-#[test]
-fn each_question_has_its_probability(rt: HostRuntime) {
-    let policy = Policy {
-        dr: 1000,
-        dw: 0,
-        nr: 1000,
-        nw: 0,
+/// A policy with these four probabilities, in thousandths.
+fn policy(dr: u16, dw: u16, nr: u16, nw: u16) -> Policy
+    requires { (dr ≤ 1000) × (dw ≤ 1000) × (nr ≤ 1000) × (nw ≤ 1000) }
+{
+    Policy {
+        dr,
+        dw,
+        nr,
+        nw,
         queue_len: 0,
         seed: 1,
         dram_frames: 1,
         minis: 0,
-    };
-    let mut draws = Draws::new(policy.seed);
+    }
+}
+
+/// Answers to each question, in order.
+fn answers(policy: &Policy, draws: &mut Draws) -> [bool; 4] {
+    [
+        policy.decide(draws, Question::DramRead),
+        policy.decide(draws, Question::DramWrite),
+        policy.decide(draws, Question::NvmRead),
+        policy.decide(draws, Question::NvmWrite),
+    ]
+}
+
+/// One probability at a time is 1000, and the others are 0: the answer is yes to its question alone.
+#[test]
+fn each_question_has_its_probability(rt: HostRuntime) {
+    let mut draws = Draws::new(1);
     for _ in 0..100 {
-        assert!(rt; policy.decide(&mut draws, Question::DramRead));
-        assert!(rt; !policy.decide(&mut draws, Question::DramWrite));
-        assert!(rt; policy.decide(&mut draws, Question::NvmRead));
-        assert!(rt; !policy.decide(&mut draws, Question::NvmWrite));
+        assert!(rt; answers(&policy(1000, 0, 0, 0), &mut draws) == [true, false, false, false]);
+        assert!(rt; answers(&policy(0, 1000, 0, 0), &mut draws) == [false, true, false, false]);
+        assert!(rt; answers(&policy(0, 0, 1000, 0), &mut draws) == [false, false, true, false]);
+        assert!(rt; answers(&policy(0, 0, 0, 1000), &mut draws) == [false, false, false, true]);
     }
 }
 
@@ -132,35 +159,155 @@ fn a_page_goes_up_and_down(rt: HostRuntime) -> Result<(), Fail> {
     Ok(())
 }
 
-/// 62 tables of 1,000,000 rows, and all places that a policy and a geometry may ask for.
+/// A map of 62 tables of 1,000,000 rows, with all places that a policy and a geometry may ask for.
+fn largest_map(alloc: Global) -> Result<TierMap, NoMemory>
+    ensures { IfOk result (λ map. sizes_of map ≡ largest) }
+{
+    TierMap::new(alloc, 31_000_497, PLACES, PLACES, FRAMES)
+}
+
+/// Gives a page a full copy in a place, where it has no copy and the place is free.
+fn put_full(map: &mut TierMap, page: u64, place: u32) -> bool
+    requires page { page < (sizes_of map.old).pages }
+    requires place { place < (sizes_of map.old).fulls }
+    ensures { sizes_of map.new ≡ sizes_of map.old }
+{
+    match (map.place(page), map.full_page(place)) {
+        (Place::Absent, None) => {
+            map.set_full(page, place);
+            true
+        }
+        _ => false,
+    }
+}
+
+/// Gives a page a mini copy in a place, where it has no copy and the place is free.
+fn put_mini(map: &mut TierMap, page: u64, mini: u32) -> bool
+    requires page { page < (sizes_of map.old).pages }
+    requires place { mini < (sizes_of map.old).minis }
+    ensures { sizes_of map.new ≡ sizes_of map.old }
+{
+    match (map.place(page), map.mini_owner(mini)) {
+        (Place::Absent, None) => {
+            map.set_mini(page, mini);
+            true
+        }
+        _ => false,
+    }
+}
+
+/// Gives a page a frame, where it has none and the frame is free.
+fn put_frame(map: &mut TierMap, page: u64, frame: u32) -> bool
+    requires page { page < (sizes_of map.old).pages }
+    requires frame { frame < (sizes_of map.old).frames }
+    ensures { sizes_of map.new ≡ sizes_of map.old }
+{
+    match (map.nvm(page), map.frame_page(frame)) {
+        (None, None) => {
+            map.set_nvm(page, frame);
+            true
+        }
+        _ => false,
+    }
+}
+
+/// Places the last pages in the full places, the first ones in the mini places, and pages all over in the frames.
+fn place_all(map: &mut TierMap) -> bool
+    requires { sizes_of map.old ≡ largest }
+    ensures { sizes_of map.new ≡ largest }
+{
+    for i in 0..FRAMES {
+        let page = u64::from(i);
+        if !put_full(map, 31_000_496 - page, i)
+            || !put_mini(map, page, i)
+            || !put_frame(map, 473 * page, i)
+        {
+            return false;
+        }
+    }
+    true
+}
+
+/// Whether each of these pages is where it was placed, and each place has its page.
+fn all_found(map: &TierMap) -> bool
+    requires { sizes_of map.now ≡ largest }
+{
+    for i in 0..FRAMES {
+        let page = u64::from(i);
+        if map.place(31_000_496 - page) != Place::Full(i)
+            || map.full_page(i) != Some(31_000_496 - page)
+            || map.place(page) != Place::Mini(i)
+            || map.mini_owner(i) != Some(page)
+            || map.nvm(473 * page) != Some(i)
+            || map.frame_page(i) != Some(473 * page)
+        {
+            return false;
+        }
+    }
+    true
+}
+
 #[test]
 fn the_largest_map(rt: HostRuntime) -> Result<(), Fail> {
-    let mut map = TierMap::new(rt.alloc(), 31_000_497, 65_536, 65_536, 65_535)?;
-    map.set_full(31_000_496, 65_535);
-    map.set_nvm(31_000_496, 65_534);
-    assert!(rt; map.place(31_000_496) == Place::Full(65_535));
-    assert!(rt; map.frame_page(65_534) == Some(31_000_496));
+    let mut map = largest_map(rt.alloc())?;
+    assert!(rt; place_all(&mut map));
+    assert!(rt; all_found(&map));
+    map.clear_dram(31_000_496);
+    assert!(rt; map.full_page(0).is_none());
+    assert!(rt; map.place(31_000_495) == Place::Full(1));
+    assert!(rt; map.full_page(PLACES - 1).is_none());
     Ok(())
 }
 
-/// A clock of so many places, of which the last one stands.
-fn clock_with_its_last(alloc: Global, places: u32) -> Result<Clock, Fail>
+/// A clock of so many places, all of which stand.
+fn full_clock(alloc: Global, places: u32) -> Result<Clock, Fail>
     requires { 0 < places }
-    ensures { IfOk result (λ clock. IsTrue (any_stands clock)) }
+    ensures size { IfOk result (λ clock. length clock ≡ places) }
+    ensures stands { IfOk result (λ clock. IsTrue (any_stands clock)) }
 {
     let mut clock = Clock::new(alloc, places)?;
     clock.insert(places - 1);
+    for place in 0..places {
+        clock.insert(place);
+    }
     Ok(clock)
 }
 
 #[test]
-fn the_largest_clock_and_queue(rt: HostRuntime) -> Result<(), Fail> {
-    let mut clock = clock_with_its_last(rt.alloc(), 65_536)?;
+fn the_largest_clock(rt: HostRuntime) -> Result<(), Fail> {
+    let mut clock = full_clock(rt.alloc(), PLACES)?;
     let mut steps = Steps::new();
-    assert_eq!(rt; clock.victim(&mut steps), 65_535);
-    assert_eq!(rt; steps.taken(), 131_072);
-    let mut queue = AdmissionQueue::new(rt.alloc(), 65_536)?;
+    assert!(rt; clock.empty().is_none());
+    assert_eq!(rt; clock.victim(&mut steps), 0);
+    assert_eq!(rt; steps.taken(), 65_537);
+    assert!(rt; clock.empty() == Some(0));
+    clock.remove(65_535);
+    clock.insert(0);
+    assert!(rt; clock.empty() == Some(65_535));
+    Ok(())
+}
+
+/// Asks for pages that are not in the queue, from one on up to another.
+fn ask_new(queue: &mut AdmissionQueue, from: u64, end: u64) -> bool
+    requires { 1 ≤ queue.old.len }
+    ensures { queue.new.len ≡ queue.old.len }
+{
+    for page in from..end {
+        if queue.ask(page) {
+            return false;
+        }
+    }
+    true
+}
+
+/// Of the longest queue the oldest page is dropped, and no other.
+#[test]
+fn the_longest_queue(rt: HostRuntime) -> Result<(), Fail> {
+    let mut queue = AdmissionQueue::new(rt.alloc(), PLACES)?;
+    assert!(rt; ask_new(&mut queue, 0, 65_537));
+    assert!(rt; !queue.ask(0));
+    assert!(rt; queue.ask(2));
     assert!(rt; !queue.ask(1));
-    assert!(rt; queue.ask(1));
+    assert!(rt; queue.ask(65_536));
     Ok(())
 }

@@ -24,3 +24,6 @@ returns-clause-frame c =
     c.loop-line.invariant
     ∙ ap (λ k. with_frame c.args.frame (moved_up_to k places (frame_at (frames_of frames) c.args.frame)) (frames_of frames)) all
     ∙ move_ends (frames_of frames) c.args.frame places c.requires.frame long c.mask-mask.ensures.is_mini.places c.requires.empty
+
+pub returns-clause-dirty : goal.returns-clause-dirty
+returns-clause-dirty c = c.mask-mask.ensures.dirty
