@@ -4,9 +4,9 @@ use Rattle.line_pages.specs.Lines.{Lines}
 use Rattle.line_pages.specs.Bytes.{bytes_of}
 use Rattle.line_pages.specs.Standing.{Standing, ReadsPage}
 use Rattle.page_format.specs.declared.root.Expect.{Expect}
-use Rattle.rows.specs.Rows.{row_put}
+use Rattle.rows.specs.Rows.{Row, row_put}
 use Rattle.page_format.specs.Node.{IsWellFormed, leaf_rows}
-use Rattle.page_alloc.specs.Written.{Differs, Meets, WritesOnly, WritesNothing, lines_changed}
+use Rattle.page_alloc.specs.Written.{OtherPages, Differs, Meets, WritesOnly, WritesNothing, lines_changed}
 use Rattle.page_alloc.proofs.TouchedLaws.{only_then, only_weaker, only_nothing, nothing_read}
 use Rattle.node_edit.specs.declared.fit.Fit.TheVariants as fits
 use Rattle.node_edit.specs.Edit.{Holds}
@@ -46,13 +46,19 @@ put_later page expect key value old mid new reads told put =
           subst (λ (lines : Lines). Meets (record_at key (bytes_of lines page)) line) same met;
     }
 
-pub line_edits : {A : Type 0} (page : ℕ) (expect : Expect) (key : ℕ) (value : List ℕ) (old new : Standing A) → expect.level ≡ 0 → expect.pages ≡ old.count → PutByLines page expect key value old new → Edits old.current new.current page expect Whole (row_put key value)
-line_edits page expect key value old new level count put = λ free tree is_free part within.
+-- a leaf that is as full as it has to be afterwards
+pub whole_edits : {A : Type 0} (page : ℕ) (expect : Expect) (step : List Row → List Row) (old new : Standing A) → expect.level ≡ 0 → expect.pages ≡ old.count
+    → (IsWellFormed (bytes_of old.current page) expect → Holds leaf_rows expect (bytes_of new.current page) (step (leaf_rows (bytes_of old.current page)))) → OtherPages page old.current new.current
+    → Edits old.current new.current page expect Whole step
+whole_edits page expect step old new level count holds others = λ free tree is_free part within.
     let w = bytes_of old.current page in
     let w_new = bytes_of new.current page in
     let well = well_formed_top expect.pages old.current expect.level page expect.low expect.high expect.root tree in
-    let stores : Stores old.count old.current new.current page Whole w_new w_new = stored_whole old.count old.current new.current page w_new w_new (record { bytes_are = refl; others = put.others }) in
-    leaf_edits expect old.current old.current new.current page old.count w w_new w_new fits.Whole Whole (row_put key value) level (sym count) refl refl (put.rows well) refl stores free tree is_free part within
+    let stores : Stores old.count old.current new.current page Whole w_new w_new = stored_whole old.count old.current new.current page w_new w_new (record { bytes_are = refl; others = others }) in
+    leaf_edits expect old.current old.current new.current page old.count w w_new w_new fits.Whole Whole step level (sym count) refl refl (holds well) refl stores free tree is_free part within
+
+pub line_edits : {A : Type 0} (page : ℕ) (expect : Expect) (key : ℕ) (value : List ℕ) (old new : Standing A) → expect.level ≡ 0 → expect.pages ≡ old.count → PutByLines page expect key value old new → Edits old.current new.current page expect Whole (row_put key value)
+line_edits page expect key value old new level count put = whole_edits page expect (row_put key value) old new level count put.rows put.others
 
 pub record_by : {A : Type 0} (page : ℕ) (expect : Expect) (key : ℕ) (value : List ℕ) (old new : Standing A) → PutByLines page expect key value old new → IsWellFormed (bytes_of old.current page) expect → HoldsLength key (length value) (leaf_rows (bytes_of old.current page)) → WritesRecord page key old new
 record_by page expect key value old new put well holds = only_weaker page (Differs (bytes_of old.current page) (bytes_of new.current page)) (Meets (record_at key (bytes_of old.current page))) (λ line differs. put.again well holds line differs) put.only
@@ -60,12 +66,7 @@ record_by page expect key value old new put well holds = only_weaker page (Diffe
 pub change_by : {A : Type 0} (page : ℕ) (expect : Expect) (key : ℕ) (value : List ℕ) (old new : Standing A) → PutByLines page expect key value old new → WritesChange page old new
 change_by page expect key value old new put = record { only = put.only; once = put.once }
 
-pub record_on : {A T E : Type 0} (page key : ℕ) (old mid new : Standing A) (r : Result T E) → mid.current ≡ old.current → WritesNothing old mid → OnOk r (WritesRecord page key mid new) → OnOk r (WritesRecord page key old new)
-record_on page key old mid new (Ok v) same nothing w =
+pub record_read : {A : Type 0} (page key : ℕ) (old mid new : Standing A) → mid.current ≡ old.current → WritesNothing old mid → WritesRecord page key mid new → WritesRecord page key old new
+record_read page key old mid new same nothing w =
     let rec = record_at key (bytes_of old.current page) in
     only_then page (Meets rec) (only_nothing page (Meets rec) nothing) (subst (λ (lines : Lines). WritesOnly page (Meets (record_at key (bytes_of lines page))) mid new) same w)
-record_on page key old mid new (Err e) same nothing w = tt
-
-pub change_on : {A T E : Type 0} (page : ℕ) (old mid new : Standing A) (r : Result T E) → mid.current ≡ old.current → mid.room ≡ old.room → WritesNothing old mid → OnOk r (WritesChange page mid new) → OnOk r (WritesChange page old new)
-change_on page old mid new (Ok v) same room nothing w = change_later page old mid new same room nothing w
-change_on page old mid new (Err e) same room nothing w = tt

@@ -228,7 +228,3 @@ pub take_needed : {T : Type 0} (n key : ℕ) (value : List ℕ) (lines : Lines) 
 take_needed n key value lines root top result is full other =
     root_needed n key value lines root top result is
     (cut_needed (IsOverfull (leaf_after lines top.expect.level top.page key value)) (IsWayFull lines top.expect.level top.page key value) result (full_leaf lines top.expect.level top.page key value full) other)
-
--- after calls that changed no line
-pub needed_later : {T : Type 0} (lines mid : Lines) (level page key : ℕ) (value : List ℕ) (result : Result T Stop) → mid ≡ lines → IfErr result (MustCut mid level page key value) → IfErr result (MustCut lines level page key value)
-needed_later lines mid level page key value result same needed = subst (λ (l : Lines). IfErr result (MustCut l level page key value)) same needed

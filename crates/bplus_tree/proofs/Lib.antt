@@ -10,6 +10,8 @@ pub mod PathLaws
 pub mod RootLaws
 pub mod LeafOfKey
 pub mod LineChangeLaws
+pub mod FreshLaws
 pub mod FullLaws
 pub mod FullWayLaws
 mod ByLines
+mod LineCostLaws

@@ -86,12 +86,3 @@ root_lines root top n key value old new outcome is_count is_top puts told rows u
     let at_top = subst (λ (p : Place). PutsChange p key value old new outcome) is_top puts in
     at_top.is told (subst (λ (m : ℕ). IsTree m old.current (root.levels - 1) root.page 0 last_key true) (sym is_count) rooted.tree.is_tree)
     (fits_or (leaf_after old.current (root.levels - 1) root.page key value) (λ one. (omega (arith, one), refl)) fits)
-
-pub lines_later : {A : Type 0} (root : Root) (key : ℕ) (value : List ℕ) (old mid new : Standing A) → mid.current ≡ old.current → mid.count ≡ old.count → mid.room ≡ old.room → WritesNothing old mid
-    → PutsLines root key value mid new → PutsLines root key value old new
-lines_later root key value old mid new same is_count same_room nothing later rows used rooted fits =
-    let there : IsRooted mid.count mid.current root rows used =
-    subst (λ (n : ℕ). IsRooted n mid.current root rows used) (sym is_count) (subst (λ (lines : Lines). IsRooted old.count lines root rows used) (sym same) rooted) in
-    let fits_there = subst (λ (lines : Lines). FitsLeaf (root.levels ≡ 1) (leaf_after lines (root.levels - 1) root.page key value)) (sym same) fits in
-    let change = subst (λ (lines : Lines). WritesChange (leaf_for lines (root.levels - 1) root.page key) mid new) same (later rows used there fits_there) in
-    change_later (leaf_for old.current (root.levels - 1) root.page key) old mid new same same_room nothing change

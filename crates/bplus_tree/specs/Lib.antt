@@ -4,5 +4,6 @@ pub mod Damage
 pub mod Edit
 pub mod Full
 pub mod LineChanges
+pub mod LineCosts
 pub mod Path
 pub mod Record

@@ -2,8 +2,10 @@
 ghost use Rattle.std.specs.Prelude.{◌≡◌, ◌≢◌, ◌∷◌, ◌+◌, ◌*◌, ◌<◌, ◌≤◌, ℕ, List, length, true, false, IsTrue, OnOk, IfOk, IfErr};
 ghost use Rattle.bplus_tree.specs.Causes.{TreeCause};
 ghost use Rattle.page_search.specs.Causes.{OnPage};
+ghost use Rattle.page_search.specs.Cost.{search_lines};
 ghost use Rattle.line_pages.specs.PagesCall.{PagesCall};
 ghost use Rattle.line_pages.specs.Bytes.{bytes_of};
+ghost use Rattle.line_pages.specs.Cost.{Costs};
 ghost use Rattle.line_pages.specs.Touch.{begins};
 ghost use Rattle.line_pages.specs.Standing.{HasCause, Never, KeepsLines, ReadsPage};
 ghost use Rattle.page_format.specs.Node.{IsWellFormed};
@@ -44,6 +46,7 @@ pub fn look<P: Pages>(
     ensures spot { OnPage P.Pages pages.old page expect.now (IfOk result (IsSpot (bytes_of (P.standing pages.old).current page) expect.now key)) }
     ensures safe { IfOk result (IsSafeSpot expect.now key) }
     ensures reads { OnOk result (ReadsPage page (P.standing pages.old) (P.standing pages.new)) }
+    ensures cost { OnPage P.Pages pages.old page expect.now (OnOk result (Costs (search_lines expect.now.level) (P.standing pages.old) (P.standing pages.new))) }
     ensures keeps { OnOk result (KeepsLines (P.standing pages.old) (P.standing pages.new)) }
     ensures sound { OnPage P.Pages pages.old page expect.now (IfErr result IsFault) }
     ensures cause { TreeCause P.Pages pages.old pages.new work.new.page result }

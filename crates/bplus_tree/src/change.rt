@@ -1,16 +1,16 @@
 //! Changes of one page of a tree: of a leaf, and of the pages above one that was changed.
-ghost use Rattle.std.specs.Prelude.{◌≡◌, ◌≢◌, ◌+◌, ◌-◌, ◌*◌, ◌<◌, ◌≤◌, ◌==◌, ◌∷◌, ℕ, List, length, true, false, None, IsTrue, OnOk, IfOk, IfErr, Err};
+ghost use Rattle.std.specs.Prelude.{◌≡◌, ◌≢◌, ◌+◌, ◌-◌, ◌*◌, ◌<◌, ◌≤◌, ◌==◌, ◌∷◌, ℕ, List, length, true, false, not, is_some, None, IsTrue, OnOk, IfOk, IfErr, Err};
 ghost use Rattle.std.specs.List.{list_all};
 ghost use Rattle.bplus_tree.specs.Causes.{TreeCause};
 ghost use Rattle.page_search.specs.Causes.{OnPage};
 ghost use Rattle.line_pages.specs.PagesCall.{PagesCall};
 ghost use Rattle.line_pages.specs.Bytes.{bytes_of};
 ghost use Rattle.line_pages.specs.Standing.{IsCause};
-ghost use Rattle.rows.specs.Rows.{row_put, row_delete};
+ghost use Rattle.rows.specs.Rows.{row_get, row_put, row_delete};
 ghost use Rattle.page_format.specs.Node.{IsWellFormed, entry_count, leaf_rows};
 ghost use Rattle.rows.specs.Value.{is_printable};
 ghost use Rattle.page_format.specs.Search.{is_root_span, Keeps, IsSpot, IsSafeSpot};
-ghost use Rattle.leaf_lines.specs.Put.{IsFound};
+ghost use Rattle.leaf_lines.specs.Put.{IsFound, fits_beside};
 ghost use Rattle.line_pages.specs.Touch.{begins};
 ghost use Rattle.page_alloc.specs.Space.{IsFreeList, FitsHeader};
 ghost use Rattle.page_alloc.specs.Moves.{ArePart};
@@ -22,14 +22,15 @@ ghost use Rattle.node_edit.specs.Edit.{IsPair, IsCutIn};
 ghost use Rattle.bplus_tree.specs.Path.{IsFullAt};
 ghost use Rattle.node_edit.specs.Record.{FitsLeaf, HoldsLength};
 ghost use Rattle.bplus_tree.specs.LineChanges.{WritesChange};
+ghost use Rattle.bplus_tree.specs.LineCosts.{ByLines, put_lines, delete_lines, keeps_without};
 ghost use Rattle.bplus_tree.specs.Record.{WritesRecord};
 ghost use Rattle.page_alloc.specs.Written.{Rewrites, lines_changed};
 
 use crate::access::{give, load, look, store};
 use crate::joining::join;
-use crate::outcome::Outcome;
+use crate::outcome::{Change, Outcome};
 use damage::Evidence;
-use leaf_lines::put_by_lines;
+use leaf_lines::{put_by_lines, remove_by_lines};
 use line_pages::{Pages, Stop, page_word};
 use node_edit::{Fit, Pair, inner_put, leaf_delete, leaf_put, mend_divided, mend_joined, pair_of};
 use page_alloc::write_changes;
@@ -80,24 +81,15 @@ fn put_leaf<P: Pages>(
     store(pages, page, fit, work)
 }
 
-/// Where a search found a key in a leaf.
-#[derive(Clone, Copy)]
-pub(crate) struct Seen {
-    /// Whether a row has it.
-    pub found: bool,
-    /// The row, or where it would stand.
-    pub at: usize,
-}
-
-/// What a search in a leaf answered.
-fn seen_of(spot: Spot, expect: &Expect) -> Seen
+/// The row that a search in a leaf found, or else where it would stand, as `binary_search` of a slice answers.
+fn found_place(spot: Spot, expect: &Expect) -> Result<usize, usize>
     requires { expect.now.level ≡ 0 }
-    ensures { (bytes : List ℕ) (key : ℕ) → IsSafeSpot expect.now key spot → IsSpot bytes expect.now key spot → IsFound bytes expect.now key result.found result.at }
+    ensures { (bytes : List ℕ) (key : ℕ) → IsSafeSpot expect.now key spot → IsSpot bytes expect.now key spot → IsFound bytes expect.now key result }
 {
     match spot {
-        Spot::Row(at) => Seen { found: true, at },
-        Spot::Gap(at) => Seen { found: false, at },
-        Spot::Child(at, _, _, _) => Seen { found: false, at },
+        Spot::Row(at) => Ok(at),
+        Spot::Gap(at) => Err(at),
+        Spot::Child(at, _, _, _) => Err(at),
     }
 }
 
@@ -111,7 +103,7 @@ pub fn put_at<P: Pages>(
     key: u64,
     value: &[u8],
     work: &mut Work,
-) -> Result<Outcome, Stop>
+) -> Result<Change, Stop>
     requires ready { P.is_ready pages.old }
     requires page { page < (P.standing pages.old).count }
     requires pages { expect.now.pages ≡ (P.standing pages.old).count }
@@ -122,34 +114,41 @@ pub fn put_at<P: Pages>(
     requires size { length value.now ≤ 480 }
     requires printable { list_all is_printable value.now ≡ true }
     requires room { 129 ≤ (P.standing pages.old).room }
-    ensures safe { IfOk result (IsSafe (P.standing pages.old).count expect.now) }
-    ensures below { IfOk result (StaysBelow expect.now) }
-    ensures edits { IsTrue (P.standing pages.old).told → IfOk result (λ outcome. Edits (P.standing pages.old).current (P.standing pages.new).current page expect.now outcome (row_put key value.now)) }
+    ensures safe { IfOk result (λ change. IsSafe (P.standing pages.old).count expect.now change.outcome) }
+    ensures below { IfOk result (λ change. StaysBelow expect.now change.outcome) }
+    ensures edits { IsTrue (P.standing pages.old).told → IfOk result (λ change. Edits (P.standing pages.old).current (P.standing pages.new).current page expect.now change.outcome (row_put key value.now)) }
+    ensures fresh { OnPage P.Pages pages.old page expect.now (IfOk result (λ change. change.fresh ≡ not (is_some (row_get key (leaf_rows (bytes_of (P.standing pages.old).current page)))))) }
     ensures again { OnPage P.Pages pages.old page expect.now (HoldsLength key (length value.now) (leaf_rows (bytes_of (P.standing pages.old).current page)) → OnOk result (WritesRecord page key (P.standing pages.old) (P.standing pages.new))) }
-    ensures whole { OnPage P.Pages pages.old page expect.now (HoldsLength key (length value.now) (leaf_rows (bytes_of (P.standing pages.old).current page)) → IfOk result (λ outcome. outcome ≡ Outcome.Whole)) }
+    ensures whole { OnPage P.Pages pages.old page expect.now (HoldsLength key (length value.now) (leaf_rows (bytes_of (P.standing pages.old).current page)) → IfOk result (λ change. change.outcome ≡ Outcome.Whole)) }
     ensures lines { OnPage P.Pages pages.old page expect.now (FitsLeaf (expect.now.root ≡ true) (row_put key value.now (leaf_rows (bytes_of (P.standing pages.old).current page))) → OnOk result (WritesChange page (P.standing pages.old) (P.standing pages.new))) }
-    ensures fills { OnPage P.Pages pages.old page expect.now (FitsLeaf (expect.now.root ≡ true) (row_put key value.now (leaf_rows (bytes_of (P.standing pages.old).current page))) → IfOk result (λ outcome. outcome ≡ Outcome.Whole)) }
-    ensures room { IfOk result (IsSpent 0 (P.standing pages.old).room (P.standing pages.new).room) }
+    ensures by_lines { OnPage P.Pages pages.old page expect.now (fits_beside expect.now.root key (length value.now) (bytes_of (P.standing pages.old).current page) ≡ true → IfOk result (λ change. (change.outcome ≡ Outcome.Whole) × ByLines page (28 + put_lines key (length value.now) (bytes_of (P.standing pages.old).current page)) (P.standing pages.old) (P.standing pages.new))) }
+    ensures fills { OnPage P.Pages pages.old page expect.now (FitsLeaf (expect.now.root ≡ true) (row_put key value.now (leaf_rows (bytes_of (P.standing pages.old).current page))) → IfOk result (λ change. change.outcome ≡ Outcome.Whole)) }
+    ensures room { IfOk result (λ change. IsSpent 0 (P.standing pages.old).room (P.standing pages.new).room change.outcome) }
     ensures sound { IsTrue (P.standing pages.old).told → (free : List ℕ) → IsWellFormed (bytes_of (P.standing pages.old).current page) expect.now → IsFreeList (P.standing pages.old).current free → ArePart (P.standing pages.old).current (page ∷ free) → FitsHeader (P.standing pages.old).count ((P.standing pages.old).current 0 0) → IfErr result (IsShort (spare_pages (P.standing pages.old).count (P.standing pages.old).current free) 0) }
     ensures cause { TreeCause P.Pages pages.old pages.new work.new.page result }
     ensures fails { IfErr result (Keeps (FailsTree (P.standing pages.old).count work.new.page)) }
     ensures not_full { IfErr result NotFull }
-    ensures cuts { IsTrue (P.standing pages.old).told → IfOk result (CutsFor (IsOverfull (row_put key value.now (leaf_rows (bytes_of (P.standing pages.old).current page))))) }
+    ensures cuts { IsTrue (P.standing pages.old).told → IfOk result (λ change. CutsFor (IsOverfull (row_put key value.now (leaf_rows (bytes_of (P.standing pages.old).current page)))) change.outcome) }
     ensures needed { OnPage P.Pages pages.old page expect.now (IfErr result (IsNeeded (IsOverfull (row_put key value.now (leaf_rows (bytes_of (P.standing pages.old).current page)))) ⊥)) }
     ensures call { PagesCall P.Pages pages.old pages.new result }
     ensures few { (P.standing pages.new).visits ≤ (P.standing pages.old).visits + 8 }
 {
     let spot = look(pages, page, expect, key, work)?;
-    let seen = seen_of(spot, expect);
-    let done = put_by_lines(pages, page, expect, seen.found, seen.at, key, value, work)?;
+    let place = found_place(spot, expect);
+    let fresh = place.is_err();
+    let done = put_by_lines(pages, page, expect, place, key, value, work)?;
     if done {
-        return Ok(Outcome::Whole);
+        return Ok(Change {
+            outcome: Outcome::Whole,
+            fresh,
+        });
     }
-    put_leaf(pages, page, expect, key, value, work)
+    let outcome = put_leaf(pages, page, expect, key, value, work)?;
+    Ok(Change { outcome, fresh })
 }
 
-/// A delete in a leaf.
-pub fn delete_leaf<P: Pages>(
+/// A delete in a leaf that is read whole.
+fn delete_leaf<P: Pages>(
     pages: &mut P,
     page: u64,
     expect: &Expect,
@@ -171,12 +170,55 @@ pub fn delete_leaf<P: Pages>(
     ensures fails { IfErr result (Keeps (FailsTree (P.standing pages.old).count work.new.page)) }
     ensures not_full { IfErr result NotFull }
     ensures call { PagesCall P.Pages pages.old pages.new result }
+    ensures few_more { begins (P.standing pages.old).access page false ≡ false → (P.standing pages.new).visits ≤ (P.standing pages.old).visits + 7 }
     ensures few { (P.standing pages.new).visits ≤ (P.standing pages.old).visits + 8 }
 {
     load(pages, page, expect, work)?;
     work.spare.copy_from(&work.page);
     let fit = leaf_delete(&mut work.page, expect, key);
     store(pages, page, fit, work)
+}
+
+/// A delete in a leaf, by the lines that it needs where the leaf keeps the bytes that it has to have, else with the leaf read whole.
+#[tactic(auto, using(page_alloc::proofs::SoundLaws::sound_never, crate::proofs::FullLaws::never_not_full))]
+pub fn delete_at<P: Pages>(
+    pages: &mut P,
+    page: u64,
+    expect: &Expect,
+    key: u64,
+    work: &mut Work,
+) -> Result<Outcome, Stop>
+    requires ready { P.is_ready pages.old }
+    requires page { page < (P.standing pages.old).count }
+    requires pages { expect.now.pages ≡ (P.standing pages.old).count }
+    requires root { is_root_span expect.now.low expect.now.high ≡ true → expect.now.root ≡ true }
+    requires level { expect.now.level ≡ 0 }
+    requires above { expect.now.low ≤ key }
+    requires within { key ≤ expect.now.high }
+    requires room { 33 ≤ (P.standing pages.old).room }
+    ensures safe { IfOk result (IsSafe (P.standing pages.old).count expect.now) }
+    ensures edits { IsTrue (P.standing pages.old).told → IfOk result (λ outcome. Edits (P.standing pages.old).current (P.standing pages.new).current page expect.now outcome (row_delete key)) }
+    ensures by_lines { OnPage P.Pages pages.old page expect.now (keeps_without key expect.now.root (bytes_of (P.standing pages.old).current page) ≡ true → IfOk result (λ outcome. (outcome ≡ Outcome.Whole) × ByLines page (28 + delete_lines (bytes_of (P.standing pages.old).current page)) (P.standing pages.old) (P.standing pages.new))) }
+    ensures uncut { IfOk result (λ outcome. (k r : ℕ) → outcome ≢ Outcome.Cut k r) }
+    ensures room { IfOk result (IsSpent 0 (P.standing pages.old).room (P.standing pages.new).room) }
+    ensures sound { OnPage P.Pages pages.old page expect.now (IfErr result IsFault) }
+    ensures cause { TreeCause P.Pages pages.old pages.new work.new.page result }
+    ensures fails { IfErr result (Keeps (FailsTree (P.standing pages.old).count work.new.page)) }
+    ensures not_full { IfErr result NotFull }
+    ensures call { PagesCall P.Pages pages.old pages.new result }
+    ensures few { (P.standing pages.new).visits ≤ (P.standing pages.old).visits + 8 }
+{
+    match look(pages, page, expect, key, work)? {
+        Spot::Row(at) => {
+            let done = remove_by_lines(pages, page, expect, at, work)?;
+            if done {
+                return Ok(Outcome::Whole);
+            }
+            delete_leaf(pages, page, expect, key, work)
+        }
+        Spot::Gap(_) => Ok(Outcome::Whole),
+        Spot::Child(_, _, _, _) => Ok(Outcome::Whole),
+    }
 }
 
 /// Whether a page is a root at level 3 with no room for a further child.

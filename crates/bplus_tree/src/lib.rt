@@ -9,5 +9,5 @@ mod path;
 mod tree;
 
 pub use page_alloc::{give_page, take_page};
-pub use tree::{delete, delete_row, put, put_row};
+pub use tree::{delete, delete_row, put};
 pub use tree_search::{Root, get, next_from};

@@ -12,3 +12,12 @@ pub(crate) enum Outcome {
     /// The one child that a root had left.
     Alone(u64),
 }
+
+/// What a put made of a page of a tree.
+#[derive(Clone, Copy)]
+pub(crate) struct Change {
+    /// What stands for the page.
+    pub outcome: Outcome,
+    /// Whether the key is new.
+    pub fresh: bool,
+}

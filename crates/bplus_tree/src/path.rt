@@ -1,16 +1,16 @@
 //! Changes of a tree: down to the leaf of a key, and up again along the path.
-ghost use Rattle.std.specs.Prelude.{◌≡◌, ◌≢◌, ◌+◌, ◌*◌, ◌<◌, ◌≤◌, ℕ, List, [], length, true, IsTrue, OnOk, IfOk, IfErr};
+ghost use Rattle.std.specs.Prelude.{◌≡◌, ◌≢◌, ◌+◌, ◌*◌, ◌<◌, ◌≤◌, ℕ, List, [], length, true, not, is_some, IsTrue, OnOk, IfOk, IfErr};
 ghost use Rattle.std.specs.List.{list_all};
 ghost use Rattle.bplus_tree.specs.Causes.{TreeCause};
 ghost use Rattle.line_pages.specs.PagesCall.{PagesCall};
 ghost use Rattle.line_pages.specs.Bytes.{bytes_of};
 ghost use Rattle.line_pages.specs.Standing.{KeepsLines};
-ghost use Rattle.rows.specs.Rows.{row_put, row_delete};
+ghost use Rattle.rows.specs.Rows.{row_get, row_put, row_delete};
 ghost use Rattle.page_format.specs.Node.{IsWellFormed, entry_count};
 ghost use Rattle.rows.specs.Value.{is_printable};
 ghost use Rattle.page_format.specs.Search.{Keeps};
 ghost use Rattle.page_alloc.specs.Space.{FitsHeader};
-ghost use Rattle.tree_search.specs.Tree.{tree_rows};
+ghost use Rattle.tree_search.specs.Tree.{IsTree, tree_rows};
 ghost use Rattle.bplus_tree.specs.Damage.{FailsTree};
 ghost use Rattle.bplus_tree.specs.Full.{NotFull, NamesFull, NamesAbove, CutsFor, NeededAbove, IsWayFull, MustCut};
 ghost use Rattle.page_alloc.specs.Stops.{IsFault, StopsFor, spare_pages};
@@ -18,11 +18,15 @@ ghost use Rattle.bplus_tree.specs.Edit.{Edits, IsSafe, IsSpent, StaysBelow};
 ghost use Rattle.page_alloc.specs.Written.{WritesNothing};
 ghost use Rattle.bplus_tree.specs.Record.{PutsAgain};
 ghost use Rattle.bplus_tree.specs.LineChanges.{PutsChange};
+ghost use Rattle.bplus_tree.specs.LineCosts.{GoesByLines, put_lines, delete_lines, keeps_without};
+ghost use Rattle.leaf_lines.specs.Put.{fits_beside};
+ghost use Rattle.line_pages.specs.Cost.{Costs};
+ghost use Rattle.tree_search.specs.Where.{OnTree};
 ghost use Rattle.bplus_tree.specs.Path.{IsPlace, Leads, MayFollow, Settles, StandsAbove, StandsAt, StopsAbove, TakesFor, room_above, root_place};
 
 use crate::access::look;
-use crate::change::{add_child, delete_leaf, mend, put_at};
-use crate::outcome::Outcome;
+use crate::change::{add_child, delete_at, mend, put_at};
+use crate::outcome::{Change, Outcome};
 use arrayvec::ArrayVec;
 use line_pages::{Pages, Stop};
 use page_format::{Expect, Spot, Work};
@@ -97,6 +101,7 @@ fn descend<P: Pages>(
     ensures leads { IfOk result (Leads (P.standing pages.old).told (P.standing pages.old).current (P.standing pages.old).count key top path.new.items) }
     ensures keeps { OnOk result (KeepsLines (P.standing pages.old) (P.standing pages.new)) }
     ensures sound { IsTrue (P.standing pages.old).told → (free : List ℕ) → StandsAt (P.standing pages.old).current top.page top.expect free → IfErr result IsFault }
+    ensures cost { OnTree P.Pages pages.old top.page top.expect (OnOk result (Costs (10 * top.expect.level) (P.standing pages.old) (P.standing pages.new))) }
     ensures nothing { OnOk result (WritesNothing (P.standing pages.old) (P.standing pages.new)) }
     ensures cause { TreeCause P.Pages pages.old pages.new work.new.page result }
     ensures fails { IfErr result (Keeps (FailsTree (P.standing pages.old).count work.new.page)) }
@@ -168,7 +173,7 @@ pub fn put_in<P: Pages>(
     key: u64,
     value: &[u8],
     work: &mut Work,
-) -> Result<Outcome, Stop>
+) -> Result<Change, Stop>
     requires ready { P.is_ready pages.old }
     requires top { IsPlace (P.standing pages.old).count top }
     requires few_levels { top.expect.level ≤ 3 }
@@ -178,29 +183,35 @@ pub fn put_in<P: Pages>(
     requires printable { list_all is_printable value.now ≡ true }
     requires cut_room { 129 * top.expect.level + 129 ≤ (P.standing pages.old).room }
     requires join_room { 189 * top.expect.level + 33 ≤ (P.standing pages.old).room }
-    ensures safe { IfOk result (IsSafe (P.standing pages.old).count top.expect) }
-    ensures below { IfOk result (StaysBelow top.expect) }
-    ensures edits { IsTrue (P.standing pages.old).told → IfOk result (λ outcome. Edits (P.standing pages.old).current (P.standing pages.new).current top.page top.expect outcome (row_put key value.now)) }
-    ensures again { IfOk result (PutsAgain top key (length value.now) (P.standing pages.old) (P.standing pages.new)) }
-    ensures lines { IfOk result (PutsChange top key value.now (P.standing pages.old) (P.standing pages.new)) }
-    ensures room { IfOk result (IsSpent top.expect.level (P.standing pages.old).room (P.standing pages.new).room) }
-    ensures takes { IsTrue (P.standing pages.old).told → IfOk result (TakesFor (P.standing pages.old).count (P.standing pages.old).current (P.standing pages.new).current top.page top.expect) }
+    ensures safe { IfOk result (λ change. IsSafe (P.standing pages.old).count top.expect change.outcome) }
+    ensures below { IfOk result (λ change. StaysBelow top.expect change.outcome) }
+    ensures edits { IsTrue (P.standing pages.old).told → IfOk result (λ change. Edits (P.standing pages.old).current (P.standing pages.new).current top.page top.expect change.outcome (row_put key value.now)) }
+    ensures fresh { IsTrue (P.standing pages.old).told → IsTree top.expect.pages (P.standing pages.old).current top.expect.level top.page top.expect.low top.expect.high top.expect.root → IfOk result (λ change. change.fresh ≡ not (is_some (row_get key (tree_rows (P.standing pages.old).current top.expect.level top.page)))) }
+    ensures again { IfOk result (λ change. PutsAgain top key (length value.now) (P.standing pages.old) (P.standing pages.new) change.outcome) }
+    ensures lines { IfOk result (λ change. PutsChange top key value.now (P.standing pages.old) (P.standing pages.new) change.outcome) }
+    ensures by_lines { IfOk result (λ change. GoesByLines top key (λ root. fits_beside root key (length value.now)) (put_lines key (length value.now)) (P.standing pages.old) (P.standing pages.new) change.outcome) }
+    ensures room { IfOk result (λ change. IsSpent top.expect.level (P.standing pages.old).room (P.standing pages.new).room change.outcome) }
+    ensures takes { IsTrue (P.standing pages.old).told → IfOk result (λ change. TakesFor (P.standing pages.old).count (P.standing pages.old).current (P.standing pages.new).current top.page top.expect change.outcome) }
     ensures sound { IsTrue (P.standing pages.old).told → (free : List ℕ) → StandsAt (P.standing pages.old).current top.page top.expect free → FitsHeader (P.standing pages.old).count ((P.standing pages.old).current 0 0) → IfErr result (StopsFor (spare_pages (P.standing pages.old).count (P.standing pages.old).current free ≤ top.expect.level) (1000000 < length (tree_rows (P.standing pages.old).current top.expect.level top.page))) }
     ensures cause { TreeCause P.Pages pages.old pages.new work.new.page result }
     ensures fails { IfErr result (Keeps (FailsTree (P.standing pages.old).count work.new.page)) }
     ensures at_top { IfErr result (NamesFull top.page (top.expect.level ≡ 3)) }
-    ensures cuts { IsTrue (P.standing pages.old).told → (free : List ℕ) → StandsAt (P.standing pages.old).current top.page top.expect free → IfOk result (CutsFor (IsWayFull (P.standing pages.old).current top.expect.level top.page key value.now)) }
+    ensures cuts { IsTrue (P.standing pages.old).told → (free : List ℕ) → StandsAt (P.standing pages.old).current top.page top.expect free → IfOk result (λ change. CutsFor (IsWayFull (P.standing pages.old).current top.expect.level top.page key value.now) change.outcome) }
     ensures needed { IsTrue (P.standing pages.old).told → (free : List ℕ) → StandsAt (P.standing pages.old).current top.page top.expect free → FitsHeader (P.standing pages.old).count ((P.standing pages.old).current 0 0) → IfErr result (MustCut (P.standing pages.old).current top.expect.level top.page key value.now) }
     ensures call { PagesCall P.Pages pages.old pages.new result }
     ensures few { (P.standing pages.new).visits ≤ (P.standing pages.old).visits + 14 * top.expect.level + 10 }
 {
     let mut path = ArrayVec::new();
     let leaf = descend(pages, top, key, &mut path, work)?;
-    let mut outcome = put_at(pages, leaf.page, &leaf.expect, key, value, work)?;
+    let change = put_at(pages, leaf.page, &leaf.expect, key, value, work)?;
+    let mut outcome = change.outcome;
     while let Some(passed) = path.pop() {
         outcome = settle(pages, &passed, outcome, work)?;
     }
-    Ok(outcome)
+    Ok(Change {
+        outcome,
+        fresh: change.fresh,
+    })
 }
 
 /// A delete in the tree under a page.
@@ -218,6 +229,7 @@ pub fn delete_in<P: Pages>(
     requires room { 189 * top.expect.level + 33 ≤ (P.standing pages.old).room }
     ensures safe { IfOk result (IsSafe (P.standing pages.old).count top.expect) }
     ensures edits { IsTrue (P.standing pages.old).told → IfOk result (λ outcome. Edits (P.standing pages.old).current (P.standing pages.new).current top.page top.expect outcome (row_delete key)) }
+    ensures by_lines { IfOk result (GoesByLines top key (keeps_without key) delete_lines (P.standing pages.old) (P.standing pages.new)) }
     ensures uncut { IfOk result (λ outcome. (k r : ℕ) → outcome ≢ Outcome.Cut k r) }
     ensures room { IfOk result (IsSpent top.expect.level (P.standing pages.old).room (P.standing pages.new).room) }
     ensures sound { IsTrue (P.standing pages.old).told → (free : List ℕ) → StandsAt (P.standing pages.old).current top.page top.expect free → FitsHeader (P.standing pages.old).count ((P.standing pages.old).current 0 0) → IfErr result IsFault }
@@ -229,7 +241,7 @@ pub fn delete_in<P: Pages>(
 {
     let mut path = ArrayVec::new();
     let leaf = descend(pages, top, key, &mut path, work)?;
-    let mut outcome = delete_leaf(pages, leaf.page, &leaf.expect, key, work)?;
+    let mut outcome = delete_at(pages, leaf.page, &leaf.expect, key, work)?;
     while let Some(passed) = path.pop() {
         outcome = settle(pages, &passed, outcome, work)?;
     }

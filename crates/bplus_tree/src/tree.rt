@@ -1,5 +1,5 @@
 //! A key put into the tree of a root, and taken out of it.
-ghost use Rattle.std.specs.Prelude.{◌≡◌, ◌≢◌, ◌+◌, ◌-◌, ◌<◌, ◌≤◌, ℕ, List, length, not, is_some, true, IsTrue, OnOk, IfOk, IfErr};
+ghost use Rattle.std.specs.Prelude.{◌≡◌, ◌≢◌, ◌+◌, ◌-◌, ◌*◌, ◌<◌, ◌≤◌, ℕ, List, length, not, is_some, true, IsTrue, OnOk, IfOk, IfErr};
 ghost use Rattle.std.specs.List.{list_all};
 ghost use Rattle.rows.specs.Value.{is_printable};
 ghost use Rattle.page_format.specs.Search.{Keeps};
@@ -17,6 +17,8 @@ ghost use Rattle.page_alloc.specs.Written.{WritesNothing};
 ghost use Rattle.node_edit.specs.Record.{HoldsLength};
 ghost use Rattle.bplus_tree.specs.Record.{PutsRecord};
 ghost use Rattle.bplus_tree.specs.LineChanges.{PutsLines};
+ghost use Rattle.bplus_tree.specs.LineCosts.{PutsBeside, DeletesAlone};
+ghost use Rattle.line_pages.specs.Cost.{Costs};
 
 use crate::access::{take, write_new};
 use crate::outcome::Outcome;
@@ -27,18 +29,18 @@ use page_format::Work;
 use rows::Value;
 use tree_search::{Root, get};
 
-/// Puts a value at a key, whether or not the key is there. Its callers know that already: it is `put` without the look-up.
+/// Puts the bytes of a value at a key: true where the key is new.
 /// `Damaged` comes with the first check that a page of the tree fails; where a page is to be taken or given back, with the first
 /// of the checks 31, 33, 34 and 36 that the header or the free list fails, and with 37 where no page is left; and with 39, of the
 /// root, where it is at level 3, has 240 children and would have to be cut. On a tree beside a free list damage comes only where
 /// the leaf of the key has no room for the row, and with 39 only where each page above that leaf has 240 children.
-pub fn put_row<P: Pages>(
+fn put_row<P: Pages>(
     pages: &mut P,
     root: &mut Root,
     key: u64,
     value: &[u8],
     work: &mut Work,
-) -> Result<(), Stop>
+) -> Result<bool, Stop>
     requires ready { P.is_ready pages.old }
     requires some { 1 ≤ root.old.page }
     requires page { root.old.page < (P.standing pages.old).count }
@@ -48,8 +50,10 @@ pub fn put_row<P: Pages>(
     requires printable { list_all is_printable value.now ≡ true }
     requires room { 600 ≤ (P.standing pages.old).room }
     ensures rows { IsTrue (P.standing pages.old).told → OnOk result (ChangesRows (P.standing pages.old).count (P.standing pages.old).current (P.standing pages.new).current root.old root.new (row_put key value.now)) }
+    ensures fresh { IsTrue (P.standing pages.old).told → (rows : List Row) (used : List ℕ) → IsRooted (P.standing pages.old).count (P.standing pages.old).current root.old rows used → IfOk result (λ fresh. fresh ≡ not (is_some (row_get key rows))) }
     ensures again { IsTrue (P.standing pages.old).told → OnOk result (PutsRecord root.old key (length value.now) (P.standing pages.old) (P.standing pages.new)) }
     ensures lines { IsTrue (P.standing pages.old).told → OnOk result (PutsLines root.old key value.now (P.standing pages.old) (P.standing pages.new)) }
+    ensures by_lines { IsTrue (P.standing pages.old).told → OnOk result (PutsBeside root.old key (length value.now) (10 * root.old.levels + 18) (P.standing pages.old) (P.standing pages.new)) }
     ensures same_root { IsTrue (P.standing pages.old).told → OnOk result ((rows : List Row) (used : List ℕ) → IsRooted (P.standing pages.old).count (P.standing pages.old).current root.old rows used → HoldsLength key (length value.now) rows → root.new ≡ root.old) }
     ensures room { OnOk result ((P.standing pages.old).room ≤ (P.standing pages.new).room + 600) }
     ensures some { OnOk result (1 ≤ root.new.page) }
@@ -67,9 +71,10 @@ pub fn put_row<P: Pages>(
 {
     let count = pages.page_count();
     let top = top_of(root, count);
-    match put_in(pages, top, key, value, work)? {
-        Outcome::Whole => Ok(()),
-        Outcome::Short => Ok(()),
+    let change = put_in(pages, top, key, value, work)?;
+    match change.outcome {
+        Outcome::Whole => Ok(change.fresh),
+        Outcome::Short => Ok(change.fresh),
         Outcome::Cut(separator, right) => {
             let page = take(pages, work)?;
             root_of(
@@ -83,12 +88,12 @@ pub fn put_row<P: Pages>(
             write_new(pages, page, &work.page, &mut work.spare)?;
             root.page = page;
             root.levels += 1;
-            Ok(())
+            Ok(change.fresh)
         }
         Outcome::Alone(child) => {
             root.page = child;
             root.levels -= 1;
-            Ok(())
+            Ok(change.fresh)
         }
     }
 }
@@ -109,6 +114,7 @@ pub fn delete_row<P: Pages>(
     requires few_levels { root.old.levels ≤ 4 }
     requires room { 600 ≤ (P.standing pages.old).room }
     ensures rows { IsTrue (P.standing pages.old).told → OnOk result (ChangesRows (P.standing pages.old).count (P.standing pages.old).current (P.standing pages.new).current root.old root.new (row_delete key)) }
+    ensures by_lines { IsTrue (P.standing pages.old).told → OnOk result (DeletesAlone root.old key (10 * root.old.levels + 18) (P.standing pages.old) (P.standing pages.new)) }
     ensures room { OnOk result ((P.standing pages.old).room ≤ (P.standing pages.new).room + 600) }
     ensures some { OnOk result (1 ≤ root.new.page) }
     ensures page { OnOk result (root.new.page < (P.standing pages.old).count) }
@@ -145,6 +151,7 @@ fn has_key<P: Pages>(pages: &mut P, root: &Root, key: u64, work: &mut Work) -> R
     ensures found { OnRooted P.Pages pages.old root.now (λ rows used. IfOk result (λ found. found ≡ is_some (row_get key rows))) }
     ensures sound { OnRooted P.Pages pages.old root.now (λ rows used. IfErr result IsFault) }
     ensures nothing { OnOk result (WritesNothing (P.standing pages.old) (P.standing pages.new)) }
+    ensures cost { OnRooted P.Pages pages.old root.now (λ rows used. OnOk result (Costs (10 * root.now.levels + 29) (P.standing pages.old) (P.standing pages.new))) }
     ensures cause { TreeCause P.Pages pages.old pages.new work.new.page result }
     ensures fails { IfErr result (Keeps (FailsTree (P.standing pages.old).count work.new.page)) }
     ensures not_full { IfErr result NotFull }
@@ -173,6 +180,7 @@ fn seek<P: Pages>(
     ensures value { OnRooted P.Pages pages.old root.now (λ rows used. IfOk result (λ value. value ≡ row_get key rows)) }
     ensures sound { OnRooted P.Pages pages.old root.now (λ rows used. IfErr result IsFault) }
     ensures nothing { OnOk result (WritesNothing (P.standing pages.old) (P.standing pages.new)) }
+    ensures cost { OnRooted P.Pages pages.old root.now (λ rows used. OnOk result (Costs (10 * root.now.levels + 29) (P.standing pages.old) (P.standing pages.new))) }
     ensures cause { TreeCause P.Pages pages.old pages.new work.new.page result }
     ensures fails { IfErr result (Keeps (FailsTree (P.standing pages.old).count work.new.page)) }
     ensures not_full { IfErr result NotFull }
@@ -204,10 +212,13 @@ pub fn put<P: Pages>(
     ensures rows { IsTrue (P.standing pages.old).told → OnOk result (ChangesRows (P.standing pages.old).count (P.standing pages.old).current (P.standing pages.new).current root.old root.new (row_put key value.now)) }
     ensures room { OnOk result ((P.standing pages.old).room ≤ (P.standing pages.new).room + 600) }
     ensures fresh { IsTrue (P.standing pages.old).told → (rows : List Row) (used : List ℕ) → IsRooted (P.standing pages.old).count (P.standing pages.old).current root.old rows used → IfOk result (λ fresh. fresh ≡ not (is_some (row_get key rows))) }
-    // where the key has a value of this length, lines of its record are written alone
+    // where the key has a value of this length, lines of its record are written alone, and the root is the same
     ensures again { IsTrue (P.standing pages.old).told → OnOk result (PutsRecord root.old key (length value.now) (P.standing pages.old) (P.standing pages.new)) }
+    ensures same_root { IsTrue (P.standing pages.old).told → OnOk result ((rows : List Row) (used : List ℕ) → IsRooted (P.standing pages.old).count (P.standing pages.old).current root.old rows used → HoldsLength key (length value.now) rows → root.new ≡ root.old) }
     // where the rows of its leaf fit it with the value put, the lines of the leaf that change are written alone
     ensures lines { IsTrue (P.standing pages.old).told → OnOk result (PutsLines root.old key value.now (P.standing pages.old) (P.standing pages.new)) }
+    // where it has its place beside the other records of its leaf, so many lines are touched
+    ensures by_lines { IsTrue (P.standing pages.old).told → OnOk result (PutsBeside root.old key (length value.now) (10 * root.old.levels + 18) (P.standing pages.old) (P.standing pages.new)) }
     // why it stops
     ensures sound { IsTrue (P.standing pages.old).told → (rows : List Row) (used free : List ℕ) → StandsIn (P.standing pages.old).count (P.standing pages.old).current root.old rows used free → IfErr result (IsLack (pages_at_hand (P.standing pages.old).count (P.standing pages.old).current used free) (length (row_put key value.now rows)) (length rows)) }
     ensures cause { TreeCause P.Pages pages.old pages.new work.new.page result }
@@ -220,11 +231,9 @@ pub fn put<P: Pages>(
     ensures some_levels { 1 ≤ root.new.levels }
     ensures few_levels { root.new.levels ≤ 4 }
     ensures call { PagesCall P.Pages pages.old pages.new result }
-    ensures few { (P.standing pages.new).visits ≤ (P.standing pages.old).visits + 62 }
+    ensures few { (P.standing pages.new).visits ≤ (P.standing pages.old).visits + 58 }
 {
-    let found = has_key(pages, root, key, work)?;
-    put_row(pages, root, key, value.bytes(), work)?;
-    Ok(!found)
+    put_row(pages, root, key, value.bytes(), work)
 }
 
 /// Takes a key out: true where there was a row of it. On a tree beside a free list it answers no damage.
@@ -244,6 +253,9 @@ pub fn delete<P: Pages>(
     ensures rows { IsTrue (P.standing pages.old).told → OnOk result (ChangesRows (P.standing pages.old).count (P.standing pages.old).current (P.standing pages.new).current root.old root.new (row_delete key)) }
     ensures room { OnOk result ((P.standing pages.old).room ≤ (P.standing pages.new).room + 600) }
     ensures found { IsTrue (P.standing pages.old).told → (rows : List Row) (used : List ℕ) → IsRooted (P.standing pages.old).count (P.standing pages.old).current root.old rows used → IfOk result (λ found. found ≡ is_some (row_get key rows)) }
+    // where the leaf of the key has as many bytes as it has to afterwards, so many lines are touched, and those alone are written
+    // that differ in that leaf
+    ensures by_lines { IsTrue (P.standing pages.old).told → OnOk result (DeletesAlone root.old key (20 * root.old.levels + 47) (P.standing pages.old) (P.standing pages.new)) }
     // why it stops
     ensures sound { IsTrue (P.standing pages.old).told → (rows : List Row) (used free : List ℕ) → StandsIn (P.standing pages.old).count (P.standing pages.old).current root.old rows used free → IfErr result IsFault }
     ensures cause { TreeCause P.Pages pages.old pages.new work.new.page result }

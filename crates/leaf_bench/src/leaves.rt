@@ -3,9 +3,9 @@ ghost use Rattle.std.specs.Prelude.{◌≤◌, ◌<◌, ◌*◌, ◌≡◌, ℕ,
 ghost use Rattle.page_format.specs.Search.{IsSpot, IsSafeSpot};
 ghost use Rattle.leaf_lines.specs.Put.{IsFound};
 
-use leaf_lines::put_by_lines;
+use leaf_lines::{put_by_lines, remove_by_lines};
 use line_pages::{Pages, Stop, VecPages, copy_page};
-use node_edit::leaf_put;
+use node_edit::{leaf_delete, leaf_put};
 use nvm_model::{Line, NoMemory};
 use page_alloc::write_changes;
 use page_format::{Expect, Spot, Work};
@@ -22,7 +22,7 @@ pub enum Ended {
     Print(io::Error),
     /// An argument is no number, or too great.
     NoNumber,
-    /// No value, or no put is left.
+    /// No value, or no change is left.
     Spent,
 }
 
@@ -49,24 +49,15 @@ fn scattered(i: u64) -> u64 {
     i.wrapping_mul(0x9E37_79B9_7F4A_7C15)
 }
 
-/// Where a search found a key.
-#[derive(Clone, Copy)]
-pub struct Seen {
-    /// Whether a row has it.
-    pub found: bool,
-    /// The row, or where it would stand.
-    pub at: usize,
-}
-
-/// What a search in a leaf answered.
-fn seen_of(spot: Spot, expect: &Expect) -> Seen
+/// The row that a search in a leaf found, or else where it would stand.
+fn found_place(spot: Spot, expect: &Expect) -> Result<usize, usize>
     requires { expect.now.level ≡ 0 }
-    ensures { (bytes : List ℕ) (key : ℕ) → IsSafeSpot expect.now key spot → IsSpot bytes expect.now key spot → IsFound bytes expect.now key result.found result.at }
+    ensures { (bytes : List ℕ) (key : ℕ) → IsSafeSpot expect.now key spot → IsSpot bytes expect.now key spot → IsFound bytes expect.now key result }
 {
     match spot {
-        Spot::Row(at) => Seen { found: true, at },
-        Spot::Gap(at) => Seen { found: false, at },
-        Spot::Child(at, _, _, _) => Seen { found: false, at },
+        Spot::Row(at) => Ok(at),
+        Spot::Gap(at) => Err(at),
+        Spot::Child(at, _, _, _) => Err(at),
     }
 }
 
@@ -93,7 +84,7 @@ fn expect_of(pages: u64) -> Expect
     }
 }
 
-/// Leaves, and how many puts may still be made.
+/// Leaves, and how many changes may still be made.
 #[derive(Drop)]
 pub struct Leaves {
     pages: VecPages,
@@ -106,7 +97,7 @@ pub struct Leaves {
 }
 
 impl Leaves {
-    /// So many pages, and puts for 40 rows of each.
+    /// So many pages, and changes for 40 rows of each and their deletes.
     pub fn new(alloc: Global, count: u64) -> Result<Leaves, Ended> {
         if count == 0 || count > 100_000 {
             return Err(Ended::NoNumber);
@@ -120,14 +111,14 @@ impl Leaves {
         let Some(short) = Value::from_bytes(&[b's'; 41]) else {
             return Err(Ended::Spent);
         };
-        let pages = VecPages::new(alloc, count, 64 * 50 * count)?;
+        let pages = VecPages::new(alloc, count, 64 * 100 * count)?;
         Ok(Leaves {
             pages,
             work: Work::new(),
             value,
             other,
             short,
-            left: 50 * count,
+            left: 100 * count,
         })
     }
 
@@ -183,18 +174,88 @@ impl Leaves {
         let expect = expect_of(count);
         let value = chosen(which, &self.value, &self.other, &self.short);
         let spot = find(&mut self.pages, page, &expect, key, &mut self.work)?;
-        let seen = seen_of(spot, &expect);
+        let place = found_place(spot, &expect);
         let done = put_by_lines(
             &mut self.pages,
             page,
             &expect,
-            seen.found,
-            seen.at,
+            place,
             key,
             value.bytes(),
             &mut self.work,
         )?;
         self.left = left - 1;
+        Ok(done)
+    }
+
+    /// Takes a key out of a leaf that is read whole.
+    #[tactic(auto, using(page_alloc::proofs::WrittenLaws::changed_most))]
+    fn delete_whole(&mut self, page: u64, key: u64) -> Result<bool, Ended> {
+        let left = self.left;
+        let count = self.pages.page_count();
+        if left == 0 || page >= count {
+            return Err(Ended::Spent);
+        }
+        self.left = 0;
+        let expect = expect_of(count);
+        find(&mut self.pages, page, &expect, key, &mut self.work)?;
+        read_page(&mut self.pages, page, &expect, &mut self.work)?;
+        self.work.spare.copy_from(&self.work.page);
+        leaf_delete(&mut self.work.page, &expect, key);
+        write_changes(&mut self.pages, page, &self.work.spare, &self.work.page)?;
+        self.left = left - 1;
+        Ok(true)
+    }
+
+    /// Takes a key out of a leaf by the lines that it needs.
+    fn delete_lines(&mut self, page: u64, key: u64) -> Result<bool, Ended> {
+        let left = self.left;
+        let count = self.pages.page_count();
+        if left == 0 || page >= count {
+            return Err(Ended::Spent);
+        }
+        self.left = 0;
+        let expect = expect_of(count);
+        let done = match find(&mut self.pages, page, &expect, key, &mut self.work)? {
+            Spot::Row(at) => remove_by_lines(&mut self.pages, page, &expect, at, &mut self.work)?,
+            _ => true,
+        };
+        self.left = left - 1;
+        Ok(done)
+    }
+
+    /// Takes the first so many rows out of each leaf, and gives how many deletes were made.
+    pub fn delete_all(&mut self, by_lines: bool, count: u64, rows: u64) -> Result<u64, Ended> {
+        let mut done: u64 = 0;
+        for i in 0..rows {
+            for page in 0..count {
+                let key = scattered(i.wrapping_mul(count).wrapping_add(page));
+                let deleted = if by_lines {
+                    self.delete_lines(page, key)?
+                } else {
+                    self.delete_whole(page, key)?
+                };
+                if deleted {
+                    done = done.saturating_add(1);
+                }
+            }
+        }
+        Ok(done)
+    }
+
+    /// Takes keys that came again out of each leaf, and gives how many deletes went by lines.
+    pub fn delete_mixed(&mut self, by_lines: bool, count: u64, rows: u64) -> Result<u64, Ended> {
+        let mut done: u64 = 0;
+        for i in 0..rows {
+            for page in 0..count {
+                let key = scattered(i.wrapping_mul(2) % 9);
+                if by_lines && self.delete_lines(page, key)? {
+                    done = done.saturating_add(1);
+                } else {
+                    self.delete_whole(page, key)?;
+                }
+            }
+        }
         Ok(done)
     }
 

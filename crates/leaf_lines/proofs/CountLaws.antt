@@ -12,7 +12,8 @@ use Rattle.page_alloc.specs.Written.{line_part, changed_in, lines_changed, Diffe
 use Rattle.page_alloc.proofs.WrittenLaws.{changed_step, changed_none, changed_all, changed_same, changed_parts}
 use Rattle.page_alloc.proofs.TouchedLaws.{only_weaker}
 use Rattle.leaf_lines.specs.declared.spread.Spread.{Spread}
-use Rattle.leaf_lines.specs.Spread.{InOrder, Covers, AlikeBeyond, StandsFor, Lays}
+use Rattle.leaf_lines.specs.Spread.{InOrder, Covers, AlikeBeyond, StandsFor}
+use Rattle.page_edit.specs.Laid.{Lays}
 
 part_same : (l : ℕ) (from end : ℕ) (one other : List ℕ) → Same from end one other → from ≤ 64 * l → 64 * l + 64 ≤ end → end ≤ 4096 → length one ≡ 4096 → length other ≡ 4096 → line_part other l ≡ line_part one l
 part_same l from end one other same low high within size size_other = range-same from end (64 * l) (64 * l + 64) one other same low high (omega (arith, size)) (size_other ∙ sym size)

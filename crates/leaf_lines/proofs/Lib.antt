@@ -5,4 +5,5 @@ pub mod PutLaws
 pub mod CountLaws
 pub mod SetLaws
 pub mod SwapLaws
-pub mod CostLaws
+pub mod FitLaws
+pub mod RemovalLaws

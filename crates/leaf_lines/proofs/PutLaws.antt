@@ -32,8 +32,8 @@ use Rattle.node_edit.specs.Record.{HoldsLength}
 use Rattle.node_edit.proofs.SameLength.{held_place}
 use Rattle.leaf_lines.specs.declared.spread.Spread.{Spread}
 use Rattle.leaf_lines.specs.Spread.{InOrder, Covers, AlikeIn, StandsFor}
-use Rattle.leaf_lines.specs.Spread.{Lays}
-use Rattle.leaf_lines.specs.Spread.{OtherPages}
+use Rattle.page_edit.specs.Laid.{Lays}
+use Rattle.page_alloc.specs.Written.{OtherPages}
 use Rattle.page_edit.specs.Packed.{PutsBelow}
 use Rattle.leaf_lines.specs.Put.{PutByLines, PlacesRecord}
 use Rattle.leaf_lines.proofs.SpreadLaws.{lays_puts}

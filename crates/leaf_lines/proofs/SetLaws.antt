@@ -33,7 +33,7 @@ use Rattle.node_edit.proofs.LeafLaws.{leaf_within, put_order, set_bytes, enter_f
 use Rattle.node_edit.proofs.SameLength.{set_record}
 use Rattle.leaf_lines.specs.declared.spread.Spread.{Spread}
 use Rattle.leaf_lines.specs.Spread.{InOrder, Covers, AlikeIn, AlikeBeyond, StandsFor}
-use Rattle.leaf_lines.specs.Spread.{OtherPages}
+use Rattle.page_alloc.specs.Written.{OtherPages}
 use Rattle.leaf_lines.specs.Put.{PutByLines, PlacesRecord}
 use Rattle.leaf_lines.proofs.SpreadLaws.{through}
 use Rattle.leaf_lines.proofs.CountLaws.{only_alike, count_alike}

@@ -1,17 +1,15 @@
 -- What was done to the lines that were read was done to the page.
 use Rattle.std.proofs.Common.{◌≡◌, ◌≢◌, ℕ, ◌+◌, ◌*◌, ◌<◌, ◌≤◌, inl, inr, List, length, get_or, ap, sym, ◌∙◌, arith}
 use Rattle.std.proofs.lemmas.Bool.{cases_lt}
-use Rattle.ssd_model.specs.Page.{Same, Moved}
+use Rattle.ssd_model.specs.Page.{Same}
 use Rattle.line_pages.proofs.NumberLaws.{u64_at-same}
 use Rattle.rows.specs.Rows.{Row}
 use Rattle.page_format.specs.Node.{row_in, page_kind, page_level, entry_count, heap_start}
 use Rattle.page_format.specs.Sound.{slot_of}
-use Rattle.page_edit.proofs.InsertLemmas.{Puts, slot_of-same, slot_of-moved, row_in-same}
+use Rattle.page_edit.specs.Laid.{Lays}
+use Rattle.page_edit.proofs.InsertLemmas.{Puts, laid_puts, slot_of-same, row_in-same}
 use Rattle.leaf_lines.specs.declared.spread.Spread.{Spread}
-use Rattle.leaf_lines.specs.Spread.{InOrder, Covers, AlikeIn, StandsFor, Lays}
-
-pub same_moved : (from end to x y : ℕ) (old mid new : List ℕ) → Same x y old mid → x ≤ from → end ≤ y → Moved from end to mid new → Moved from end to old new
-same_moved from end to x y old mid new same low high moved = record { each = λ j h. moved.each j h ∙ same.each (from + j) (omega arith) (omega arith) }
+use Rattle.leaf_lines.specs.Spread.{InOrder, Covers, AlikeIn, StandsFor}
 
 -- bytes that the buffers have alike are alike in the page before and after
 pub through : (s : Spread) (from end : ℕ) (read changed old new : List ℕ) → StandsFor s read changed old new → end ≤ 4096 → Same from end read changed → Same from end old new
@@ -49,27 +47,31 @@ record_in at count place size s one other order covers within room alike = recor
       ];
 }
 
+-- a row laid into the buffers by these lines was laid into the page
+pub laid_through : (at count total place size : ℕ) (row : Row) (s : Spread) (read changed old new : List ℕ) → InOrder s → Covers at count place size s → StandsFor s read changed old new → Lays at count total place size row read changed
+    → at ≤ count → 68 + 4 * count ≤ place → place + size ≤ 4096 → 8 ≤ size → length new ≡ 4096 → length changed ≡ 4096 → Lays at count total place size row old new
+laid_through at count total place size row s read changed old new order covers stands lays within room top least size_new size_changed = record {
+  count_is = sym (u64_at-same 0 64 8 new changed stands.put.header (omega arith) (omega arith)) ∙ lays.count_is;
+  heap_is = sym (u64_at-same 0 64 24 new changed stands.put.header (omega arith) (omega arith)) ∙ lays.heap_is;
+  kind = through s 0 8 read changed old new stands (omega arith) lays.kind;
+  level = through s 16 24 read changed old new stands (omega arith) lays.level;
+  before = through s 32 (64 + 4 * at) read changed old new stands (omega arith) lays.before;
+  slot = sym (slot_of-same (64 * s.slots) (64 * s.slots_end) at new changed stands.put.slots covers.slots (omega (arith, covers.slots_end))) ∙ lays.slot;
+  moved = record {
+    each = λ j h. sym (stands.put.slots.each (68 + 4 * at + j) (omega (arith, covers.slots)) (omega (arith, covers.slots_end))) ∙ lays.moved.each j h
+        ∙ stands.known.slots.each (64 + 4 * at + j) (omega (arith, covers.slots)) (omega (arith, covers.slots_end));
+  };
+  middle = through s (68 + 4 * count) place read changed old new stands (omega arith) lays.middle;
+  record_is = sym (row_in-same place (place + size) new changed (record { place = place; size = size }) (record_in at count place size s new changed order covers within room stands.put) (omega arith) (omega arith) (omega arith) (omega (arith, size_new)) (omega (arith, size_new, size_changed))) ∙ lays.record_is;
+  after = through s (place + size) 4096 read changed old new stands (omega arith) lays.after;
+}
+
 -- a row put into the buffers by these lines was put into the page
 pub lays_puts : (at count place size : ℕ) (row : Row) (s : Spread) (read changed old new : List ℕ) → InOrder s → Covers at count place size s → StandsFor s read changed old new → Lays at count (count + 1) place size row read changed
     → at ≤ count → 68 + 4 * count ≤ place → place + size ≤ 4096 → 8 ≤ size → count ≡ entry_count old → length old ≡ 4096 → length new ≡ 4096 → length changed ≡ 4096 → Puts at place size row old new
 lays_puts at count place size row s read changed old new order covers stands lays within room top least count_is size_old size_new size_changed =
-    let moved : Moved (64 + 4 * at) (64 + 4 * count) (68 + 4 * at) old new = record {
-      each = λ j h. sym (stands.put.slots.each (68 + 4 * at + j) (omega (arith, covers.slots)) (omega (arith, covers.slots_end))) ∙ lays.moved.each j h
-          ∙ stands.known.slots.each (64 + 4 * at + j) (omega (arith, covers.slots)) (omega (arith, covers.slots_end));
-    } in
-    record {
-      kind = u64_at-same 0 8 0 old new (through s 0 8 read changed old new stands (omega arith) lays.kind) (omega arith) (omega arith);
-      level = u64_at-same 16 24 16 old new (through s 16 24 read changed old new stands (omega arith) lays.level) (omega arith) (omega arith);
-      count = sym (u64_at-same 0 64 8 new changed stands.put.header (omega arith) (omega arith)) ∙ lays.count_is ∙ ap (λ (n : ℕ). n + 1) count_is;
-      heap = sym (u64_at-same 0 64 24 new changed stands.put.header (omega arith) (omega arith)) ∙ lays.heap_is;
-      before = λ k low. slot_of-same 32 (64 + 4 * at) k old new (through s 32 (64 + 4 * at) read changed old new stands (omega arith) lays.before) (omega arith) (omega arith);
-      here = sym (slot_of-same (64 * s.slots) (64 * s.slots_end) at new changed stands.put.slots covers.slots (omega (arith, covers.slots_end))) ∙ lays.slot;
-      after = λ k low high. slot_of-moved (64 + 4 * at) (64 + 4 * count) (68 + 4 * at) (k + 1) k old new moved (omega arith) (omega arith) (omega (arith, count_is));
-      record_is = sym (row_in-same place (place + size) new changed (record { place = place; size = size }) (record_in at count place size s new changed order covers within room stands.put) (omega arith) (omega arith) (omega arith) (omega (arith, size_new)) (omega (arith, size_new, size_changed))) ∙ lays.record_is;
-      rest = through s (place + size) 4096 read changed old new stands (omega arith) lays.after;
-      size_old = size_old;
-      size_new = size_new;
-    }
+    laid_puts at count place size row old new (laid_through at count (count + 1) place size row s read changed old new order covers stands lays within room top least size_new size_changed)
+    within room count_is size_old size_new
 
 -- what a buffer knows of a page after other lines were written
 pub known_later : (from end low : ℕ) (old now buffer : List ℕ) → Same from end old buffer → Same low 4096 old now → low ≤ from → end ≤ 4096 → Same from end now buffer
@@ -116,18 +118,20 @@ pub record Swapped (at place size : ℕ) (row : Row) (old new : List ℕ) : Type
 
 pub lays_swaps : (at total place size : ℕ) (row : Row) (s : Spread) (read changed old new : List ℕ) → InOrder s → Covers at at place size s → StandsFor s read changed old new → Lays at at total place size row read changed
     → at < total → 64 + 4 * total ≤ place → place + size ≤ 4096 → 8 ≤ size → total ≡ entry_count old → length old ≡ 4096 → length new ≡ 4096 → length changed ≡ 4096 → Swapped at place size row old new
-lays_swaps at total place size row s read changed old new order covers stands lays within room top least count_is size_old size_new size_changed = record {
-  kind = u64_at-same 0 8 0 old new (through s 0 8 read changed old new stands (omega arith) lays.kind) (omega arith) (omega arith);
-  level = u64_at-same 16 24 16 old new (through s 16 24 read changed old new stands (omega arith) lays.level) (omega arith) (omega arith);
-  count = sym (u64_at-same 0 64 8 new changed stands.put.header (omega arith) (omega arith)) ∙ lays.count_is ∙ count_is;
-  heap = sym (u64_at-same 0 64 24 new changed stands.put.header (omega arith) (omega arith)) ∙ lays.heap_is;
-  each = λ k ne low. elim (cases_lt k at) [
-    | inl below ↦ slot_of-same 32 (64 + 4 * at) k old new (through s 32 (64 + 4 * at) read changed old new stands (omega arith) lays.before) (omega arith) (omega arith)
-    | inr above ↦ slot_of-same (68 + 4 * at) place k old new (through s (68 + 4 * at) place read changed old new stands (omega arith) lays.middle) (omega (arith, ne, above)) (omega (arith, low, count_is))
-  ];
-  here = sym (slot_of-same (64 * s.slots) (64 * s.slots_end) at new changed stands.put.slots covers.slots (omega (arith, covers.slots_end))) ∙ lays.slot;
-  record_is = sym (row_in-same place (place + size) new changed (record { place = place; size = size }) (record_in at at place size s new changed order covers (omega arith) (omega arith) stands.put) (omega arith) (omega arith) (omega arith) (omega (arith, size_new)) (omega (arith, size_new, size_changed))) ∙ lays.record_is;
-  rest = through s (place + size) 4096 read changed old new stands (omega arith) lays.after;
-  size_old = size_old;
-  size_new = size_new;
-}
+lays_swaps at total place size row s read changed old new order covers stands lays within room top least count_is size_old size_new size_changed =
+    let laid = laid_through at at total place size row s read changed old new order covers stands lays (omega arith) (omega arith) top least size_new size_changed in
+    record {
+      kind = u64_at-same 0 8 0 old new laid.kind (omega arith) (omega arith);
+      level = u64_at-same 16 24 16 old new laid.level (omega arith) (omega arith);
+      count = laid.count_is ∙ count_is;
+      heap = laid.heap_is;
+      each = λ k ne low. elim (cases_lt k at) [
+        | inl below ↦ slot_of-same 32 (64 + 4 * at) k old new laid.before (omega arith) (omega arith)
+        | inr above ↦ slot_of-same (68 + 4 * at) place k old new laid.middle (omega (arith, ne, above)) (omega (arith, low, count_is))
+      ];
+      here = laid.slot;
+      record_is = laid.record_is;
+      rest = laid.after;
+      size_old = size_old;
+      size_new = size_new;
+    }

@@ -34,8 +34,8 @@ use Rattle.node_edit.proofs.LeafLaws.{leaf_within, wide_order, put_order, enter_
 use Rattle.node_edit.proofs.SameLength.{held_place}
 use Rattle.leaf_lines.specs.declared.spread.Spread.{Spread}
 use Rattle.leaf_lines.specs.Spread.{InOrder, Covers, AlikeIn, StandsFor}
-use Rattle.leaf_lines.specs.Spread.{Lays}
-use Rattle.leaf_lines.specs.Spread.{OtherPages}
+use Rattle.page_edit.specs.Laid.{Lays}
+use Rattle.page_alloc.specs.Written.{OtherPages}
 use Rattle.leaf_lines.specs.Put.{PutByLines, PlacesRecord, SwapsBelow}
 use Rattle.leaf_lines.proofs.SpreadLaws.{Swapped, lays_swaps}
 use Rattle.leaf_lines.proofs.CountLaws.{lays_beyond, only_alike, count_alike}

@@ -1,11 +1,6 @@
 -- A page of which some lines alone are read and written: line 0, those of some slots, and those of a record.
-use Rattle.std.specs.Prelude.{◌≡◌, ◌≢◌, ◌⊎◌, ℕ, ◌+◌, ◌*◌, ◌≤◌, List}
-use Rattle.ssd_model.specs.Page.{Same, Moved}
-use Rattle.line_pages.specs.Lines.{Lines}
-use Rattle.line_pages.specs.Bytes.{u64_at}
-use Rattle.rows.specs.Rows.{Row}
-use Rattle.page_format.specs.Node.{row_in}
-use Rattle.page_format.specs.Sound.{slot_of}
+use Rattle.std.specs.Prelude.{◌≡◌, ◌⊎◌, ℕ, ◌+◌, ◌*◌, ◌≤◌, List}
+use Rattle.ssd_model.specs.Page.{Same}
 use Rattle.leaf_lines.specs.declared.spread.Spread.{Spread}
 
 -- the lines lie one run behind the other
@@ -41,21 +36,3 @@ pub record StandsFor (s : Spread) (read changed old new : List ℕ) : Type 0 whe
   pub known : AlikeIn s old read
   pub put : AlikeIn s new changed
   pub kept : AlikeBeyond s old new
-
--- all pages but one are as they were
-abbrev pub OtherPages : ℕ → Lines → Lines → Type 0
-OtherPages page old new = (n : ℕ) → n ≢ page → new n ≡ old n
-
--- What the bytes are after a slot and its record were put among so many, whatever the others hold, and the header says a number of
--- rows.
-pub record Lays (at count total place size : ℕ) (row : Row) (old new : List ℕ) : Type 0 where
-  pub count_is : u64_at new 8 ≡ total
-  pub heap_is : u64_at new 24 ≡ place
-  pub kind : Same 0 8 old new
-  pub level : Same 16 24 old new
-  pub before : Same 32 (64 + 4 * at) old new
-  pub slot : slot_of new at ≡ record { place = place; size = size }
-  pub moved : Moved (64 + 4 * at) (64 + 4 * count) (68 + 4 * at) old new
-  pub middle : Same (68 + 4 * count) place old new
-  pub record_is : row_in new (record { place = place; size = size }) ≡ row
-  pub after : Same (place + size) 4096 old new

@@ -1,17 +1,16 @@
-//! Some lines of a page read into a buffer, and written from one.
-ghost use Rattle.std.specs.Prelude.{◌≡◌, ◌+◌, ◌-◌, ◌*◌, ◌<◌, ◌≤◌, length, true, false, Some, if◌then◌else◌, IsTrue, OnOk};
-ghost use Rattle.std.specs.Str.{bytes_eq};
+//! The lines of a change read into a buffer, and written where they differ.
+ghost use Rattle.std.specs.Prelude.{◌≡◌, ◌+◌, ◌-◌, ◌*◌, ◌<◌, ◌≤◌, length, false, Some, IsTrue, OnOk};
 ghost use Rattle.ssd_model.specs.Page.{Same};
 ghost use Rattle.line_pages.specs.PagesCall.{PagesCall};
 ghost use Rattle.line_pages.specs.Bytes.{bytes_of};
-ghost use Rattle.nvm_model.specs.LineBytes.{line_bytes};
-ghost use Rattle.line_pages.specs.Touch.{begins};
 ghost use Rattle.line_pages.specs.Cost.{Costs};
 ghost use Rattle.line_pages.specs.Standing.{HasCause, Never, ReadsPage};
-ghost use Rattle.page_alloc.specs.Written.{SameElsewhere, Visited, Differs, WritesOnly, line_part, changed_in};
-ghost use Rattle.leaf_lines.specs.Spread.{OtherPages};
+ghost use Rattle.page_alloc.specs.Written.{OtherPages, Differs, WritesOnly, lines_changed};
+ghost use Rattle.leaf_lines.specs.Spread.{InOrder, AlikeIn, AlikeBeyond, StandsFor};
 
-use line_pages::{Pages, Stop, page_line, set_page_line};
+use crate::spread::Spread;
+use line_pages::{Pages, Stop, set_page_line};
+use page_alloc::write_lines;
 use ssd_model::PageBuf;
 
 /// Reads some lines of a page, whose access is open, into their places in a buffer.
@@ -44,78 +43,74 @@ pub fn read_lines<P: Pages>(
     Ok(())
 }
 
-/// Whether a line is the same in two pages.
-fn same_line(old: &PageBuf, new: &PageBuf, line: usize) -> bool
-    requires { line < 64 }
-    ensures { result ≡ bytes_eq (line_part old.now line) (line_part new.now line) }
-{
-    let at = 64 * line;
-    old.part(at, at + 64) == new.part(at, at + 64)
-}
-
-/// Writes a line of a page where its new bytes differ from its old ones.
-#[tactic(auto, using(page_alloc::proofs::TouchedLaws::only_write, page_alloc::proofs::TouchedLaws::only_refl, crate::proofs::CostLaws::costs_write, crate::proofs::CostLaws::costs_none))]
-fn write_changed<P: Pages>(
-    pages: &mut P,
-    page: u64,
-    line: usize,
-    old: &PageBuf,
-    new: &PageBuf,
-) -> Result<(), Stop>
+/// Reads line 0 of a page into its place in a buffer.
+pub fn read_header<P: Pages>(pages: &mut P, page: u64, into: &mut PageBuf) -> Result<(), Stop>
     requires ready { P.is_ready pages.old }
     requires page { page < (P.standing pages.old).count }
-    requires line { line < 64 }
-    requires room { 1 ≤ (P.standing pages.old).room + (if bytes_eq (line_part old.now line) (line_part new.now line) then 1 else 0) }
-    ensures done { IsTrue (P.standing pages.old).told → line_bytes ((P.standing pages.old).current page line) ≡ line_part old.now line → OnOk result (line_bytes ((P.standing pages.new).current page line) ≡ line_part new.now line) }
-    ensures others { IsTrue (P.standing pages.old).told → OnOk result (SameElsewhere page line (P.standing pages.old).current (P.standing pages.new).current) }
-    ensures room { OnOk result ((P.standing pages.new).room + (if bytes_eq (line_part old.now line) (line_part new.now line) then 0 else 1) ≡ (P.standing pages.old).room) }
-    ensures touches { OnOk result (WritesOnly page (Differs old.now new.now) (P.standing pages.old) (P.standing pages.new)) }
+    ensures known { IsTrue (P.standing pages.old).told → OnOk result (Same 0 64 (bytes_of (P.standing pages.old).current page) into.new) }
+    ensures call { PagesCall P.Pages pages.old pages.new result }
+    ensures reads { OnOk result (ReadsPage page (P.standing pages.old) (P.standing pages.new)) }
     ensures costs { OnOk result (Costs 1 (P.standing pages.old) (P.standing pages.new)) }
-    ensures cause { HasCause Never (P.standing pages.old) (P.standing pages.new) result }
-    ensures call { PagesCall P.Pages pages.old pages.new result }
-    ensures visited { OnOk result (Visited page (P.standing pages.old) (P.standing pages.new)) }
-    ensures again { begins (P.standing pages.old).access page true ≡ false → (P.standing pages.new).visits ≤ (P.standing pages.old).visits }
     ensures few { (P.standing pages.new).visits ≤ (P.standing pages.old).visits + 1 }
+    ensures cause { HasCause Never (P.standing pages.old) (P.standing pages.new) result }
 {
-    if same_line(old, new, line) {
-        return Ok(());
-    }
-    let value = page_line(new, line);
-    pages.write_line(page, line, &value)
+    let header = pages.read_line(page, 0)?;
+    set_page_line(into, 0, &header);
+    Ok(())
 }
 
-/// Writes some lines of a page where their new bytes differ from their old ones. The bytes of other lines in the buffers do not
-/// matter. It stops only where a write does.
-pub fn write_lines<P: Pages>(
+/// Reads the lines of a change beside line 0 into their places in a buffer.
+pub fn read_spread<P: Pages>(
     pages: &mut P,
     page: u64,
-    from: usize,
-    end: usize,
+    spread: &Spread,
+    into: &mut PageBuf,
+) -> Result<(), Stop>
+    requires ready { P.is_ready pages.old }
+    requires page { page < (P.standing pages.old).count }
+    requires open { (P.standing pages.old).access ≡ Some (page, false) }
+    requires order { InOrder spread.now }
+    ensures header { OnOk result (Same 0 64 into.old into.new) }
+    ensures known { IsTrue (P.standing pages.old).told → Same 0 64 (bytes_of (P.standing pages.old).current page) into.old → OnOk result (AlikeIn spread.now (bytes_of (P.standing pages.old).current page) into.new) }
+    ensures call { PagesCall P.Pages pages.old pages.new result }
+    ensures reads { OnOk result (ReadsPage page (P.standing pages.old) (P.standing pages.new)) }
+    ensures costs { OnOk result (Costs ((spread.now.slots_end - spread.now.slots) + (spread.now.heap_end - spread.now.heap)) (P.standing pages.old) (P.standing pages.new)) }
+    ensures again { (P.standing pages.new).visits ≤ (P.standing pages.old).visits }
+    ensures cause { HasCause Never (P.standing pages.old) (P.standing pages.new) result }
+{
+    read_lines(pages, page, spread.slots, spread.slots_end, into)?;
+    read_lines(pages, page, spread.heap, spread.heap_end, into)?;
+    Ok(())
+}
+
+/// Writes the lines of a change where they differ in two buffers, which hold the same in all other lines.
+pub fn write_spread<P: Pages>(
+    pages: &mut P,
+    page: u64,
+    spread: &Spread,
     old: &PageBuf,
     new: &PageBuf,
 ) -> Result<(), Stop>
     requires ready { P.is_ready pages.old }
     requires page { page < (P.standing pages.old).count }
-    requires order { from ≤ end }
-    requires within { end ≤ 64 }
-    requires room { changed_in old.now new.now from (end - from) ≤ (P.standing pages.old).room }
-    ensures put { IsTrue (P.standing pages.old).told → Same (64 * from) (64 * end) (bytes_of (P.standing pages.old).current page) old.now → OnOk result (Same (64 * from) (64 * end) (bytes_of (P.standing pages.new).current page) new.now) }
-    ensures before { IsTrue (P.standing pages.old).told → Same (64 * from) (64 * end) (bytes_of (P.standing pages.old).current page) old.now → OnOk result (Same 0 (64 * from) (bytes_of (P.standing pages.old).current page) (bytes_of (P.standing pages.new).current page)) }
-    ensures after { IsTrue (P.standing pages.old).told → Same (64 * from) (64 * end) (bytes_of (P.standing pages.old).current page) old.now → OnOk result (Same (64 * end) 4096 (bytes_of (P.standing pages.old).current page) (bytes_of (P.standing pages.new).current page)) }
-    ensures others { IsTrue (P.standing pages.old).told → Same (64 * from) (64 * end) (bytes_of (P.standing pages.old).current page) old.now → OnOk result (OtherPages page (P.standing pages.old).current (P.standing pages.new).current) }
-    ensures room { OnOk result ((P.standing pages.new).room + changed_in old.now new.now from (end - from) ≡ (P.standing pages.old).room) }
+    requires order { InOrder spread.now }
+    requires alike { AlikeBeyond spread.now old.now new.now }
+    requires room { lines_changed old.now new.now ≤ (P.standing pages.old).room }
+    ensures stands { IsTrue (P.standing pages.old).told → AlikeIn spread.now (bytes_of (P.standing pages.old).current page) old.now → OnOk result (StandsFor spread.now old.now new.now (bytes_of (P.standing pages.old).current page) (bytes_of (P.standing pages.new).current page)) }
+    ensures others { IsTrue (P.standing pages.old).told → AlikeIn spread.now (bytes_of (P.standing pages.old).current page) old.now → OnOk result (OtherPages page (P.standing pages.old).current (P.standing pages.new).current) }
+    ensures room { OnOk result ((P.standing pages.new).room + lines_changed old.now new.now ≡ (P.standing pages.old).room) }
     ensures touches { OnOk result (WritesOnly page (Differs old.now new.now) (P.standing pages.old) (P.standing pages.new)) }
-    ensures costs { OnOk result (Costs (end - from) (P.standing pages.old) (P.standing pages.new)) }
+    ensures costs { OnOk result (Costs (1 + (spread.now.slots_end - spread.now.slots) + (spread.now.heap_end - spread.now.heap)) (P.standing pages.old) (P.standing pages.new)) }
     ensures cause { HasCause Never (P.standing pages.old) (P.standing pages.new) result }
     ensures call { PagesCall P.Pages pages.old pages.new result }
-    ensures visited { OnOk result (Visited page (P.standing pages.old) (P.standing pages.new)) }
-    ensures again { begins (P.standing pages.old).access page true ≡ false → (P.standing pages.new).visits ≤ (P.standing pages.old).visits }
     ensures few { (P.standing pages.new).visits ≤ (P.standing pages.old).visits + 1 }
+    ensures size_old { length old.now ≡ 4096 }
+    ensures size { length new.now ≡ 4096 }
 {
     old.byte(0);
     new.byte(0);
-    for line in from..end {
-        write_changed(pages, page, line, old, new)?;
-    }
+    write_lines(pages, page, 0, 1, old, new)?;
+    write_lines(pages, page, spread.slots, spread.slots_end, old, new)?;
+    write_lines(pages, page, spread.heap, spread.heap_end, old, new)?;
     Ok(())
 }

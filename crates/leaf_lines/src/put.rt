@@ -1,7 +1,6 @@
 //! A value put into a leaf by the lines that it needs.
-ghost use Rattle.std.specs.Prelude.{◌≡◌, ◌≢◌, ◌⊎◌, ◌+◌, ◌-◌, ◌*◌, ◌<◌, ◌≤◌, ℕ, length, true, false, Some, if◌then◌else◌, IsTrue, OnOk, IfOk};
+ghost use Rattle.std.specs.Prelude.{◌≡◌, ◌≢◌, ◌⊎◌, ◌+◌, ◌-◌, ◌*◌, ◌<◌, ◌≤◌, ℕ, length, true, false, Some, IsTrue, OnOk, IfOk};
 ghost use Rattle.std.specs.List.{list_all};
-ghost use Rattle.ssd_model.specs.Page.{Same};
 ghost use Rattle.line_pages.specs.PagesCall.{PagesCall};
 ghost use Rattle.line_pages.specs.Bytes.{bytes_of, u16_at};
 ghost use Rattle.line_pages.specs.Cost.{Costs};
@@ -11,88 +10,13 @@ ghost use Rattle.rows.specs.Rows.{last_key};
 ghost use Rattle.page_format.specs.Node.{IsWellFormed, entry_count};
 ghost use Rattle.rows.specs.Value.{is_printable};
 ghost use Rattle.page_format.specs.Search.{IsSpot};
-ghost use Rattle.page_alloc.specs.Written.{Differs, WritesOnly, WritesNothing, lines_changed};
-ghost use Rattle.leaf_lines.specs.Spread.{InOrder, AlikeIn, AlikeBeyond, StandsFor};
-ghost use Rattle.leaf_lines.specs.Spread.{OtherPages};
-ghost use Rattle.leaf_lines.specs.Put.{IsPutByLines, IsLeft, IsFound, put_cost};
+ghost use Rattle.leaf_lines.specs.Put.{IsPutByLines, IsLeft, IsFound, fits_beside, slots_behind, put_cost};
 
-use crate::edit::lay_row;
-use crate::lines::{read_lines, write_lines};
-use crate::spread::{Spread, spread_of};
-use line_pages::{Pages, Stop, page_word, read_half, set_page_line};
-use page_format::{Expect, Spot, Work};
-use ssd_model::PageBuf;
-
-/// Reads line 0 of a page into its place in a buffer.
-fn read_header<P: Pages>(pages: &mut P, page: u64, into: &mut PageBuf) -> Result<(), Stop>
-    requires ready { P.is_ready pages.old }
-    requires page { page < (P.standing pages.old).count }
-    ensures known { IsTrue (P.standing pages.old).told → OnOk result (Same 0 64 (bytes_of (P.standing pages.old).current page) into.new) }
-    ensures call { PagesCall P.Pages pages.old pages.new result }
-    ensures reads { OnOk result (ReadsPage page (P.standing pages.old) (P.standing pages.new)) }
-    ensures costs { OnOk result (Costs 1 (P.standing pages.old) (P.standing pages.new)) }
-    ensures few { (P.standing pages.new).visits ≤ (P.standing pages.old).visits + 1 }
-    ensures cause { HasCause Never (P.standing pages.old) (P.standing pages.new) result }
-{
-    let header = pages.read_line(page, 0)?;
-    set_page_line(into, 0, &header);
-    Ok(())
-}
-
-/// Reads the lines of a put beside line 0 into their places in a buffer.
-fn read_spread<P: Pages>(
-    pages: &mut P,
-    page: u64,
-    spread: &Spread,
-    into: &mut PageBuf,
-) -> Result<(), Stop>
-    requires ready { P.is_ready pages.old }
-    requires page { page < (P.standing pages.old).count }
-    requires open { (P.standing pages.old).access ≡ Some (page, false) }
-    requires order { InOrder spread.now }
-    ensures known { IsTrue (P.standing pages.old).told → Same 0 64 (bytes_of (P.standing pages.old).current page) into.old → OnOk result (AlikeIn spread.now (bytes_of (P.standing pages.old).current page) into.new) }
-    ensures call { PagesCall P.Pages pages.old pages.new result }
-    ensures reads { OnOk result (ReadsPage page (P.standing pages.old) (P.standing pages.new)) }
-    ensures costs { OnOk result (Costs ((spread.now.slots_end - spread.now.slots) + (spread.now.heap_end - spread.now.heap)) (P.standing pages.old) (P.standing pages.new)) }
-    ensures again { (P.standing pages.new).visits ≤ (P.standing pages.old).visits }
-    ensures cause { HasCause Never (P.standing pages.old) (P.standing pages.new) result }
-{
-    read_lines(pages, page, spread.slots, spread.slots_end, into)?;
-    read_lines(pages, page, spread.heap, spread.heap_end, into)?;
-    Ok(())
-}
-
-/// Writes the lines of a put where they differ in two buffers, which hold the same in all other lines.
-fn write_spread<P: Pages>(
-    pages: &mut P,
-    page: u64,
-    spread: &Spread,
-    old: &PageBuf,
-    new: &PageBuf,
-) -> Result<(), Stop>
-    requires ready { P.is_ready pages.old }
-    requires page { page < (P.standing pages.old).count }
-    requires order { InOrder spread.now }
-    requires alike { AlikeBeyond spread.now old.now new.now }
-    requires room { 64 ≤ (P.standing pages.old).room }
-    ensures stands { IsTrue (P.standing pages.old).told → AlikeIn spread.now (bytes_of (P.standing pages.old).current page) old.now → OnOk result (StandsFor spread.now old.now new.now (bytes_of (P.standing pages.old).current page) (bytes_of (P.standing pages.new).current page)) }
-    ensures others { IsTrue (P.standing pages.old).told → AlikeIn spread.now (bytes_of (P.standing pages.old).current page) old.now → OnOk result (OtherPages page (P.standing pages.old).current (P.standing pages.new).current) }
-    ensures room { OnOk result ((P.standing pages.new).room + lines_changed old.now new.now ≡ (P.standing pages.old).room) }
-    ensures touches { OnOk result (WritesOnly page (Differs old.now new.now) (P.standing pages.old) (P.standing pages.new)) }
-    ensures costs { OnOk result (Costs (1 + (spread.now.slots_end - spread.now.slots) + (spread.now.heap_end - spread.now.heap)) (P.standing pages.old) (P.standing pages.new)) }
-    ensures cause { HasCause Never (P.standing pages.old) (P.standing pages.new) result }
-    ensures call { PagesCall P.Pages pages.old pages.new result }
-    ensures few { (P.standing pages.new).visits ≤ (P.standing pages.old).visits + 1 }
-    ensures size_old { length old.now ≡ 4096 }
-    ensures size { length new.now ≡ 4096 }
-{
-    old.byte(0);
-    new.byte(0);
-    write_lines(pages, page, 0, 1, old, new)?;
-    write_lines(pages, page, spread.slots, spread.slots_end, old, new)?;
-    write_lines(pages, page, spread.heap, spread.heap_end, old, new)?;
-    Ok(())
-}
+use crate::lines::{read_header, read_spread, write_spread};
+use crate::spread::spread_of;
+use line_pages::{Pages, Stop, page_word, read_half};
+use page_edit::lay_row;
+use page_format::{Expect, Work};
 
 /// Whether a row more has its place among so many, and room between the slots and the heap, by the numbers of a header.
 fn has_room(at: usize, count: u64, heap: u64, more: usize) -> bool
@@ -100,6 +24,7 @@ fn has_room(at: usize, count: u64, heap: u64, more: usize) -> bool
     ensures at { result ≡ true → at ≤ count }
     ensures heap { result ≡ true → heap ≤ 4096 }
     ensures room { result ≡ true → 68 + 4 * count + (8 + more) ≤ heap }
+    ensures none { result ≡ false → at ≤ count → heap ≤ 4096 → heap < 68 + 4 * count + (8 + more) }
 {
     if heap > 4096 || count > 1008 || at > count as usize {
         return false;
@@ -108,7 +33,7 @@ fn has_room(at: usize, count: u64, heap: u64, more: usize) -> bool
 }
 
 /// The greatest key that a page may have.
-fn top_of(expect: &Expect) -> u64
+pub fn top_of(expect: &Expect) -> u64
     ensures is { result ≡ expect.now.high }
     ensures top { expect.now.high ≤ last_key }
 {
@@ -136,6 +61,7 @@ fn insert_row<P: Pages>(
     requires spot { IsTrue (P.standing pages.old).told → IsWellFormed (bytes_of (P.standing pages.old).current page) expect.now → IsSpot (bytes_of (P.standing pages.old).current page) expect.now key (spots.Gap at) }
     ensures put { IsTrue (P.standing pages.old).told → IfOk result (IsPutByLines page expect.now key value.now (P.standing pages.old) (P.standing pages.new)) }
     ensures left { IfOk result (IsLeft page (P.standing pages.old) (P.standing pages.new)) }
+    ensures when { IsTrue (P.standing pages.old).told → IsWellFormed (bytes_of (P.standing pages.old).current page) expect.now → IfOk result (λ done. done ≡ fits_beside expect.now.root key (length value.now) (bytes_of (P.standing pages.old).current page)) }
     ensures costs { IsTrue (P.standing pages.old).told → OnOk result (Costs (put_cost (entry_count (bytes_of (P.standing pages.old).current page) - at) (length value.now)) (P.standing pages.old) (P.standing pages.new)) }
     ensures room { OnOk result ((P.standing pages.old).room ≤ (P.standing pages.new).room + 64) }
     ensures cause { HasCause Never (P.standing pages.old) (P.standing pages.new) result }
@@ -205,6 +131,7 @@ fn has_length(at: usize, slot: &Place, more: usize) -> bool
     ensures size { result ≡ true → slot.now.size ≡ 8 + more }
     ensures behind { result ≡ true → 68 + 4 * at ≤ slot.now.place }
     ensures within { result ≡ true → slot.now.place + slot.now.size ≤ 4096 }
+    ensures none { result ≡ false → 68 + 4 * at ≤ slot.now.place → slot.now.place + slot.now.size ≤ 4096 → slot.now.size ≢ 8 + more }
 {
     slot.size == 8 + more && 68 + 4 * at <= slot.place && slot.place + slot.size <= 4096
 }
@@ -220,6 +147,7 @@ fn can_swap(at: usize, count: u64, heap: u64, slot: &Place, more: usize, root: b
     ensures heap { result ≡ true → heap ≤ 4096 }
     ensures room { result ≡ true → 64 + 4 * count + (8 + more) ≤ heap }
     ensures full { result ≡ true → (root ≡ true) ⊎ (slot.now.size ≤ 8 + more) }
+    ensures none { result ≡ false → at < count → heap ≤ 4096 → slot.now.size ≢ 8 + more → (heap < 64 + 4 * count + (8 + more)) ⊎ ((root ≡ false) × (8 + more < slot.now.size)) }
 {
     if heap > 4096 || count > 1008 || at >= count as usize || slot.size == 8 + more {
         return false;
@@ -252,6 +180,7 @@ fn put_over<P: Pages>(
     requires spot { IsTrue (P.standing pages.old).told → IsWellFormed (bytes_of (P.standing pages.old).current page) expect.now → IsSpot (bytes_of (P.standing pages.old).current page) expect.now key (spots.Row at) }
     ensures put { IsTrue (P.standing pages.old).told → IfOk result (IsPutByLines page expect.now key value.now (P.standing pages.old) (P.standing pages.new)) }
     ensures left { IfOk result (IsLeft page (P.standing pages.old) (P.standing pages.new)) }
+    ensures when { IsTrue (P.standing pages.old).told → IsWellFormed (bytes_of (P.standing pages.old).current page) expect.now → IfOk result (λ done. done ≡ fits_beside expect.now.root key (length value.now) (bytes_of (P.standing pages.old).current page)) }
     ensures costs { OnOk result (Costs (put_cost 0 (length value.now)) (P.standing pages.old) (P.standing pages.new)) }
     ensures room { OnOk result ((P.standing pages.old).room ≤ (P.standing pages.new).room + 64) }
     ensures cause { HasCause Never (P.standing pages.old) (P.standing pages.new) result }
@@ -287,14 +216,14 @@ fn put_over<P: Pages>(
 }
 
 /// Puts a value at a key of a leaf by the lines that it needs: the header, the slots from its place on, and those of its record. The
-/// place is that which a search found. It answers false, with nothing changed, where the leaf has to be read whole: where there is no
-/// room between the slots and the heap, where the leaf would fall below the floor, or where what was read is odd.
+/// place is that which a search found, as `binary_search` of a slice answers: the row of the key, or else where it would stand. It
+/// answers true exactly where, in a leaf in order, the key has a value of this length, or the record has room between the slots and
+/// the heap and does not shorten a leaf that has a floor. Else nothing is changed, and the leaf has to be read whole.
 pub fn put_by_lines<P: Pages>(
     pages: &mut P,
     page: u64,
     expect: &Expect,
-    found: bool,
-    at: usize,
+    place: Result<usize, usize>,
     key: u64,
     value: &[u8],
     work: &mut Work,
@@ -307,17 +236,18 @@ pub fn put_by_lines<P: Pages>(
     requires few { length value.now ≤ 480 }
     requires printable { list_all is_printable value.now ≡ true }
     requires room { 64 ≤ (P.standing pages.old).room }
-    requires spot { IsTrue (P.standing pages.old).told → IsWellFormed (bytes_of (P.standing pages.old).current page) expect.now → IsFound (bytes_of (P.standing pages.old).current page) expect.now key found at }
+    requires spot { IsTrue (P.standing pages.old).told → IsWellFormed (bytes_of (P.standing pages.old).current page) expect.now → IsFound (bytes_of (P.standing pages.old).current page) expect.now key place }
     ensures put { IsTrue (P.standing pages.old).told → IfOk result (IsPutByLines page expect.now key value.now (P.standing pages.old) (P.standing pages.new)) }
     ensures left { IfOk result (IsLeft page (P.standing pages.old) (P.standing pages.new)) }
-    ensures costs { IsTrue (P.standing pages.old).told → OnOk result (Costs (put_cost (if found then 0 else (entry_count (bytes_of (P.standing pages.old).current page) - at)) (length value.now)) (P.standing pages.old) (P.standing pages.new)) }
+    ensures when { IsTrue (P.standing pages.old).told → IsWellFormed (bytes_of (P.standing pages.old).current page) expect.now → IfOk result (λ done. done ≡ fits_beside expect.now.root key (length value.now) (bytes_of (P.standing pages.old).current page)) }
+    ensures costs { IsTrue (P.standing pages.old).told → OnOk result (Costs (put_cost (slots_behind place (bytes_of (P.standing pages.old).current page)) (length value.now)) (P.standing pages.old) (P.standing pages.new)) }
     ensures room { OnOk result ((P.standing pages.old).room ≤ (P.standing pages.new).room + 64) }
     ensures cause { HasCause Never (P.standing pages.old) (P.standing pages.new) result }
     ensures call { PagesCall P.Pages pages.old pages.new result }
     ensures few { (P.standing pages.new).visits ≤ (P.standing pages.old).visits + 2 }
 {
-    if found {
-        return put_over(pages, page, expect, at, key, value, work);
+    match place {
+        Ok(at) => put_over(pages, page, expect, at, key, value, work),
+        Err(at) => insert_row(pages, page, expect, at, key, value, work),
     }
-    insert_row(pages, page, expect, at, key, value, work)
 }

@@ -1,8 +1,8 @@
-//! The lines of a leaf that a put reads and writes.
+//! The lines of a leaf that a change reads and writes.
 ghost use Rattle.std.specs.Prelude.{◌≡◌, ◌+◌, ◌-◌, ◌*◌, ◌/◌, ◌≤◌, ◌⊎◌};
 ghost use Rattle.leaf_lines.specs.Spread.{InOrder, Covers};
 
-/// The lines of a leaf that a put reads and writes beside line 0: those of some slots, and those of a record behind them.
+/// The lines of a leaf that a change reads and writes beside line 0: those of some slots, and those of a record behind them.
 #[derive(Clone, Copy)]
 pub struct Spread {
     /// The first line of the slots.
@@ -34,6 +34,25 @@ pub fn spread_of(at: usize, count: usize, place: usize, size: usize) -> Spread
         slots_end,
         heap,
         heap_end,
+    }
+}
+
+/// The lines of the slots from an index on, and of no record.
+pub fn slot_lines(from: usize, count: usize) -> Spread
+    requires order { from ≤ count }
+    requires few { count ≤ 1008 }
+    ensures order { InOrder result }
+    ensures slots { 64 * result.slots ≤ 64 + 4 * from }
+    ensures slots_end { 64 + 4 * count ≤ 64 * result.slots_end }
+    ensures few_slots { result.slots_end - result.slots ≤ (count + 15) / 16 }
+    ensures none { result.heap_end ≡ result.heap }
+{
+    let slots_end = 1 + (count + 15) / 16;
+    Spread {
+        slots: 1 + from / 16,
+        slots_end,
+        heap: slots_end,
+        heap_end: slots_end,
     }
 }
 

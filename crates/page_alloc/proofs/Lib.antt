@@ -7,3 +7,5 @@ pub mod SoundLaws
 pub mod WrittenLaws
 pub mod TouchedLaws
 pub mod FailLaws
+pub mod LineLaws
+pub mod CostLaws

@@ -17,50 +17,6 @@ use Rattle.std.proofs.lemmas.List.{ext_get_or, length-take-le}
 use Rattle.line_pages.proofs.NumberLaws.{range-same}
 use Rattle.page_alloc.specs.Written.{Rewrites, SameElsewhere, Visited, line_part, changed_in, lines_changed}
 
--- lines of a page that are as they are to be, and the others as they were
-pub record Writing (page : ℕ) (new_bytes : List ℕ) (old now : Lines) (line : ℕ) : Type 0 where
-  pub done : (l : ℕ) → l < line → line_bytes (now page l) ≡ line_part new_bytes l
-  pub left : (l : ℕ) → line ≤ l → now page l ≡ old page l
-  pub others : (n : ℕ) → n ≢ page → now n ≡ old n
-
-pub writing_start : (page : ℕ) (new_bytes : List ℕ) (lines : Lines) → Writing page new_bytes lines lines 0
-writing_start page new_bytes lines = record { done = λ l low. absurd (omega (arith, low)); left = λ l low. refl; others = λ n ne. refl }
-
--- the bytes of a line of a page
-page_part : (lines : ℕ → Line) (l : ℕ) → l < 64 → line_bytes (lines l) ≡ line_part (page_bytes lines) l
-unfolding page_bytes
-page_part lines l below =
-    let all = page_bytes lines in
-    let n : 64 * l + 64 - 64 * l ≡ 64 = omega arith in
-    let long : length (drop (64 * l) all) ≡ 4096 - 64 * l = length-drop (64 * l) all ∙ ap (λ (k : ℕ). k - 64 * l) (length-page_bytes lines) in
-    let size : length (take (64 * l + 64 - 64 * l) (drop (64 * l) all)) ≡ 64 = length-take-le (64 * l + 64 - 64 * l) (drop (64 * l) all) (omega (arith, long, below)) ∙ n in
-    ext_get_or 0 (line_bytes (lines l)) (line_part all l) (length-line_bytes (lines l) ∙ sym size) (λ j within.
-    let j_in : j < 64 = omega (arith, within, length-line_bytes (lines l)) in
-    ap (λ (k : ℕ). get_or (line_bytes (lines k)) j 0) (sym (zero-add l))
-    ∙ sym (get_or-pieces 64 (λ k. line_bytes (lines k)) (λ k. length-line_bytes (lines k)) 0 64 l j below j_in)
-    ∙ sym (get_or-drop (64 * l) all j 0)
-    ∙ sym (get_or-take (64 * l + 64 - 64 * l) (drop (64 * l) all) j 0 (omega (arith, j_in, n))))
-
-pub writing_step : (page : ℕ) (old_bytes new_bytes : List ℕ) (old now next : Lines) (line : ℕ) → line < 64 → old_bytes ≡ bytes_of old page → Writing page new_bytes old now line
-    → (line_bytes (now page line) ≡ line_part old_bytes line → line_bytes (next page line) ≡ line_part new_bytes line) → SameElsewhere page line now next → Writing page new_bytes old next (line + 1)
-writing_step page old_bytes new_bytes old now next line below is w write same =
-    let before : line_bytes (now page line) ≡ line_part old_bytes line =
-    ap line_bytes (w.left line (omega arith)) ∙ page_part (old page) line below ∙ ap (λ b. line_part b line) (sym is) in
-    record {
-      done = λ l low. elim (cases_eq l line) [
-        | inl e ↦ subst (λ (k : ℕ). line_bytes (next page k) ≡ line_part new_bytes k) (sym e) (write before)
-        | inr ne ↦ ap line_bytes (same.lines l ne) ∙ w.done l (omega (arith, low, ne))
-      ];
-      left = λ l low. same.lines l (λ e. omega (arith, low, e)) ∙ w.left l (omega (arith, low));
-      others = λ n ne. same.pages n ne ∙ w.others n ne;
-    }
-
-pub writing_end : (page : ℕ) (new_bytes : List ℕ) (old now : Lines) (line : ℕ) → 64 ≤ line → length new_bytes ≡ 4096 → Writing page new_bytes old now line → Rewrites page new_bytes old now
-writing_end page new_bytes old now line all size w = record {
-  bytes_are = lines_are_page new_bytes (now page) size (λ l below. w.done l (omega (arith, all, below)));
-  others = w.others;
-}
-
 pub changed_step : (old new : List ℕ) (l n : ℕ) → changed_in old new l (suc n) ≡ cond (bytes_eq (line_part old l) (line_part new l)) 0 1 + changed_in old new (suc l) n
 unfolding changed_in
 changed_step old new l n = refl
@@ -112,11 +68,6 @@ visited_few page a b last (inr p) again few = let same = again (ap (λ o. begins
 pub visited_one : {A : Type 0} (page : ℕ) (a b : Standing A) → Visited page a b → b.visits ≤ a.visits + 1
 visited_one page a b (inl p) = omega (arith, p.0)
 visited_one page a b (inr p) = p.0
-
-pub changed_at : (old new : List ℕ) (l : ℕ) → l < 64 → changed_in old new l (64 - l) ≡ cond (bytes_eq (line_part old l) (line_part new l)) 0 1 + changed_in old new (l + 1) (64 - (l + 1))
-changed_at old new l below =
-    let e : 64 - l ≡ suc (64 - (l + 1)) = omega (arith, below) in
-    ap (changed_in old new l) e ∙ changed_step old new l (64 - (l + 1)) ∙ ap (λ (k : ℕ). cond (bytes_eq (line_part old l) (line_part new l)) 0 1 + changed_in old new k (64 - (l + 1))) (sym (add-one l))
 
 -- lines that are the same are not counted
 pub changed_same : (old new : List ℕ) (l n : ℕ) → ((k : ℕ) → l ≤ k → k < l + n → line_part old k ≡ line_part new k) → changed_in old new l n ≡ 0

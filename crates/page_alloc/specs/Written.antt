@@ -13,6 +13,10 @@ pub record Rewrites (page : ℕ) (bytes : List ℕ) (old new : Lines) : Type 0 w
   pub bytes_are : bytes_of new page ≡ bytes
   pub others : (n : ℕ) → n ≢ page → new n ≡ old n
 
+-- all pages but one are as they were
+abbrev pub OtherPages : ℕ → Lines → Lines → Type 0
+OtherPages page old new = (n : ℕ) → n ≢ page → new n ≡ old n
+
 -- the 64 bytes of a line
 abbrev pub line_part : List ℕ → ℕ → List ℕ
 line_part bytes l = slice_range bytes (64 * l) (64 * l + 64)

@@ -5,4 +5,4 @@ mod space;
 mod write;
 
 pub use space::{give_page, take_page};
-pub use write::write_changes;
+pub use write::{write_changes, write_lines};

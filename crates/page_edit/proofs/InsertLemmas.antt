@@ -8,6 +8,7 @@ use Rattle.ssd_model.specs.Page.{Same, Moved}
 use Rattle.rows.specs.Rows.{Row}
 use Rattle.page_format.specs.Node.{Slot, slots, row_in, leaf_rows, page_kind, page_level, entry_count, heap_start, is_in_heap, are_apart, all_apart}
 use Rattle.page_format.specs.Sound.{IsSound, slot_of}
+use Rattle.page_edit.specs.Laid.{Lays}
 use Rattle.page_format.proofs.SlotLemmas.{length-slots, slot_at, in_heap_one, in_heap_is}
 use Rattle.std.proofs.Math.Bool.{or-true}
 use Rattle.line_pages.proofs.NumberLaws.{u16_at-same, u64_at-same, range-same, u16_at-moved}
@@ -93,6 +94,27 @@ slot_of-moved from end to i was old new moved low there high =
     let place = u16_at-moved from end to (64 + 4 * i - to) (64 + 4 * i) (64 + 4 * was) old new moved (omega arith) (omega arith) (omega arith) in
     let size = u16_at-moved from end to (64 + 4 * i + 2 - to) (64 + 4 * i + 2) (64 + 4 * was + 2) old new moved (omega arith) (omega arith) (omega arith) in
     rw (place, size) refl
+
+-- bytes that were moved after a step that left them
+pub same_moved : (from end to x y : ℕ) (old mid new : List ℕ) → Same x y old mid → x ≤ from → end ≤ y → Moved from end to mid new → Moved from end to old new
+same_moved from end to x y old mid new same low high moved = record { each = λ j h. moved.each j h ∙ same.each (from + j) (omega arith) (omega arith) }
+
+-- a row laid into a leaf is put into it
+pub laid_puts : (at count place size : ℕ) (row : Row) (old new : List ℕ) → Lays at count (count + 1) place size row old new
+    → at ≤ count → 68 + 4 * count ≤ place → count ≡ entry_count old → length old ≡ 4096 → length new ≡ 4096 → Puts at place size row old new
+laid_puts at count place size row old new lays within room count_is size_old size_new = record {
+  kind = u64_at-same 0 8 0 old new lays.kind (omega arith) (omega arith);
+  level = u64_at-same 16 24 16 old new lays.level (omega arith) (omega arith);
+  count = lays.count_is ∙ ap (λ (n : ℕ). n + 1) count_is;
+  heap = lays.heap_is;
+  before = λ k low. slot_of-same 32 (64 + 4 * at) k old new lays.before (omega arith) (omega arith);
+  here = lays.slot;
+  after = λ k low high. slot_of-moved (64 + 4 * at) (64 + 4 * count) (68 + 4 * at) (k + 1) k old new lays.moved (omega arith) (omega arith) (omega (arith, count_is));
+  record_is = lays.record_is;
+  rest = lays.after;
+  size_old = size_old;
+  size_new = size_new;
+}
 
 abbrev Below : ℕ → Slot → Type 0
 Below heap slot = slot.place + slot.size ≤ heap

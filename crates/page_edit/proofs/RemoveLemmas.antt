@@ -1,5 +1,5 @@
 -- A row taken out of a leaf.
-use Rattle.std.proofs.Common.{◌≡◌, ℕ, zero, suc, ◌+◌, ◌<◌, ◌≤◌, true, Bool, List, [], ◌∷◌, ◌++◌, map, length, take, drop, inl, inr, refl, ap, sym, ◌∙◌, arith}
+use Rattle.std.proofs.Common.{◌≡◌, ℕ, zero, suc, ◌+◌, ◌*◌, ◌<◌, ◌≤◌, true, Bool, List, [], ◌∷◌, ◌++◌, map, length, take, drop, inl, inr, refl, ap, sym, ◌∙◌, arith}
 use Rattle.std.specs.List.{list_all, remove}
 use Rattle.std.proofs.lemmas.Bool.{and_parts, cases_lt}
 use Rattle.std.proofs.lemmas.List.{map-append, take-map, drop-map, same_lists}
@@ -10,7 +10,9 @@ use Rattle.page_format.specs.Node.{Slot, slots, row_in, leaf_rows, page_kind, pa
 use Rattle.page_format.specs.Sound.{IsSound, IsRows, slot_of, row_bytes}
 use Rattle.page_format.proofs.SlotLemmas.{length-slots, slot_at}
 use Rattle.page_format.proofs.RowLemmas.{row_bytes-cons}
-use Rattle.page_edit.proofs.InsertLemmas.{rows_same}
+use Rattle.line_pages.proofs.NumberLaws.{u64_at-same, same_part}
+use Rattle.page_edit.specs.Laid.{Drops}
+use Rattle.page_edit.proofs.InsertLemmas.{rows_same, slot_of-same, slot_of-moved}
 
 -- What the bytes of a leaf are after a slot was taken out.
 pub record TakesOut (at : ℕ) (old new : List ℕ) : Type 0 where
@@ -22,6 +24,19 @@ pub record TakesOut (at : ℕ) (old new : List ℕ) : Type 0 where
   pub after : (k : ℕ) → at ≤ k → k + 1 < entry_count old → slot_of new k ≡ slot_of old (k + 1)
   pub rest : Same (heap_start old) 4096 old new
   pub size : length new ≡ 4096
+
+-- a slot that is dropped from a leaf is taken out of it
+pub dropped_out : (at count : ℕ) (old new : List ℕ) → Drops at count old new → at < count → count ≡ entry_count old → 64 + 4 * count ≤ heap_start old → length new ≡ 4096 → TakesOut at old new
+dropped_out at count old new drops within count_is below size = record {
+  kind = u64_at-same 0 8 0 old new drops.kind (omega arith) (omega arith);
+  level = u64_at-same 16 64 16 old new drops.header (omega arith) (omega arith);
+  count = drops.count_is ∙ count_is;
+  heap = u64_at-same 16 64 24 old new drops.header (omega arith) (omega arith);
+  before = λ k low. slot_of-same 64 (64 + 4 * at) k old new drops.before (omega arith) (omega arith);
+  after = λ k low high. slot_of-moved (68 + 4 * at) (64 + 4 * count) (64 + 4 * at) k (k + 1) old new drops.moved (omega arith) (omega arith) (omega (arith, high, count_is));
+  rest = same_part (heap_start old) 4096 (60 + 4 * count) 4096 _ _ drops.after (omega (arith, below)) (omega arith);
+  size = size;
+}
 
 all_remove : {X : Type 0} (p : X → Bool) (xs : List X) (i : ℕ) → list_all p xs ≡ true → list_all p (remove xs i) ≡ true
 all_remove p [] zero all = refl
@@ -78,7 +93,7 @@ Ascends-lower : (low next high : ℕ) (ks : List ℕ) → low ≤ next → Ascen
 Ascends-lower low next high [] h up = tt
 Ascends-lower low next high (k ∷ ks) h up = (omega (arith, h, up.0), up.1, up.2)
 
-Ascends-remove : (low high : ℕ) (rows : List Row) (i : ℕ) → Ascends low high (keys rows) → Ascends low high (keys (remove rows i))
+pub Ascends-remove : (low high : ℕ) (rows : List Row) (i : ℕ) → Ascends low high (keys rows) → Ascends low high (keys (remove rows i))
 Ascends-remove low high [] zero up = tt
 Ascends-remove low high (r ∷ rows) zero up = Ascends-lower low (r.0 + 1) high (keys rows) (omega (arith, up.0)) up.2
 Ascends-remove low high [] (suc i) up = tt

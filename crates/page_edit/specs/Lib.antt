@@ -1,3 +1,4 @@
 pub mod Cut
 pub mod Packed
 pub mod Join
+pub mod Laid

@@ -14,6 +14,7 @@ mod insert;
 mod join;
 
 pub use cut::leaf_cut;
+pub use edit::{drop_slot, lay_row};
 pub use inner::{inner_cut, inner_insert, inner_join, inner_remove};
 pub use insert::{leaf_insert, leaf_remove, leaf_set};
 pub use join::leaf_join;

@@ -68,8 +68,8 @@ fn all_separate(page: &PageBuf, count: usize) -> bool
     true
 }
 
-/// The bytes that slots and records take.
-fn used(page: &PageBuf, count: usize) -> usize
+/// The bytes that so many slots and their records take. Slots are not judged here.
+pub fn slots_used(page: &PageBuf, count: usize) -> usize
     requires count { count ≡ entry_count page.now }
     requires few { count ≤ 1008 }
     ensures { result ≡ bytes_used (slots page.now) }
@@ -153,7 +153,7 @@ fn is_within(page: &PageBuf, count: usize) -> bool
     requires few { count ≤ 1008 }
     ensures { result ≡ nat_le (bytes_used (slots page.now)) 4032 }
 {
-    used(page, count) <= 4032
+    slots_used(page, count) <= 4032
 }
 
 /// Whether a leaf has as many bytes as it has to.
@@ -162,7 +162,7 @@ fn is_full(page: &PageBuf, count: usize, root: bool) -> bool
     requires few { count ≤ 1008 }
     ensures { result ≡ (root || nat_le 1344 (bytes_used (slots page.now))) }
 {
-    root || 1344 <= used(page, count)
+    root || 1344 <= slots_used(page, count)
 }
 
 /// The number of the first check that a leaf fails.
@@ -323,5 +323,5 @@ pub fn leaf_used(page: &PageBuf) -> usize
     ensures rows { result ≡ row_bytes (rows_of page.now) }
 {
     let count = page_word(page, 8) as usize;
-    used(page, count)
+    slots_used(page, count)
 }

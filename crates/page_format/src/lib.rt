@@ -14,7 +14,7 @@ mod scan;
 mod spot;
 mod work;
 
-pub use check::{leaf_used, well_formed};
+pub use check::{leaf_used, slots_used, well_formed};
 pub use entries::{child, child_key, children};
 pub use leaf::{leaf_key, leaf_rows, leaf_value, open_leaf, place_of};
 pub use root::Expect;

@@ -19,30 +19,39 @@ pub fn read_line(line: &[u8]) -> Option<Command>
     }
     let (word, left) = cut(line);
     if is_word(word, b"create") {
-        create(left)
-    } else if is_word(word, b"begin") {
-        alone(Command::Begin, left)
-    } else if is_word(word, b"put") {
-        put(left)
-    } else if is_word(word, b"del") {
-        del(left)
-    } else if is_word(word, b"get") {
-        get(left)
-    } else if is_word(word, b"scan") {
-        scan(left)
-    } else if is_word(word, b"commit") {
-        alone(Command::Commit, left)
-    } else if is_word(word, b"abort") {
-        alone(Command::Abort, left)
-    } else if is_word(word, b"checkpoint") {
-        alone(Command::Checkpoint, left)
-    } else if is_word(word, b"drain") {
-        alone(Command::Drain, left)
-    } else if is_word(word, b"clean") {
-        clean(left)
-    } else {
-        None
+        return create(left);
     }
+    if is_word(word, b"begin") {
+        return alone(Command::Begin, left);
+    }
+    if is_word(word, b"put") {
+        return put(left);
+    }
+    if is_word(word, b"del") {
+        return del(left);
+    }
+    if is_word(word, b"get") {
+        return get(left);
+    }
+    if is_word(word, b"scan") {
+        return scan(left);
+    }
+    if is_word(word, b"commit") {
+        return alone(Command::Commit, left);
+    }
+    if is_word(word, b"abort") {
+        return alone(Command::Abort, left);
+    }
+    if is_word(word, b"checkpoint") {
+        return alone(Command::Checkpoint, left);
+    }
+    if is_word(word, b"drain") {
+        return alone(Command::Drain, left);
+    }
+    if is_word(word, b"clean") {
+        return clean(left);
+    }
+    None
 }
 
 fn alone(command: Command, left: Option<&[u8]>) -> Option<Command>

@@ -1,5 +1,5 @@
 -- A put of a value as long as the one before writes lines of its record alone.
-use Rattle.std.proofs.Common.{◌≡◌, ℕ, ◌+◌, ◌-◌, Bool, true, cond, List, ◌++◌, Some, Option, Result, Ok, Err, OnOk, refl, sym, ap, subst, ◌∙◌, nat_eq}
+use Rattle.std.proofs.Common.{◌≡◌, ℕ, ◌+◌, ◌-◌, Bool, true, false, not, cond, List, ◌++◌, Some, Option, Result, Ok, Err, OnOk, refl, sym, ap, subst, ◌∙◌, nat_eq}
 use Rattle.std.specs.Prelude.{is_some}
 use Rattle.std.proofs.lemmas.Bool.{eq-eqb}
 use Rattle.line_pages.specs.declared.stop.Stop.{Stop}
@@ -24,26 +24,20 @@ stays_true place root rows root_is rows_is =
     rw (eq-eqb place.entry.root root.page (sym (ap (λ (r : Root). r.page) root_is)), eq-eqb place.entry.levels root.levels (sym (ap (λ (r : Root). r.levels) root_is)), eq-eqb place.entry.rows rows (sym rows_is)) refl
 
 -- the entry stays as it is, and is not written
-pub again_stored : {A T : Type 0} (place : Place) (root : Root) (rows : ℕ) (found : Bool) (key size : ℕ) (old mid new : Standing A) (result : Result T Stop) → PutsRecord (root_at place) key size old mid
+pub again_stored : {A T : Type 0} (place : Place) (root : Root) (rows : ℕ) (fresh : Bool) (key size : ℕ) (old mid new : Standing A) (result : Result T Stop) → PutsRecord (root_at place) key size old mid
     → ((all : List Row) (used : List ℕ) → IsRooted old.count old.current (root_at place) all used → HoldsLength key size all → root ≡ root_at place)
-    → rows ≡ cond found place.entry.rows (place.entry.rows + 1) → (stays_as place root rows ≡ true → new.touches ≡ mid.touches) → OnOk result (found ≡ true → PutsRecord (root_at place) key size old new)
-again_stored place root rows found key size old mid new (Ok v) again same rows_are unwritten = λ found_is all used rooted holds.
+    → ((all : List Row) (used : List ℕ) → IsRooted old.count old.current (root_at place) all used → fresh ≡ not (is_some (row_get key all)))
+    → rows ≡ cond fresh (place.entry.rows + 1) place.entry.rows → (stays_as place root rows ≡ true → new.touches ≡ mid.touches) → OnOk result (PutsRecord (root_at place) key size old new)
+again_stored place root rows fresh key size old mid new (Ok v) again same fresh_is rows_are unwritten = λ all used rooted holds.
     let w = again all used rooted holds in
-    let rows_is : rows ≡ place.entry.rows = rows_are ∙ ap (λ (b : Bool). cond b place.entry.rows (place.entry.rows + 1)) found_is in
+    let there : fresh ≡ false = fresh_is all used rooted ∙ ap (λ (o : Option (List ℕ)). not (is_some o)) holds.is in
+    let rows_is : rows ≡ place.entry.rows = rows_are ∙ ap (λ (b : Bool). cond b (place.entry.rows + 1) place.entry.rows) there in
     record {
       added = w.added;
       touches = unwritten (stays_true place root rows (same all used rooted holds) rows_is) ∙ w.touches;
       only = w.only;
     }
-again_stored place root rows found key size old mid new (Err e) again same rows_are unwritten = tt
-
--- after the look-up of the key
-pub again_found : {A : Type 0} (place : Place) (found : Bool) (key size : ℕ) (old mid new : Standing A) → mid.current ≡ old.current → mid.count ≡ old.count → WritesNothing old mid
-    → ((all : List Row) (used : List ℕ) → IsRooted old.count old.current (root_at place) all used → found ≡ is_some (row_get key all)) → (found ≡ true → PutsRecord (root_at place) key size mid new)
-    → PutsRecord (root_at place) key size old new
-again_found place found key size old mid new same count nothing found_is again = λ all used rooted holds.
-    let there : found ≡ true = found_is all used rooted ∙ ap (λ (o : Option (List ℕ)). is_some o) holds.is in
-    record_later (root_at place) key size old mid new same count nothing (again there) all used rooted holds
+again_stored place root rows fresh key size old mid new (Err e) again same fresh_is rows_are unwritten = tt
 
 -- and after that of the name
 pub again_named : {A T : Type 0} (limits : Limits) (name : List ℕ) (key size : ℕ) (there : Place) (old mid new : Standing A) (result : Result T Stop) → place_of name 0 (entries old.current) ≡ Some there → FitsRoot limits old.count there

@@ -1,5 +1,5 @@
 -- A row that is put into a table, or taken out.
-use Rattle.std.proofs.Common.{◌≡◌, ◌≢◌, ℕ, suc, ◌+◌, ◌-◌, ◌*◌, ◌/◌, ◌<◌, ◌≤◌, inl, inr, Bool, true, false, cond, List, [], ◌∷◌, ◌++◌, length, None, Some, Result, Ok, Err, OnOk, IfErr, refl, sym, ap, subst, ◌∙◌, arith, nat_eq, nat_lt, nat_le}
+use Rattle.std.proofs.Common.{◌≡◌, ◌≢◌, ℕ, suc, ◌+◌, ◌-◌, ◌*◌, ◌/◌, ◌<◌, ◌≤◌, ◌||◌, nat_lt, not, if◌then◌else◌, inl, inr, Bool, true, false, cond, List, [], ◌∷◌, ◌++◌, length, None, Some, Result, Ok, Err, OnOk, IfErr, refl, sym, ap, subst, ◌∙◌, arith, nat_eq, nat_lt, nat_le}
 use Rattle.std.specs.Prelude.{is_some}
 use Rattle.std.proofs.lemmas.Bool.{cases_Bool, and_parts, leb-true, ltb-true, lt-ltb, le-ltb, eqb-true, ne_eqb, cases_lt, cases_eq}
 use Rattle.line_pages.specs.declared.stop.Stop.{Stop}
@@ -134,39 +134,57 @@ stepped_by limits count old mid new name place root rows step (Ok v) fits change
 stepped_by limits count old mid new name place root rows step (Err e) fits changes enters store found rows_are few = tt
 
 -- the number of rows that a put and a deletion leave
-pub rows_put : (limits : Limits) (count : ℕ) (old : Lines) (store : IsStore limits count old) (name : List ℕ) (place : Place) (is : place_of name 0 (entries old) ≡ Some place) (key : ℕ) (value : List ℕ) (found : Bool) (rows : ℕ)
-    → found ≡ is_some (row_get key (entry_rows old place.entry)) → rows ≡ cond found place.entry.rows (place.entry.rows + 1) → rows ≡ length (row_put key value (entry_rows old place.entry))
-rows_put limits count old store name place is key value found rows found_is rows_is =
-    rows_is ∙ ap (λ (b : Bool). cond b place.entry.rows (place.entry.rows + 1)) found_is
+pub rows_put : (limits : Limits) (count : ℕ) (old : Lines) (store : IsStore limits count old) (name : List ℕ) (place : Place) (is : place_of name 0 (entries old) ≡ Some place) (key : ℕ) (value : List ℕ) (fresh : Bool) (rows : ℕ)
+    → fresh ≡ not (is_some (row_get key (entry_rows old place.entry))) → rows ≡ cond fresh (place.entry.rows + 1) place.entry.rows → rows ≡ length (row_put key value (entry_rows old place.entry))
+rows_put limits count old store name place is key value fresh rows fresh_is rows_is =
+    rows_is ∙ ap (λ (b : Bool). cond b (place.entry.rows + 1) place.entry.rows) fresh_is
+    ∙ cond_not (is_some (row_get key (entry_rows old place.entry))) (place.entry.rows + 1) place.entry.rows
     ∙ ap (λ (n : ℕ). cond (is_some (row_get key (entry_rows old place.entry))) n (n + 1)) (sym (rows_counted limits count old store name place is))
     ∙ sym (put_length 0 last_key key value (entry_rows old place.entry) (rows_ascend limits count old store name place is))
+  where
+    cond_not : (b : Bool) (x y : ℕ) → cond (not b) x y ≡ cond b y x
+    cond_not true x y = refl
+    cond_not false x y = refl
 
 pub rows_deleted : (limits : Limits) (count : ℕ) (old : Lines) (store : IsStore limits count old) (name : List ℕ) (place : Place) (is : place_of name 0 (entries old) ≡ Some place) (key rows : ℕ)
     → is_some (row_get key (entry_rows old place.entry)) ≡ true → rows ≡ place.entry.rows - 1 → rows ≡ length (row_delete key (entry_rows old place.entry))
 rows_deleted limits count old store name place is key rows found rows_is =
     omega (arith, rows_is, rows_counted limits count old store name place is, delete_length key (entry_rows old place.entry) found)
 
-pub few_after : (most rows before : ℕ) (found : Bool) → rows ≡ cond found before (before + 1) → before ≤ most → (found ≡ false → before + 1 ≤ most) → rows ≤ most
-few_after most rows before true is few left = omega (arith, is, few)
-few_after most rows before false is few left = omega (arith, is, left refl)
+-- no more rows than there may be: the key is there, or one row more may be
+pub few_after : (limits : Limits) (count : ℕ) (old : Lines) (store : IsStore limits count old) (name : List ℕ) (place : Place) (is : place_of name 0 (entries old) ≡ Some place) (key : ℕ) (value : List ℕ) → place.entry.rows ≤ limits.rows
+    → (is_some (row_get key (entry_rows old place.entry)) ≡ false → place.entry.rows + 1 ≤ limits.rows) → length (row_put key value (entry_rows old place.entry)) ≤ limits.rows
+few_after limits count old store name place is key value few left =
+    let all = entry_rows old place.entry in
+    within (is_some (row_get key all)) (length all) (length (row_put key value all)) (put_length 0 last_key key value all (rows_ascend limits count old store name place is)) (rows_counted limits count old store name place is) left
+  where
+    within : (b : Bool) (n m : ℕ) → m ≡ cond b n (n + 1) → n ≡ place.entry.rows → (b ≡ false → place.entry.rows + 1 ≤ limits.rows) → m ≤ limits.rows
+    within true n m m_is n_is left = omega (arith, m_is, n_is, few)
+    within false n m m_is n_is left = omega (arith, m_is, n_is, left refl)
 
 -- what was said of the pages as they are now, the pages being as they were
 pub as_before : (P : ℕ → Lines → Type 0) (n0 n1 : ℕ) (old now : Lines) → n1 ≡ n0 → now ≡ old → P n1 now → P n0 old
 as_before P n0 n1 old now count same is = subst (λ (n : ℕ). P n old) count (subst (λ (all : Lines). P n1 all) same is)
 
 -- the answers of a put and of a deletion at a known name
-pub is_full : (limits : Limits) (count : ℕ) (old : Lines) (store : IsStore limits count old) (name : List ℕ) (place : Place) (is : place_of name 0 (entries old) ≡ Some place) (key : ℕ)
-    → false ≡ is_some (row_get key (entry_rows old place.entry)) → limits.rows ≤ place.entry.rows → TableFull ≡ stored_of limits key (rows_of name (tables old))
-is_full limits count old store name place is key absent full =
-    let out = le-ltb (length (entry_rows old place.entry)) limits.rows (omega (arith, full, rows_counted limits count old store name place is)) in
-    sym (ap (stored_of limits key) (rows_by name old 0 (entries old) (Some place) is) ∙ rw (sym absent, out) refl)
+stored_by : (limits : Limits) (count : ℕ) (old : Lines) (store : IsStore limits count old) (name : List ℕ) (place : Place) (is : place_of name 0 (entries old) ≡ Some place) (key : ℕ)
+    → stored_of limits key (rows_of name (tables old)) ≡ (if (is_some (row_get key (entry_rows old place.entry)) || nat_lt place.entry.rows limits.rows) then Put else TableFull)
+stored_by limits count old store name place is key =
+    ap (stored_of limits key) (rows_by name old 0 (entries old) (Some place) is)
+    ∙ ap (λ (n : ℕ). if (is_some (row_get key (entry_rows old place.entry)) || nat_lt n limits.rows) then Put else TableFull) (rows_counted limits count old store name place is)
 
-pub is_stored : (limits : Limits) (count : ℕ) (old : Lines) (store : IsStore limits count old) (name : List ℕ) (place : Place) (is : place_of name 0 (entries old) ≡ Some place) (key : ℕ) (found : Bool)
-    → found ≡ is_some (row_get key (entry_rows old place.entry)) → (found ≡ false → place.entry.rows + 1 ≤ limits.rows) → Put ≡ stored_of limits key (rows_of name (tables old))
-is_stored limits count old store name place is key true found left = sym (ap (stored_of limits key) (rows_by name old 0 (entries old) (Some place) is) ∙ rw (sym found) refl)
-is_stored limits count old store name place is key false found left =
-    let inside = lt-ltb (length (entry_rows old place.entry)) limits.rows (omega (arith, left refl, rows_counted limits count old store name place is)) in
-    sym (ap (stored_of limits key) (rows_by name old 0 (entries old) (Some place) is) ∙ rw (sym found, inside) refl)
+pub is_full : (limits : Limits) (count : ℕ) (old : Lines) (store : IsStore limits count old) (name : List ℕ) (place : Place) (is : place_of name 0 (entries old) ≡ Some place) (key : ℕ) (room : Bool)
+    → room ≡ (is_some (row_get key (entry_rows old place.entry)) || nat_lt place.entry.rows limits.rows) → room ≡ false → TableFull ≡ stored_of limits key (rows_of name (tables old))
+is_full limits count old store name place is key room room_is none = sym (stored_by limits count old store name place is key ∙ ap (λ (b : Bool). if b then Put else TableFull) (sym room_is ∙ none))
+
+pub is_stored : (limits : Limits) (count : ℕ) (old : Lines) (store : IsStore limits count old) (name : List ℕ) (place : Place) (is : place_of name 0 (entries old) ≡ Some place) (key : ℕ) (room : Bool)
+    → room ≡ (is_some (row_get key (entry_rows old place.entry)) || nat_lt place.entry.rows limits.rows) → room ≡ true → Put ≡ stored_of limits key (rows_of name (tables old))
+is_stored limits count old store name place is key room room_is some = sym (stored_by limits count old store name place is key ∙ ap (λ (b : Bool). if b then Put else TableFull) (sym room_is ∙ some))
+
+-- a table that takes a row has the key, or room for one row more
+pub left_by : (found room : Bool) (rows most : ℕ) → room ≡ (found || nat_lt rows most) → room ≡ true → found ≡ false → rows + 1 ≤ most
+left_by true room rows most room_is some absent = absurd (cc)
+left_by false room rows most room_is some absent = let below = ltb-true rows most (sym room_is ∙ some) in omega (arith, below)
 
 pub is_deleted : (old : Lines) (name : List ℕ) (place : Place) (is : place_of name 0 (entries old) ≡ Some place) (key : ℕ) → true ≡ is_some (row_get key (entry_rows old place.entry)) → Gone ≡ deleted_of key (rows_of name (tables old))
 is_deleted old name place is key found = sym (ap (deleted_of key) (rows_by name old 0 (entries old) (Some place) is) ∙ rw (sym found) refl)
@@ -220,14 +238,14 @@ no_lack at_hand after before (Damaged (Frames first second entry check)) enough 
 no_lack at_hand after before (Damaged (Log offset line tail check)) enough few lack = lack
 no_lack at_hand after before (Damaged (Walk page kept found check)) enough few lack = lack
 
-pub sound_put : {T : Type 0} (limits : Limits) (count : ℕ) (old : Lines) (name : List ℕ) (place : Place) (key : ℕ) (value : List ℕ) (found : Bool) (rows : ℕ) (result : Result T Stop) → FitsRoot limits count place → limits.rows ≤ 1000000
+pub sound_put : {T : Type 0} (limits : Limits) (count : ℕ) (old : Lines) (name : List ℕ) (place : Place) (key : ℕ) (value : List ℕ) (result : Result T Stop) → FitsRoot limits count place → limits.rows ≤ 1000000
     → ((rows : List Row) (used free : List ℕ) → StandsIn count old (root_at place) rows used free → IfErr result (IsLack (pages_at_hand count old used free) (length (row_put key value rows)) (length rows)))
-    → IsStore limits count old → place_of name 0 (entries old) ≡ Some place → found ≡ is_some (row_get key (entry_rows old place.entry)) → rows ≡ cond found place.entry.rows (place.entry.rows + 1) → rows ≤ limits.rows
+    → IsStore limits count old → place_of name 0 (entries old) ≡ Some place → (is_some (row_get key (entry_rows old place.entry)) ≡ false → place.entry.rows + 1 ≤ limits.rows)
     → 1 + limits.tables * (limits.rows / 2 + 8) ≤ count → IfErr result IsFault
-sound_put limits count old name place key value found rows (Ok v) fits most stops store is found_is rows_are few enough = tt
-sound_put limits count old name place key value found rows (Err e) fits most stops store is found_is rows_are few enough =
-    let after = rows_put limits count old store name place is key value found rows found_is rows_are in
+sound_put limits count old name place key value (Ok v) fits most stops store is left enough = tt
+sound_put limits count old name place key value (Err e) fits most stops store is left enough =
+    let few = few_after limits count old store name place is key value fits.entry.rows left in
     no_lack (pages_at_hand count old (entry_pages old place.entry) store.free) (length (row_put key value (entry_rows old place.entry))) (length (entry_rows old place.entry)) e
-    (enough_at_hand limits count old store name place is (length (row_put key value (entry_rows old place.entry))) (omega (arith, after, few)) enough)
+    (enough_at_hand limits count old store name place is (length (row_put key value (entry_rows old place.entry))) few enough)
     (omega (arith, rows_counted limits count old store name place is, fits.entry.rows, most))
     (stops (entry_rows old place.entry) (entry_pages old place.entry) store.free (stands_in limits count old store name place is fits))

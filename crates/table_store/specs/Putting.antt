@@ -1,5 +1,5 @@
 -- A row that is put into a table.
-use Rattle.std.specs.Prelude.{◌≡◌, ℕ, ◌-◌, Bool, true, false, ◌||◌, nat_lt, List, length, Option, Some, None, is_some, if◌then◌else◌}
+use Rattle.std.specs.Prelude.{◌≡◌, ℕ, ◌-◌, ◌<◌, Bool, true, false, ◌||◌, nat_lt, List, length, Option, Some, None, is_some, if◌then◌else◌}
 use Rattle.line_pages.specs.Lines.{Lines}
 use Rattle.line_pages.specs.Standing.{Standing, KeepsLines}
 use Rattle.rows.specs.Rows.{Row, row_get, row_put}
@@ -41,3 +41,7 @@ abbrev pub RewritesRecord : {A : Type 0} → List ℕ → ℕ → ℕ → Standi
 RewritesRecord name key size old new =
     (place : Place) → place_of name 0 (entries old.current) ≡ Some place → HoldsLength key size (entry_rows old.current place.entry)
     → WritesRecord (leaf_for old.current (place.entry.levels - 1) place.entry.root key) key old new
+
+-- a table of this name has fewer rows than it may have, by its entry
+abbrev pub IsBelowLimit : Limits → List ℕ → Lines → Type 0
+IsBelowLimit limits name lines = (place : Place) × (place_of name 0 (entries lines) ≡ Some place) × (place.entry.rows < limits.rows)

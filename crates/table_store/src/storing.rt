@@ -1,12 +1,15 @@
 //! A row that is put into a table.
-ghost use Rattle.std.specs.Prelude.{◌≡◌, ◌+◌, ◌*◌, ◌/◌, ◌≤◌, ℕ, List, length, Some, true, false, not, is_some, IsTrue, OnOk, IfOk, IfErr, if◌then◌else◌};
+ghost use Rattle.std.specs.Prelude.{◌≡◌, ◌+◌, ◌*◌, ◌/◌, ◌<◌, ◌≤◌, ◌||◌, nat_lt, ℕ, List, length, Some, false, not, is_some, IsTrue, OnOk, IfOk, IfErr, if◌then◌else◌};
 ghost use Rattle.table_store.specs.Causes.{ChangeCause};
 ghost use Rattle.bplus_tree.specs.Causes.{TreeCause};
 ghost use Rattle.table_catalog.specs.Where.{OnStore};
+ghost use Rattle.tree_search.specs.Where.{OnRooted};
 ghost use Rattle.line_pages.specs.PagesCall.{PagesCall};
 ghost use Rattle.rows.specs.Rows.{row_get, row_put};
 ghost use Rattle.page_format.specs.Search.{Keeps};
 ghost use Rattle.page_alloc.specs.Stops.{IsFault};
+ghost use Rattle.page_alloc.specs.Written.{WritesNothing};
+ghost use Rattle.line_pages.specs.Standing.{KeepsLines};
 ghost use Rattle.bplus_tree.specs.Damage.{FailsTree};
 ghost use Rattle.bplus_tree.specs.Record.{PutsRecord};
 ghost use Rattle.table_catalog.specs.Catalog.{entries, tables, place_of, entry_rows, FitsRoot};
@@ -14,41 +17,65 @@ ghost use Rattle.table_catalog.specs.Stored.{IsStore};
 ghost use Rattle.rows.specs.Tables.{is_known, rows_of};
 ghost use Rattle.table_catalog.specs.Lookup.{LooksUp};
 ghost use Rattle.table_store.specs.Changed.{root_at, ChangesTable, FailsChange};
-ghost use Rattle.table_store.specs.Putting.{stored_of, is_no_table, PutsIfDone, KeepsUnlessDone, RewritesRecord};
+ghost use Rattle.table_store.specs.Putting.{stored_of, is_no_table, PutsIfDone, KeepsUnlessDone, RewritesRecord, IsBelowLimit};
 
 use crate::answer::Stored;
 use crate::placed::{has_row, update_place};
-use bplus_tree::put_row;
 use line_pages::{Pages, Stop};
 use page_format::Work;
 use rows::{Limits, Name, Value};
 use table_catalog::{Place, find_entry, root_of};
 
-/// How many rows there are after a put, the key being found or new.
-fn rows_after(rows: u64, found: bool) -> u64
-    requires { rows ≤ 1000000 }
-    ensures { result ≡ (if found then rows else rows + 1) }
+/// Whether a table takes a row with the key: it has fewer rows than it may have, or one with the key, which is looked up only then.
+fn has_room<P: Pages>(
+    pages: &mut P,
+    limits: &Limits,
+    place: &Place,
+    key: u64,
+    work: &mut Work,
+) -> Result<bool, Stop>
+    requires ready { P.is_ready pages.old }
+    requires fits { FitsRoot limits.now (P.standing pages.old).count place.now }
+    ensures room { OnRooted P.Pages pages.old (root_at place.now) (λ rows used. IfOk result (λ room. room ≡ (is_some (row_get key rows) || nat_lt place.now.entry.rows limits.now.rows))) }
+    ensures once { place.now.entry.rows < limits.now.rows → (P.standing pages.new).visits ≤ (P.standing pages.old).visits }
+    ensures sound { OnRooted P.Pages pages.old (root_at place.now) (λ rows used. IfErr result IsFault) }
+    ensures cause { TreeCause P.Pages pages.old pages.new work.new.page result }
+    ensures fails { IfErr result (Keeps (FailsTree (P.standing pages.old).count work.new.page)) }
+    ensures call { PagesCall P.Pages pages.old pages.new result }
+    ensures keeps { OnOk result (KeepsLines (P.standing pages.old) (P.standing pages.new)) }
+    ensures nothing { OnOk result (WritesNothing (P.standing pages.old) (P.standing pages.new)) }
+    ensures few { (P.standing pages.new).visits ≤ (P.standing pages.old).visits + 4 }
 {
-    if found { rows } else { rows + 1 }
+    if place.entry.rows < limits.rows {
+        return Ok(true);
+    }
+    has_row(pages, limits, place, key, work)
 }
 
-/// Puts a row into the tree of a table, which has so many rows then, and writes its entry unless it stays as it is.
+/// How many rows there are after a put, the key being new or not.
+fn rows_after(rows: u64, fresh: bool) -> u64
+    requires { rows ≤ 1000000 }
+    ensures { result ≡ (if fresh then rows + 1 else rows) }
+{
+    if fresh { rows + 1 } else { rows }
+}
+
+/// Puts a row into the tree of a table, which has one row more then where the key is new, and writes its entry unless it stays as
+/// it is.
 fn store_row<P: Pages>(
     pages: &mut P,
     limits: &Limits,
     place: &Place,
     key: u64,
     value: &Value,
-    found: bool,
     work: &mut Work,
 ) -> Result<(), Stop>
     requires ready { P.is_ready pages.old }
     requires fits { FitsRoot limits.now (P.standing pages.old).count place.now }
-    requires left { found ≡ false → place.now.entry.rows + 1 ≤ limits.now.rows }
     requires room { 640 ≤ (P.standing pages.old).room }
-    ensures changed { IsTrue (P.standing pages.old).told → (name : List ℕ) → IsStore limits.now (P.standing pages.old).count (P.standing pages.old).current → place_of name 0 (entries (P.standing pages.old).current) ≡ Some place.now → found ≡ is_some (row_get key (entry_rows (P.standing pages.old).current place.now.entry)) → OnOk result (ChangesTable limits.now (P.standing pages.old).count (P.standing pages.old).current (P.standing pages.new).current name (row_put key value.now)) }
-    ensures again { IsTrue (P.standing pages.old).told → OnOk result (found ≡ true → PutsRecord (root_at place.now) key (length value.now) (P.standing pages.old) (P.standing pages.new)) }
-    ensures sound { IsTrue (P.standing pages.old).told → (name : List ℕ) → IsStore limits.now (P.standing pages.old).count (P.standing pages.old).current → place_of name 0 (entries (P.standing pages.old).current) ≡ Some place.now → found ≡ is_some (row_get key (entry_rows (P.standing pages.old).current place.now.entry)) → 1 + limits.now.tables * (limits.now.rows / 2 + 8) ≤ (P.standing pages.old).count → IfErr result IsFault }
+    ensures changed { IsTrue (P.standing pages.old).told → (name : List ℕ) → IsStore limits.now (P.standing pages.old).count (P.standing pages.old).current → place_of name 0 (entries (P.standing pages.old).current) ≡ Some place.now → (is_some (row_get key (entry_rows (P.standing pages.old).current place.now.entry)) ≡ false → place.now.entry.rows + 1 ≤ limits.now.rows) → OnOk result (ChangesTable limits.now (P.standing pages.old).count (P.standing pages.old).current (P.standing pages.new).current name (row_put key value.now)) }
+    ensures again { IsTrue (P.standing pages.old).told → OnOk result (PutsRecord (root_at place.now) key (length value.now) (P.standing pages.old) (P.standing pages.new)) }
+    ensures sound { IsTrue (P.standing pages.old).told → (name : List ℕ) → IsStore limits.now (P.standing pages.old).count (P.standing pages.old).current → place_of name 0 (entries (P.standing pages.old).current) ≡ Some place.now → (is_some (row_get key (entry_rows (P.standing pages.old).current place.now.entry)) ≡ false → place.now.entry.rows + 1 ≤ limits.now.rows) → 1 + limits.now.tables * (limits.now.rows / 2 + 8) ≤ (P.standing pages.old).count → IfErr result IsFault }
     ensures cause { TreeCause P.Pages pages.old pages.new work.new.page result }
     ensures fails { IfErr result (Keeps (FailsTree (P.standing pages.old).count work.new.page)) }
     ensures call { PagesCall P.Pages pages.old pages.new result }
@@ -56,8 +83,8 @@ fn store_row<P: Pages>(
     ensures few { (P.standing pages.new).visits ≤ (P.standing pages.old).visits + 59 }
 {
     let mut root = root_of(&place.entry);
-    put_row(pages, &mut root, key, value.bytes(), work)?;
-    let rows = rows_after(place.entry.rows, found);
+    let fresh = bplus_tree::put(pages, &mut root, key, value, work)?;
+    let rows = rows_after(place.entry.rows, fresh);
     update_place(pages, place, &root, rows)
 }
 
@@ -83,13 +110,14 @@ fn put_at<P: Pages>(
     ensures fails { IfErr result (Keeps (FailsTree (P.standing pages.old).count work.new.page)) }
     ensures call { PagesCall P.Pages pages.old pages.new result }
     ensures room { OnOk result ((P.standing pages.old).room ≤ (P.standing pages.new).room + 601) }
+    ensures once { place.now.entry.rows < limits.now.rows → (P.standing pages.new).visits ≤ (P.standing pages.old).visits + 59 }
     ensures few { (P.standing pages.new).visits ≤ (P.standing pages.old).visits + 63 }
 {
-    let found = has_row(pages, limits, place, key, work)?;
-    if !found && place.entry.rows >= limits.rows {
+    let room = has_room(pages, limits, place, key, work)?;
+    if !room {
         return Ok(Stored::TableFull);
     }
-    store_row(pages, limits, place, key, value, found, work)?;
+    store_row(pages, limits, place, key, value, work)?;
     Ok(Stored::Done)
 }
 
@@ -121,6 +149,8 @@ pub fn put<P: Pages>(
     // what stays
     ensures call { PagesCall P.Pages pages.old pages.new result }
     ensures room { OnOk result ((P.standing pages.old).room ≤ (P.standing pages.new).room + 601) }
+    // where the table has fewer rows than it may have, the key is not looked up before
+    ensures once { IsTrue (P.standing pages.old).told → IsBelowLimit limits.now name.now (P.standing pages.old).current → (P.standing pages.new).visits ≤ (P.standing pages.old).visits + 60 }
     ensures few { (P.standing pages.new).visits ≤ (P.standing pages.old).visits + 64 }
 {
     match find_entry(pages, limits, name, work)? {

@@ -1,7 +1,7 @@
 //! A tree that grows over pages in memory.
 ghost use Rattle.std.specs.Prelude.{◌≤◌, ◌<◌, ◌*◌};
 
-use bplus_tree::put;
+use bplus_tree::{delete, put};
 use line_pages::{Pages, Stop, VecPages};
 use nvm_model::{Line, NoMemory};
 use page_format::Work;
@@ -18,7 +18,7 @@ pub enum Ended {
     Print(io::Error),
     /// An argument is no number, or too great.
     NoNumber,
-    /// No value, or no put is left.
+    /// No value, or no change is left.
     Spent,
 }
 
@@ -45,7 +45,7 @@ fn scattered(i: u64) -> u64 {
     i.wrapping_mul(0x9E37_79B9_7F4A_7C15)
 }
 
-/// A tree, and how many puts may still be made.
+/// A tree, and how many changes may still be made.
 #[derive(Drop)]
 pub struct Grown {
     pages: VecPages,
@@ -61,15 +61,15 @@ pub struct Grown {
 }
 
 impl Grown {
-    /// An empty tree with pages for this many rows.
-    pub fn new(alloc: Global, rows: u64) -> Result<Grown, Ended> {
-        if rows > 1_000_000 {
+    /// An empty tree with pages for this many rows, and leave for as many puts and so many deletes.
+    pub fn new(alloc: Global, rows: u64, deletes: u64) -> Result<Grown, Ended> {
+        if rows > 1_000_000 || deletes > 1_000_000 {
             return Err(Ended::NoNumber);
         }
         let Some(value) = Value::from_bytes(b"a value of thirty-two characters") else {
             return Err(Ended::Spent);
         };
-        let mut pages = VecPages::new(alloc, rows / 16 + 100, 600 * rows + 2)?;
+        let mut pages = VecPages::new(alloc, rows / 16 + 100, 600 * (rows + deletes) + 2)?;
         let header = Line {
             words: [4, 0, 2, 0, 0, 0, 0, 0],
         };
@@ -83,7 +83,7 @@ impl Grown {
             root: Root { page: 1, levels: 1 },
             work: Work::new(),
             value,
-            left: rows,
+            left: rows + deletes,
         })
     }
 
@@ -110,6 +110,31 @@ impl Grown {
             }
         }
         Ok(fresh)
+    }
+
+    /// Takes a key out: true where it was there.
+    fn delete(&mut self, key: u64) -> Result<bool, Ended> {
+        let left = self.left;
+        if left == 0 {
+            return Err(Ended::Spent);
+        }
+        self.left = 0;
+        let mut root = self.root;
+        let found = delete(&mut self.pages, &mut root, key, &mut self.work)?;
+        self.root = root;
+        self.left = left - 1;
+        Ok(found)
+    }
+
+    /// Takes the first so many keys out, and gives how many of them were there.
+    pub fn delete_all(&mut self, deletes: u64) -> Result<u64, Ended> {
+        let mut found: u64 = 0;
+        for i in 0..deletes {
+            if self.delete(scattered(i))? {
+                found = found.saturating_add(1);
+            }
+        }
+        Ok(found)
     }
 
     /// Gets as many keys, and gives how many of them are there.

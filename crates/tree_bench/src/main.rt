@@ -1,5 +1,6 @@
 //! Measures trees over pages in memory: puts as many rows as the first argument says, at keys that jump about, gets each of
-//! them as often as the second one says, and prints what is there then. The time is taken from outside.
+//! them as often as the second one says, takes as many out as the third one says, and prints what was there. The time is taken
+//! from outside.
 #![tactic(auto)]
 
 mod grown;
@@ -19,15 +20,15 @@ fn main(rt: HostRuntime) -> Result<(), Ended> {
     let mut words = env::args(&rt)?.skip(1);
     let rows = number(words.next())?;
     let rounds = number(words.next())?;
-    let mut grown = Grown::new(rt.alloc(), rows)?;
+    let deletes = number(words.next())?;
+    let mut grown = Grown::new(rt.alloc(), rows, deletes)?;
     let fresh = grown.put_all(rows)?;
     let mut found: u64 = 0;
     for _ in 0..rounds {
         found = found.saturating_add(grown.get_all(rows)?);
     }
-    println!(rt;
-        "new rows {fresh}, found {found}, levels {}",
-        grown.levels()
-    )?;
+    let levels = grown.levels();
+    let gone = grown.delete_all(deletes)?;
+    println!(rt; "new rows {fresh}, found {found}, levels {levels}, deleted {gone}")?;
     Ok(())
 }

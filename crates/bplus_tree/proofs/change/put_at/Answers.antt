@@ -1,14 +1,19 @@
-use Rattle.std.proofs.Common.{◌≡◌, length, IsTrue, true, false, arith, sym, subst}
+use Rattle.std.proofs.Common.{◌≡◌, ◌∙◌, ℕ, length, IsTrue, true, false, arith, refl, sym, subst, rules}
 use Rattle.line_pages.specs.Lines.{Lines}
 use Rattle.line_pages.specs.Bytes.{bytes_of}
 use Rattle.line_pages.specs.Standing.{ReadsPage}
-use Rattle.line_pages.proofs.StandingLaws.{ReadsPage-trans, KeepsPages-trans}
+use Rattle.line_pages.proofs.StandingLaws.{ReadsPage-trans, KeepsPages-trans, KeepsPages-then, KeepsPages-stops}
 use Rattle.rows.specs.Rows.{row_put}
 use Rattle.page_format.specs.Node.{IsWellFormed, leaf_rows}
 use Rattle.page_alloc.proofs.TouchedLaws.{nothing_read}
 use Rattle.node_edit.specs.Record.{FitsLeaf, HoldsLength}
-use Rattle.leaf_lines.specs.Put.{PutByLines, IsFound}
-use Rattle.bplus_tree.proofs.ByLines.{put_of, left_of, put_later, line_edits, record_by, change_by, record_on, change_on}
+use Rattle.leaf_lines.specs.Put.{PutByLines, IsFound, fits_beside, slots_behind, put_cost}
+use Rattle.line_pages.specs.Cost.{Costs}
+use Rattle.bplus_tree.specs.LineCosts.{put_lines}
+use Rattle.bplus_tree.proofs.LineCostLaws.{after_search, behind_is}
+use Rattle.bplus_tree.proofs.ByLines.{put_of, left_of, put_later, line_edits, record_by, change_by, record_read}
+use Rattle.bplus_tree.proofs.LineChangeLaws.{change_later}
+use Rattle.bplus_tree.proofs.FreshLaws.{fresh_in}
 use Rattle.bplus_tree.proofs.change.put_at.Goals as goal
 use Rattle.bplus_tree.proofs.change.put_at.Goals.{Then-done, After-put_leaf}
 use Rattle.bplus_tree.proofs.change.put_at.Given as given
@@ -29,8 +34,8 @@ put_by_lines-requires-clause-spot g c = λ told1 well.
     let same = c.in_ok-spot.ensures.reads.current told in
     let e = c.args.expect.now in
     let well_old = subst (λ (lines : Lines). IsWellFormed (bytes_of lines c.args.page) e) same well in
-    subst (λ (lines : Lines). IsFound (bytes_of lines c.args.page) e c.args.key c.seen_of-seen.result.found c.seen_of-seen.result.at) (sym same)
-    (c.seen_of-seen.ensures (bytes_of old.current c.args.page) c.args.key c.in_ok-spot.ensures.safe (c.in_ok-spot.ensures.spot told well_old))
+    subst (λ (lines : Lines). IsFound (bytes_of lines c.args.page) e c.args.key c.found_place-place.result) (sym same)
+    (c.found_place-place.ensures (bytes_of old.current c.args.page) c.args.key c.in_ok-spot.ensures.safe (c.in_ok-spot.ensures.spot told well_old))
 
 pub returns-then-done-clause-edits : goal.returns-then-done-clause-edits
 returns-then-done-clause-edits g c = λ told.
@@ -59,8 +64,8 @@ returns-clause-again g c = λ told well holds.
     let reads = left g (goal.at.returns-clause-again g c).After-put_leaf in
     let same = reads.current told in
     let told2 = subst IsTrue (sym reads.told) told in
-    record_on c.args.page c.args.key old mid (g.P.Pages.standing c.put_leaf.new.pages) c.put_leaf.result same (nothing_read reads)
-    (c.put_leaf.ensures.again told2 (subst (λ (lines : Lines). HoldsLength c.args.key (length c.args.value.now) (leaf_rows (bytes_of lines c.args.page))) (sym same) holds))
+    record_read c.args.page c.args.key old mid (g.P.Pages.standing c.put_leaf.new.pages) same (nothing_read reads)
+    (c.in_ok-outcome.ensures.again told2 (subst (λ (lines : Lines). HoldsLength c.args.key (length c.args.value.now) (leaf_rows (bytes_of lines c.args.page))) (sym same) holds))
 
 pub returns-clause-lines : goal.returns-clause-lines
 returns-clause-lines g c = λ told well fits.
@@ -69,11 +74,57 @@ returns-clause-lines g c = λ told well fits.
     let reads = left g (goal.at.returns-clause-lines g c).After-put_leaf in
     let same = reads.current told in
     let told2 = subst IsTrue (sym reads.told) told in
-    change_on c.args.page old mid (g.P.Pages.standing c.put_leaf.new.pages) c.put_leaf.result same reads.room (nothing_read reads)
-    (c.put_leaf.ensures.lines told2 (subst (λ (lines : Lines). FitsLeaf (c.args.expect.now.root ≡ true) (row_put c.args.key c.args.value.now (leaf_rows (bytes_of lines c.args.page)))) (sym same) fits))
+    change_later c.args.page old mid (g.P.Pages.standing c.put_leaf.new.pages) same reads.room (nothing_read reads)
+    (c.in_ok-outcome.ensures.lines told2 (subst (λ (lines : Lines). FitsLeaf (c.args.expect.now.root ≡ true) (row_put c.args.key c.args.value.now (leaf_rows (bytes_of lines c.args.page)))) (sym same) fits))
 
 pub returns-clause-call : goal.returns-clause-call
 returns-clause-call g c =
     let a = c.in_ok-spot.ensures in
     let b = c.in_ok-done.ensures in
-    KeepsPages-trans (KeepsPages-trans a.call b.call) c.put_leaf.ensures.call
+    KeepsPages-then (KeepsPages-trans a.call b.call) c.in_ok-outcome.ensures.call
+
+pub returns-in_err-outcome-clause-call : goal.returns-in_err-outcome-clause-call
+returns-in_err-outcome-clause-call g c =
+    let a = c.in_ok-spot.ensures in
+    let b = c.in_ok-done.ensures in
+    KeepsPages-stops _ (search rules) (KeepsPages-trans (KeepsPages-trans a.call b.call) c.in_err-outcome.ensures.call)
+
+pub returns-then-done-clause-fresh : goal.returns-then-done-clause-fresh
+returns-then-done-clause-fresh g c = λ told well.
+    let bytes = bytes_of (g.P.Pages.standing c.args.pages.now).current c.args.page in
+    c.is_err-fresh.ensures.value ∙ fresh_in bytes c.args.expect.now c.args.key c.found_place-place.result well (c.found_place-place.ensures bytes c.args.key c.in_ok-spot.ensures.safe (c.in_ok-spot.ensures.spot told well))
+
+pub returns-clause-fresh : goal.returns-clause-fresh
+returns-clause-fresh g c = λ told well.
+    let bytes = bytes_of (g.P.Pages.standing c.args.pages.now).current c.args.page in
+    c.is_err-fresh.ensures.value ∙ fresh_in bytes c.args.expect.now c.args.key c.found_place-place.result well (c.found_place-place.ensures bytes c.args.key c.in_ok-spot.ensures.safe (c.in_ok-spot.ensures.spot told well))
+
+pub returns-then-done-clause-by_lines : goal.returns-then-done-clause-by_lines
+returns-then-done-clause-by_lines g c = λ told well fits.
+    let old = g.P.Pages.standing c.args.pages.now in
+    let mid = g.P.Pages.standing c.look.new.pages in
+    let new = g.P.Pages.standing c.put_by_lines.new.pages in
+    let e = c.args.expect.now in
+    let w = bytes_of old.current c.args.page in
+    let long = length c.args.value.now in
+    let place = c.found_place-place.result in
+    let look = c.in_ok-spot.ensures in
+    let told1 = subst IsTrue (sym look.call.continues.told) told in
+    let behind = behind_is e c.args.key place w c.requires.level well (c.found_place-place.ensures w c.args.key look.safe (look.spot told well)) in
+    let costs : Costs (put_cost (slots_behind place w) long) mid new = subst (λ (lines : Lines). Costs (put_cost (slots_behind place (bytes_of lines c.args.page)) long) mid new) (look.reads.current told) (c.in_ok-done.ensures.costs told1) in (
+      refl,
+      record {
+        touched = after_search e.level (put_lines c.args.key long w) old mid new c.requires.level (look.cost told well) (subst (λ (n : ℕ). Costs (put_cost n long) mid new) behind costs);
+        written = change_by c.args.page e c.args.key c.args.value.now old new (put g (goal.at.returns-then-done-clause-by_lines g c).Then-done told);
+      },
+    )
+
+pub returns-clause-by_lines : goal.returns-clause-by_lines
+returns-clause-by_lines g c = λ told well fits.
+    let e = c.args.expect.now in
+    let look = c.in_ok-spot.ensures in
+    let told1 = subst IsTrue (sym look.call.continues.told) told in
+    let is =
+    subst (λ (lines : Lines). IsWellFormed (bytes_of lines c.args.page) e → c.in_ok-done.done ≡ fits_beside e.root c.args.key (length c.args.value.now) (bytes_of lines c.args.page)) (look.reads.current told)
+    (c.in_ok-done.ensures.when told1) well in
+    let never : false ≡ true = sym c.if-done.false ∙ is ∙ fits in absurd (cc)

@@ -10,9 +10,12 @@ use Rattle.line_pages.specs.Bytes.{bytes_of}
 use Rattle.page_format.specs.Node.{IsWellFormed}
 use Rattle.page_alloc.specs.Space.{FitsHeader}
 use Rattle.page_alloc.specs.Stops.{IsFault}
-use Rattle.bplus_tree.specs.Path.{StandsAbove, StopsAbove}
 use Rattle.tree_search.proofs.SearchLaws.{well_formed_top}
 use Rattle.bplus_tree.proofs.StandLaws.{leads_stands}
+use Rattle.bplus_tree.specs.declared.outcome.Outcome.{Outcome}
+use Rattle.bplus_tree.specs.Path.{StandsAbove, StopsAbove, MayFollow}
+use Rattle.bplus_tree.specs.LineCosts.{keeps_without, delete_lines}
+use Rattle.bplus_tree.proofs.LineCostLaws.{goes_start, goes_on}
 use Rattle.bplus_tree.proofs.path.delete_in.Given as given
 use Rattle.bplus_tree.specs.Edit.{IsSafe}
 use Rattle.bplus_tree.proofs.path.delete_in.Goals.{In-Some}
@@ -24,13 +27,15 @@ pub loop-passed-init : goal.loop-passed-init
 loop-passed-init g c =
     let old = g.P.Pages.standing c.args.pages.now in
     let mid = g.P.Pages.standing c.descend.new.pages in
-    let new = g.P.Pages.standing c.delete_leaf.new.pages in
+    let new = g.P.Pages.standing c.delete_at.new.pages in
     let down = c.in_ok-leaf.ensures in
     let leaf = c.in_ok-outcome.ensures in
     record {
       call = KeepsPages-then down.call leaf.call;
       nvm_kept = leaf.cause.kept.0 ∙ down.cause.kept.0;
       ssd_kept = leaf.cause.kept.1 ∙ down.cause.kept.1;
+      by_lines = goes_start c.args.key (keeps_without c.args.key) delete_lines c.args.top c.in_ok-leaf.leaf c.descend.new.path.items old mid new c.in_ok-outcome.outcome down.leads down.level down.keeps.current down.keeps.room down.nothing down.cost
+          (λ told well fits. leaf.by_lines (subst IsTrue (sym down.call.continues.told) told) well fits);
       climbing = climb_start old.told old.count c.args.key old.current mid.current new.current c.args.top c.in_ok-leaf.leaf c.descend.new.path.items c.in_ok-outcome.outcome (row_delete c.args.key) old.room mid.room new.room old.visits mid.visits new.visits
           down.level down.place.pages down.leads down.keeps.current down.keeps.room down.few (subst (λ n. IsSafe n c.in_ok-leaf.leaf.expect c.in_ok-outcome.outcome) down.call.continues.count leaf.safe) (uncut_below c.in_ok-leaf.leaf.expect c.in_ok-outcome.outcome leaf.uncut) (λ told. leaf.edits (subst IsTrue (sym down.call.continues.told) told)) leaf.room leaf.few;
       uncut = leaf.uncut;
@@ -76,6 +81,7 @@ loop-passed-preserved g c =
       call = KeepsPages-then before.call up.call;
       nvm_kept = up.cause.kept.0 ∙ before.nvm_kept;
       ssd_kept = up.cause.kept.1 ∙ before.ssd_kept;
+      by_lines = goes_on c.args.key (keeps_without c.args.key) delete_lines c.args.top old mid new c.loop-passed.outcome c.in_ok-outcome-2.outcome before.by_lines up.kept (λ whole. subst (λ (o : Outcome). MayFollow o c.in_ok-outcome-2.outcome) whole up.follows);
       climbing = climb_on old.told old.count c.args.key old.current mid.current new.current c.args.top c.pop.new.self.items c.in-Some.passed c.loop-passed.outcome c.in_ok-outcome-2.outcome step old.room mid.room new.room old.visits mid.visits new.visits
           (delete_local c.args.key) (subst (λ (path : List Passed). Climbing old.told old.count c.args.key old.current mid.current c.args.top path c.loop-passed.outcome step old.room mid.room old.visits mid.visits) c.in-Some.ensures.items before.climbing)
           (subst (λ n. IsSafe n c.in-Some.passed.place.expect c.in_ok-outcome-2.outcome) before.call.continues.count up.safe) up.below (λ told. up.settles (told_on told)) up.follows up.room up.few;
@@ -98,7 +104,7 @@ returns-in_err-outcome-clause-sound g c = λ told free stands fits.
     let told_on = subst IsTrue (sym down.call.continues.told) told in
     let here = leads_stands old.told old.current old.count c.args.key c.args.top leaf c.descend.new.path.items free told down.leads stands in
     let well = subst (λ (lines : Lines). IsWellFormed (bytes_of lines leaf.page) leaf.expect) (sym (down.keeps.current told)) (well_formed_top leaf.expect.pages old.current leaf.expect.level leaf.page leaf.expect.low leaf.expect.high leaf.expect.root here.tree) in
-    let h : IfErr c.delete_leaf.result IsFault = c.delete_leaf.ensures.sound told_on well in
+    let h : IfErr c.delete_at.result IsFault = c.delete_at.ensures.sound told_on well in
     let k = subst (λ r. IfErr r (IsFault)) c.in_err-outcome.was h in
     search (rules, k)
 

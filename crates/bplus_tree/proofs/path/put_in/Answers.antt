@@ -13,7 +13,11 @@ use Rattle.page_alloc.proofs.LackLaws.{fault_stops}
 use Rattle.bplus_tree.proofs.StandLaws.{leads_stands, leaf_stops}
 use Rattle.bplus_tree.specs.declared.outcome.Outcome.{Outcome}
 use Rattle.bplus_tree.proofs.LeafOfKey.{again_start, again_on}
+use Rattle.bplus_tree.proofs.FreshLaws.{fresh_under}
 use Rattle.bplus_tree.proofs.LineChangeLaws.{lines_start, lines_on}
+use Rattle.leaf_lines.specs.Put.{fits_beside}
+use Rattle.bplus_tree.specs.LineCosts.{put_lines}
+use Rattle.bplus_tree.proofs.LineCostLaws.{goes_start, goes_on}
 use Rattle.bplus_tree.proofs.path.put_in.Given as given
 use Rattle.bplus_tree.specs.Edit.{IsSafe}
 use Rattle.bplus_tree.proofs.path.put_in.Goals.{In-Some}
@@ -29,18 +33,20 @@ loop-passed-init g c =
     let mid = g.P.Pages.standing c.descend.new.pages in
     let new = g.P.Pages.standing c.put_at.new.pages in
     let down = c.in_ok-leaf.ensures in
-    let leaf = c.in_ok-outcome.ensures in
+    let leaf = c.in_ok-change.ensures in
     record {
       call = KeepsPages-then down.call leaf.call;
       nvm_kept = leaf.cause.kept.0 ∙ down.cause.kept.0;
       ssd_kept = leaf.cause.kept.1 ∙ down.cause.kept.1;
-      again = again_start c.args.key (length c.args.value.now) c.args.top c.in_ok-leaf.leaf c.descend.new.path.items old mid new c.in_ok-outcome.outcome down.leads down.level down.keeps.current down.nothing
+      again = again_start c.args.key (length c.args.value.now) c.args.top c.in_ok-leaf.leaf c.descend.new.path.items old mid new c.in_ok-change.change.outcome down.leads down.level down.keeps.current down.nothing
           (λ told well holds. (leaf.whole (subst IsTrue (sym down.call.continues.told) told) well holds, leaf.again (subst IsTrue (sym down.call.continues.told) told) well holds));
-      lines = lines_start c.args.key c.args.value.now c.args.top c.in_ok-leaf.leaf c.descend.new.path.items old mid new c.in_ok-outcome.outcome down.leads down.level down.keeps.current down.keeps.room down.nothing
+      lines = lines_start c.args.key c.args.value.now c.args.top c.in_ok-leaf.leaf c.descend.new.path.items old mid new c.in_ok-change.change.outcome down.leads down.level down.keeps.current down.keeps.room down.nothing
           (λ told well fits. (leaf.fills (subst IsTrue (sym down.call.continues.told) told) well fits, leaf.lines (subst IsTrue (sym down.call.continues.told) told) well fits));
-      climbing = climb_start old.told old.count c.args.key old.current mid.current new.current c.args.top c.in_ok-leaf.leaf c.descend.new.path.items c.in_ok-outcome.outcome (row_put c.args.key c.args.value.now) old.room mid.room new.room old.visits mid.visits new.visits
-          down.level down.place.pages down.leads down.keeps.current down.keeps.room down.few (subst (λ n. IsSafe n c.in_ok-leaf.leaf.expect c.in_ok-outcome.outcome) down.call.continues.count leaf.safe) leaf.below (λ told. leaf.edits (subst IsTrue (sym down.call.continues.told) told)) leaf.room leaf.few;
-      filling = filling_start old.told old.count c.args.key c.args.value.now old.current mid.current c.args.top c.in_ok-leaf.leaf c.descend.new.path.items c.in_ok-outcome.outcome down.level down.leads down.keeps.current
+      by_lines = goes_start c.args.key (λ root. fits_beside root c.args.key (length c.args.value.now)) (put_lines c.args.key (length c.args.value.now)) c.args.top c.in_ok-leaf.leaf c.descend.new.path.items old mid new c.in_ok-change.change.outcome down.leads down.level down.keeps.current down.keeps.room down.nothing down.cost
+          (λ told well fits. leaf.by_lines (subst IsTrue (sym down.call.continues.told) told) well fits);
+      climbing = climb_start old.told old.count c.args.key old.current mid.current new.current c.args.top c.in_ok-leaf.leaf c.descend.new.path.items c.in_ok-change.change.outcome (row_put c.args.key c.args.value.now) old.room mid.room new.room old.visits mid.visits new.visits
+          down.level down.place.pages down.leads down.keeps.current down.keeps.room down.few (subst (λ n. IsSafe n c.in_ok-leaf.leaf.expect c.in_ok-change.change.outcome) down.call.continues.count leaf.safe) leaf.below (λ told. leaf.edits (subst IsTrue (sym down.call.continues.told) told)) leaf.room leaf.few;
+      filling = filling_start old.told old.count c.args.key c.args.value.now old.current mid.current c.args.top c.in_ok-leaf.leaf c.descend.new.path.items c.in_ok-change.change.outcome down.level down.leads down.keeps.current
           (λ told. leaf.cuts (subst IsTrue (sym down.call.continues.told) told));
     }
 
@@ -66,10 +72,10 @@ settle-requires-clause-safe g c = (popped g (goal.at.settle-requires-clause-safe
 pub settle-requires-clause-room : goal.settle-requires-clause-room
 settle-requires-clause-room g c = (popped g (goal.at.settle-requires-clause-room g c).In-Some).enough
 
-pub returns-in_err-outcome-2-clause-call : goal.returns-in_err-outcome-2-clause-call
-returns-in_err-outcome-2-clause-call g c =
+pub returns-in_err-outcome-clause-call : goal.returns-in_err-outcome-clause-call
+returns-in_err-outcome-clause-call g c =
     let before = c.loop-passed.invariant in
-    KeepsPages-stops _ (search rules) (KeepsPages-trans before.call c.in_err-outcome-2.ensures.call)
+    KeepsPages-stops _ (search rules) (KeepsPages-trans before.call c.in_err-outcome.ensures.call)
 
 pub loop-passed-preserved : goal.loop-passed-preserved
 loop-passed-preserved g c =
@@ -77,19 +83,20 @@ loop-passed-preserved g c =
     let mid = g.P.Pages.standing c.loop-passed.pages in
     let new = g.P.Pages.standing c.settle.new.pages in
     let before = c.loop-passed.invariant in
-    let up = c.in_ok-outcome-2.ensures in
+    let up = c.in_ok-outcome.ensures in
     let step = row_put c.args.key c.args.value.now in
     let told_on = λ (told : IsTrue old.told). subst IsTrue (sym before.call.continues.told) told in
     record {
       call = KeepsPages-then before.call up.call;
       nvm_kept = up.cause.kept.0 ∙ before.nvm_kept;
       ssd_kept = up.cause.kept.1 ∙ before.ssd_kept;
-      again = again_on c.args.key (length c.args.value.now) c.args.top old mid new c.loop-passed.outcome c.in_ok-outcome-2.outcome before.again up.kept (λ whole. subst (λ (o : Outcome). MayFollow o c.in_ok-outcome-2.outcome) whole up.follows);
-      lines = lines_on c.args.key c.args.value.now c.args.top old mid new c.loop-passed.outcome c.in_ok-outcome-2.outcome before.lines up.kept (λ whole. subst (λ (o : Outcome). MayFollow o c.in_ok-outcome-2.outcome) whole up.follows);
-      climbing = climb_on old.told old.count c.args.key old.current mid.current new.current c.args.top c.pop.new.self.items c.in-Some.passed c.loop-passed.outcome c.in_ok-outcome-2.outcome step old.room mid.room new.room old.visits mid.visits new.visits
+      again = again_on c.args.key (length c.args.value.now) c.args.top old mid new c.loop-passed.outcome c.in_ok-outcome.outcome before.again up.kept (λ whole. subst (λ (o : Outcome). MayFollow o c.in_ok-outcome.outcome) whole up.follows);
+      lines = lines_on c.args.key c.args.value.now c.args.top old mid new c.loop-passed.outcome c.in_ok-outcome.outcome before.lines up.kept (λ whole. subst (λ (o : Outcome). MayFollow o c.in_ok-outcome.outcome) whole up.follows);
+      by_lines = goes_on c.args.key (λ root. fits_beside root c.args.key (length c.args.value.now)) (put_lines c.args.key (length c.args.value.now)) c.args.top old mid new c.loop-passed.outcome c.in_ok-outcome.outcome before.by_lines up.kept (λ whole. subst (λ (o : Outcome). MayFollow o c.in_ok-outcome.outcome) whole up.follows);
+      climbing = climb_on old.told old.count c.args.key old.current mid.current new.current c.args.top c.pop.new.self.items c.in-Some.passed c.loop-passed.outcome c.in_ok-outcome.outcome step old.room mid.room new.room old.visits mid.visits new.visits
           (put_local c.args.key c.args.value.now) (subst (λ (path : List Passed). Climbing old.told old.count c.args.key old.current mid.current c.args.top path c.loop-passed.outcome step old.room mid.room old.visits mid.visits) c.in-Some.ensures.items before.climbing)
-          (subst (λ n. IsSafe n c.in-Some.passed.place.expect c.in_ok-outcome-2.outcome) before.call.continues.count up.safe) up.below (λ told. up.settles (told_on told)) up.follows up.room up.few;
-      filling = filling_on old.told old.count c.args.key c.args.value.now old.current mid.current c.args.top c.pop.new.self.items c.in-Some.passed c.loop-passed.outcome c.in_ok-outcome-2.outcome step old.room mid.room old.visits mid.visits
+          (subst (λ n. IsSafe n c.in-Some.passed.place.expect c.in_ok-outcome.outcome) before.call.continues.count up.safe) up.below (λ told. up.settles (told_on told)) up.follows up.room up.few;
+      filling = filling_on old.told old.count c.args.key c.args.value.now old.current mid.current c.args.top c.pop.new.self.items c.in-Some.passed c.loop-passed.outcome c.in_ok-outcome.outcome step old.room mid.room old.visits mid.visits
           (subst (λ (path : List Passed). Climbing old.told old.count c.args.key old.current mid.current c.args.top path c.loop-passed.outcome step old.room mid.room old.visits mid.visits) c.in-Some.ensures.items before.climbing)
           (subst (λ (path : List Passed). Filling old.told old.count c.args.key c.args.value.now old.current c.args.top path c.loop-passed.outcome) c.in-Some.ensures.items before.filling) up.follows (λ told. up.cuts (told_on told));
     }
@@ -102,8 +109,8 @@ returns-in_err-leaf-clause-sound g c = λ told free stands fits.
     let k = subst (λ r. IfErr r (StopsFor (spare_pages old.count old.current free ≤ c.args.top.expect.level) (1000000 < length (tree_rows old.current c.args.top.expect.level c.args.top.page)))) c.in_err-leaf.was h in
     search (rules, k)
 
-pub returns-in_err-outcome-clause-sound : goal.returns-in_err-outcome-clause-sound
-returns-in_err-outcome-clause-sound g c = λ told free stands fits.
+pub returns-in_err-change-clause-sound : goal.returns-in_err-change-clause-sound
+returns-in_err-change-clause-sound g c = λ told free stands fits.
     let old = g.P.Pages.standing c.args.pages.now in
     let mid = g.P.Pages.standing c.descend.new.pages in
     let leaf = c.in_ok-leaf.leaf in
@@ -113,11 +120,11 @@ returns-in_err-outcome-clause-sound g c = λ told free stands fits.
     let many : Type 0 = 1000000 < length (tree_rows old.current c.args.top.expect.level c.args.top.page) in
     let h : IfErr c.put_at.result (StopsFor (spare_pages old.count old.current free ≤ c.args.top.expect.level) (1000000 < length (tree_rows old.current c.args.top.expect.level c.args.top.page))) =
     leaf_stops old.count mid.count old.current mid.current leaf free c.args.top.expect.level many c.put_at.result down.level down.call.continues.count (down.keeps.current told) here fits (c.put_at.ensures.sound told_on) in
-    let k = subst (λ r. IfErr r (StopsFor (spare_pages old.count old.current free ≤ c.args.top.expect.level) (1000000 < length (tree_rows old.current c.args.top.expect.level c.args.top.page)))) c.in_err-outcome.was h in
+    let k = subst (λ r. IfErr r (StopsFor (spare_pages old.count old.current free ≤ c.args.top.expect.level) (1000000 < length (tree_rows old.current c.args.top.expect.level c.args.top.page)))) c.in_err-change.was h in
     search (rules, k)
 
-pub returns-in_err-outcome-2-clause-sound : goal.returns-in_err-outcome-2-clause-sound
-returns-in_err-outcome-2-clause-sound g c = λ told free stands fits.
+pub returns-in_err-outcome-clause-sound : goal.returns-in_err-outcome-clause-sound
+returns-in_err-outcome-clause-sound g c = λ told free stands fits.
     let old = g.P.Pages.standing c.args.pages.now in
     let mid = g.P.Pages.standing c.loop-passed.pages in
     let before = c.loop-passed.invariant in
@@ -127,7 +134,7 @@ returns-in_err-outcome-2-clause-sound g c = λ told free stands fits.
     let sound = subst (λ (n : ℕ). (rest : List ℕ) → StandsAbove mid.current c.in-Some.passed c.loop-passed.outcome rest → FitsHeader n (mid.current 0 0) → IfErr c.settle.result (StopsAbove n mid.current c.in-Some.passed c.loop-passed.outcome rest)) before.call.continues.count (c.settle.ensures.sound told_on) in
     let h : IfErr c.settle.result (StopsFor (spare_pages old.count old.current free ≤ c.args.top.expect.level) (1000000 < length (tree_rows old.current c.args.top.expect.level c.args.top.page))) =
     climb_stops old.told old.count c.args.key old.current mid.current c.args.top c.pop.new.self.items c.in-Some.passed c.loop-passed.outcome step old.room mid.room old.visits mid.visits free c.settle.result (put_local c.args.key c.args.value.now) told climbing c.requires.few_levels stands fits sound in
-    let k = subst (λ r. IfErr r (StopsFor (spare_pages old.count old.current free ≤ c.args.top.expect.level) (1000000 < length (tree_rows old.current c.args.top.expect.level c.args.top.page)))) c.in_err-outcome-2.was h in
+    let k = subst (λ r. IfErr r (StopsFor (spare_pages old.count old.current free ≤ c.args.top.expect.level) (1000000 < length (tree_rows old.current c.args.top.expect.level c.args.top.page)))) c.in_err-outcome.was h in
     search (rules, k)
 
 pub returns-clause-takes : goal.returns-clause-takes
@@ -150,15 +157,15 @@ returns-in_err-leaf-clause-at_top g c =
     let k = subst (λ r. IfErr r Named) c.in_err-leaf.was h in
     search (rules, k)
 
-pub returns-in_err-outcome-clause-at_top : goal.returns-in_err-outcome-clause-at_top
-returns-in_err-outcome-clause-at_top g c =
+pub returns-in_err-change-clause-at_top : goal.returns-in_err-change-clause-at_top
+returns-in_err-change-clause-at_top g c =
     let Named = NamesFull c.args.top.page (c.args.top.expect.level ≡ 3) in
     let h : IfErr c.put_at.result Named = not_full_names c.args.top.page (c.args.top.expect.level ≡ 3) c.put_at.result c.put_at.ensures.not_full in
-    let k = subst (λ r. IfErr r Named) c.in_err-outcome.was h in
+    let k = subst (λ r. IfErr r Named) c.in_err-change.was h in
     search (rules, k)
 
-pub returns-in_err-outcome-2-clause-at_top : goal.returns-in_err-outcome-2-clause-at_top
-returns-in_err-outcome-2-clause-at_top g c =
+pub returns-in_err-outcome-clause-at_top : goal.returns-in_err-outcome-clause-at_top
+returns-in_err-outcome-clause-at_top g c =
     let old = g.P.Pages.standing c.args.pages.now in
     let mid = g.P.Pages.standing c.loop-passed.pages in
     let before = c.loop-passed.invariant in
@@ -167,7 +174,7 @@ returns-in_err-outcome-2-clause-at_top g c =
     let Named = NamesFull c.args.top.page (c.args.top.expect.level ≡ 3) in
     let h : IfErr c.settle.result Named =
     climb_names old.told old.count c.args.key old.current mid.current c.args.top c.pop.new.self.items c.in-Some.passed c.loop-passed.outcome step old.room mid.room old.visits mid.visits c.settle.result climbing c.requires.few_levels c.settle.ensures.at in
-    let k = subst (λ r. IfErr r Named) c.in_err-outcome-2.was h in
+    let k = subst (λ r. IfErr r Named) c.in_err-outcome.was h in
     search (rules, k)
 
 pub returns-in_err-leaf-clause-needed : goal.returns-in_err-leaf-clause-needed
@@ -181,8 +188,8 @@ returns-in_err-leaf-clause-needed g c = λ told free stands fits.
     let k = subst (λ r. IfErr r Must) c.in_err-leaf.was h in
     search (rules, k)
 
-pub returns-in_err-outcome-clause-needed : goal.returns-in_err-outcome-clause-needed
-returns-in_err-outcome-clause-needed g c = λ told free stands fits.
+pub returns-in_err-change-clause-needed : goal.returns-in_err-change-clause-needed
+returns-in_err-change-clause-needed g c = λ told free stands fits.
     let old = g.P.Pages.standing c.args.pages.now in
     let mid = g.P.Pages.standing c.descend.new.pages in
     let leaf = c.in_ok-leaf.leaf in
@@ -191,11 +198,11 @@ returns-in_err-outcome-clause-needed g c = λ told free stands fits.
     let Must = MustCut old.current c.args.top.expect.level c.args.top.page c.args.key c.args.value.now in
     let h : IfErr c.put_at.result Must =
     leaf_needed old.told old.count c.args.key c.args.value.now old.current mid.current c.args.top leaf c.descend.new.path.items free c.put_at.result down.level down.leads told (down.keeps.current told) stands (c.put_at.ensures.needed told_on) in
-    let k = subst (λ r. IfErr r Must) c.in_err-outcome.was h in
+    let k = subst (λ r. IfErr r Must) c.in_err-change.was h in
     search (rules, k)
 
-pub returns-in_err-outcome-2-clause-needed : goal.returns-in_err-outcome-2-clause-needed
-returns-in_err-outcome-2-clause-needed g c = λ told free stands fits.
+pub returns-in_err-outcome-clause-needed : goal.returns-in_err-outcome-clause-needed
+returns-in_err-outcome-clause-needed g c = λ told free stands fits.
     let old = g.P.Pages.standing c.args.pages.now in
     let mid = g.P.Pages.standing c.loop-passed.pages in
     let before = c.loop-passed.invariant in
@@ -208,5 +215,13 @@ returns-in_err-outcome-2-clause-needed g c = λ told free stands fits.
     let h : IfErr c.settle.result Must =
     climb_needed old.told old.count c.args.key c.args.value.now old.current mid.current c.args.top c.pop.new.self.items c.in-Some.passed c.loop-passed.outcome step old.room mid.room old.visits mid.visits free c.settle.result (put_local c.args.key c.args.value.now) told
     climbing filling c.requires.few_levels stands fits sound (c.settle.ensures.needed told_on) in
-    let k = subst (λ r. IfErr r Must) c.in_err-outcome-2.was h in
+    let k = subst (λ r. IfErr r Must) c.in_err-outcome.was h in
     search (rules, k)
+
+pub returns-clause-fresh : goal.returns-clause-fresh
+returns-clause-fresh g c = λ told tree.
+    let old = g.P.Pages.standing c.args.pages.now in
+    let mid = g.P.Pages.standing c.descend.new.pages in
+    let down = c.in_ok-leaf.ensures in
+    let told_on = subst IsTrue (sym down.call.continues.told) told in
+    fresh_under c.args.key c.args.top c.in_ok-leaf.leaf c.descend.new.path.items old mid c.in_ok-change.change.fresh told tree down.leads down.level (down.keeps.current told) (c.in_ok-change.ensures.fresh told_on)

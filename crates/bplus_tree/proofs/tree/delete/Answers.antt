@@ -1,6 +1,8 @@
-use Rattle.std.proofs.Common.{rules, IfErr, IsTrue, sym, subst}
+use Rattle.std.proofs.Common.{rules, arith, ◌+◌, ◌*◌, IfErr, IsTrue, sym, subst}
 use Rattle.page_alloc.specs.Stops.{IsFault}
 use Rattle.bplus_tree.proofs.RootLaws.{stands_on}
+use Rattle.bplus_tree.specs.LineCosts.{keeps_without, delete_lines}
+use Rattle.bplus_tree.proofs.LineCostLaws.{goes_later}
 use Rattle.bplus_tree.proofs.tree.delete.Goals as goal
 
 pub returns-in_err-delete_row-clause-sound : goal.returns-in_err-delete_row-clause-sound
@@ -13,3 +15,12 @@ returns-in_err-delete_row-clause-sound g c = λ told rows used free stands.
     (stands_on old.count mid.count old.current mid.current c.args.root.now rows used free first.call.continues.count (first.keeps.current told) stands) in
     let k = subst (λ r. IfErr r IsFault) c.in_err-delete_row.was h in
     search (rules, k)
+
+pub returns-clause-by_lines : goal.returns-clause-by_lines
+returns-clause-by_lines g c = λ told.
+    let mid = g.P.Pages.standing c.has_key.new.pages in
+    let new = g.P.Pages.standing c.delete_row.new.pages in
+    let first = c.in_ok-found.ensures in
+    let root = c.args.root.now in
+    goes_later root c.args.key (keeps_without c.args.key) delete_lines (10 * root.levels + 29) (10 * root.levels + 18) (20 * root.levels + 47) (g.P.Pages.standing c.args.pages.now) mid new
+    (first.keeps.current told) first.call.continues.count first.keeps.room first.nothing (first.cost told) (omega arith) (c.in_ok-delete_row.ensures.by_lines (subst IsTrue (sym first.call.continues.told) told))

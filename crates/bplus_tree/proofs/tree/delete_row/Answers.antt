@@ -5,6 +5,8 @@ use Rattle.rows.specs.Rows.{row_delete}
 use Rattle.bplus_tree.specs.declared.outcome.Outcome.TheVariants.{Whole, Short, Alone}
 use Rattle.bplus_tree.proofs.Storing.{root_edited}
 use Rattle.bplus_tree.proofs.PathLaws.{at_root}
+use Rattle.bplus_tree.specs.LineCosts.{keeps_without, delete_lines}
+use Rattle.bplus_tree.proofs.LineCostLaws.{goes_root}
 use Rattle.bplus_tree.proofs.tree.delete_row.Goals as goal
 
 pub returns-in-Alone-clause-rows : goal.returns-in-Alone-clause-rows
@@ -38,3 +40,25 @@ returns-in_err-child-clause-sound g c = λ told rows used free stands.
     c.delete_in.ensures.sound told free (root_stands old.count _ old.current c.args.root.now c.top_of-top.result rows used free c.page_count.ensures.count c.top_of-top.ensures stands) stands.header in
     let k = subst (λ r. IfErr r IsFault) c.in_err-child.was h in
     search (rules, k)
+
+pub returns-in-Whole-clause-by_lines : goal.returns-in-Whole-clause-by_lines
+returns-in-Whole-clause-by_lines g c = λ told rows used rooted ok.
+    let w = goes_root c.args.root.now c.top_of-top.result _ c.args.key (keeps_without c.args.key) delete_lines (g.P.Pages.standing c.args.pages.now) (g.P.Pages.standing c.delete_in.new.pages) Whole c.page_count.ensures.count c.top_of-top.ensures c.requires.some_levels
+    (rw c.in-Whole.is at c.in_ok-child.ensures.by_lines) told rows used rooted ok in
+    w.1
+
+pub returns-in-Short-clause-by_lines : goal.returns-in-Short-clause-by_lines
+returns-in-Short-clause-by_lines g c = λ told rows used rooted ok.
+    let w = goes_root c.args.root.now c.top_of-top.result _ c.args.key (keeps_without c.args.key) delete_lines (g.P.Pages.standing c.args.pages.now) (g.P.Pages.standing c.delete_in.new.pages) Short c.page_count.ensures.count c.top_of-top.ensures c.requires.some_levels
+    (rw c.in-Short.is at c.in_ok-child.ensures.by_lines) told rows used rooted ok in
+    let never = w.0 in absurd (cc)
+
+pub returns-in-Alone-clause-by_lines : goal.returns-in-Alone-clause-by_lines
+returns-in-Alone-clause-by_lines g c = λ told rows used rooted ok.
+    let w = goes_root c.args.root.now c.top_of-top.result _ c.args.key (keeps_without c.args.key) delete_lines (g.P.Pages.standing c.args.pages.now) (g.P.Pages.standing c.delete_in.new.pages) (Alone c.in-Alone.child) c.page_count.ensures.count c.top_of-top.ensures c.requires.some_levels
+    (rw c.in-Alone.is at c.in_ok-child.ensures.by_lines) told rows used rooted ok in
+    let never = w.0 in absurd (cc)
+
+pub returns-in-Cut-clause-by_lines : goal.returns-in-Cut-clause-by_lines
+returns-in-Cut-clause-by_lines g c = λ told rows used rooted ok.
+    let never = c.in_ok-child.ensures.uncut _ _ c.in-Cut.is in absurd never

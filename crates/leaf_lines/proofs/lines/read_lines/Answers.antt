@@ -5,7 +5,7 @@ use Rattle.line_pages.specs.Bytes.{bytes_of}
 use Rattle.line_pages.proofs.NumberLaws.{same_then, same_part}
 use Rattle.line_pages.proofs.StandingLaws.{ReadsPage-refl, ReadsPage-trans, one_read, still_open, KeepsPages-then, KeepsPages-refl}
 use Rattle.line_pages.proofs.CostLaws.{Costs-trans, Costs-weaker}
-use Rattle.leaf_lines.proofs.CostLaws.{costs_none, costs_read}
+use Rattle.page_alloc.proofs.CostLaws.{costs_none, costs_read}
 use Rattle.leaf_lines.proofs.LineLaws.{read_more, read_before, read_after, none_begun}
 use Rattle.leaf_lines.proofs.lines.read_lines.Goals as goal
 

@@ -1,4 +1,4 @@
-use Rattle.std.proofs.Common.{◌≡◌, ◌∙◌, IsTrue, arith, sym, subst, rules}
+use Rattle.std.proofs.Common.{◌≡◌, ◌∙◌, IsTrue, arith, sym, subst, rules, length}
 use Rattle.line_pages.specs.Bytes.{bytes_of}
 use Rattle.line_pages.proofs.NumberLaws.{u64_at-same}
 use Rattle.line_pages.proofs.CostLaws.{Costs-trans, Costs-weaker}
@@ -6,6 +6,7 @@ use Rattle.line_pages.proofs.StandingLaws.{KeepsPages-trans, KeepsPages-stops, K
 use Rattle.page_format.specs.Node.{entry_count}
 use Rattle.page_alloc.proofs.WrittenLaws.{changed_most}
 use Rattle.leaf_lines.proofs.PutLaws.{inserted}
+use Rattle.leaf_lines.proofs.FitLaws.{insert_done, insert_left}
 use Rattle.leaf_lines.proofs.put.insert_row.Goals as goal
 
 pub returns-clause-call : goal.returns-clause-call
@@ -57,3 +58,20 @@ returns-in_err-write_spread-clause-call g c =
     let a = c.in_ok-read_header.ensures in
     let b = c.in_ok-read_spread.ensures in
     KeepsPages-stops _ (search rules) (KeepsPages-trans (KeepsPages-trans a.call b.call) c.in_err-write_spread.ensures.call)
+
+pub returns-clause-when : goal.returns-clause-when
+returns-clause-when g c = λ told well.
+    let w = bytes_of (g.P.Pages.standing c.args.pages.now).current c.args.page in
+    insert_done c.args.expect.now c.args.key c.args.at c.page_word-count.result c.page_word-heap.result (length c.args.value.now) w c.read_header.new.into (c.in_ok-read_header.ensures.known told)
+    c.page_word-count.ensures.value c.page_word-heap.ensures.value (c.requires.spot told well) (c.has_room.ensures.room c.if-not-has_room.false)
+
+pub returns-then-not-has_room-clause-when : goal.returns-then-not-has_room-clause-when
+returns-then-not-has_room-clause-when g c = λ told well.
+    let w = bytes_of (g.P.Pages.standing c.args.pages.now).current c.args.page in
+    insert_left c.args.expect.now c.args.key c.args.at c.page_word-count.result c.page_word-heap.result (length c.args.value.now) w c.read_header.new.into (c.in_ok-read_header.ensures.known told)
+    c.page_word-count.ensures.value c.page_word-heap.ensures.value c.requires.level well (c.requires.spot told well) (c.has_room.ensures.none c.if-not-has_room.true)
+
+pub write_spread-requires-clause-room : goal.write_spread-requires-clause-room
+write_spread-requires-clause-room g c =
+    let most = changed_most c.copy_from.new.self c.lay_row.new.page in
+    omega (arith, most, c.requires.room, c.in_ok-read_header.ensures.reads.room, c.in_ok-read_spread.ensures.reads.room)

@@ -1,4 +1,4 @@
-use Rattle.std.proofs.Common.{◌+◌, ◌-◌, List, ℕ, IsTrue, arith, sym, subst, length, rules}
+use Rattle.std.proofs.Common.{◌+◌, ◌-◌, ◌*◌, ◌∙◌, List, ℕ, IsTrue, ap, arith, sym, subst, length, rules}
 use Rattle.ssd_model.specs.Page.{Same}
 use Rattle.leaf_lines.specs.Spread.{AlikeBeyond}
 use Rattle.line_pages.proofs.CostLaws.{Costs-trans, Costs-weaker}
@@ -7,6 +7,9 @@ use Rattle.page_alloc.proofs.WrittenLaws.{changed_most}
 use Rattle.leaf_lines.proofs.CountLaws.{lays_beyond}
 use Rattle.leaf_lines.proofs.SetLaws.{value_beyond, was_set}
 use Rattle.leaf_lines.proofs.SwapLaws.{was_swapped}
+use Rattle.leaf_lines.proofs.FitLaws.{over_few, over_same, over_done, over_left}
+use Rattle.line_pages.specs.Lines.{Lines}
+use Rattle.line_pages.specs.Bytes.{bytes_of, u16_at}
 use Rattle.leaf_lines.proofs.put.put_over.Goals as goal
 
 pub returns-then-has_length-clause-call : goal.returns-then-has_length-clause-call
@@ -138,3 +141,46 @@ pub returns-then-not-can_swap-clause-call : goal.returns-then-not-can_swap-claus
 returns-then-not-can_swap-clause-call g c =
     let a = c.in_ok-read_header.ensures in
     KeepsPages-then a.call c.in_ok-slot.ensures.call
+
+pub returns-then-has_length-clause-when : goal.returns-then-has_length-clause-when
+returns-then-has_length-clause-when g c = λ told well.
+    let w = bytes_of (g.P.Pages.standing c.args.pages.now).current c.args.page in
+    let a = c.in_ok-read_header.ensures in
+    let told1 = subst IsTrue (sym a.call.continues.told) told in
+    let size = c.in_ok-slot.ensures.size told1 ∙ ap (λ (lines : Lines). u16_at (bytes_of lines c.args.page) (64 + 4 * c.args.at + 2)) (a.reads.current told) in
+    over_same c.args.expect.now c.args.key c.args.at c.in_ok-slot.slot.size (length c.args.value.now) w c.requires.level well (c.requires.spot told well) size (c.has_length.ensures.size c.if-has_length.true)
+
+pub returns-then-at-ge1008-clause-when : goal.returns-then-at-ge1008-clause-when
+returns-then-at-ge1008-clause-when g c = λ told well.
+    over_few c.args.expect.now c.args.key c.args.at (bytes_of (g.P.Pages.standing c.args.pages.now).current c.args.page) c.requires.level well (c.requires.spot told well) (omega arith)
+
+pub returns-clause-when : goal.returns-clause-when
+returns-clause-when g c = λ told well.
+    let w = bytes_of (g.P.Pages.standing c.args.pages.now).current c.args.page in
+    let a = c.in_ok-read_header.ensures in
+    let told1 = subst IsTrue (sym a.call.continues.told) told in
+    let size = c.in_ok-slot.ensures.size told1 ∙ ap (λ (lines : Lines). u16_at (bytes_of lines c.args.page) (64 + 4 * c.args.at + 2)) (a.reads.current told) in
+    let is = c.if-not-can_swap.false in
+    let swap = c.can_swap.ensures in
+    over_done c.args.expect.now c.args.key c.args.at c.page_word-count.result c.page_word-heap.result c.in_ok-slot.slot.size (length c.args.value.now) w c.read_header.new.into (a.known told)
+    c.page_word-count.ensures.value c.page_word-heap.ensures.value c.requires.level well (c.requires.spot told well) size (swap.other is) (swap.full is) (swap.room is)
+
+pub returns-then-not-can_swap-clause-when : goal.returns-then-not-can_swap-clause-when
+returns-then-not-can_swap-clause-when g c = λ told well.
+    let w = bytes_of (g.P.Pages.standing c.args.pages.now).current c.args.page in
+    let a = c.in_ok-read_header.ensures in
+    let told1 = subst IsTrue (sym a.call.continues.told) told in
+    let place = c.in_ok-slot.ensures.place told1 ∙ ap (λ (lines : Lines). u16_at (bytes_of lines c.args.page) (64 + 4 * c.args.at)) (a.reads.current told) in
+    let size = c.in_ok-slot.ensures.size told1 ∙ ap (λ (lines : Lines). u16_at (bytes_of lines c.args.page) (64 + 4 * c.args.at + 2)) (a.reads.current told) in
+    over_left c.args.expect.now c.args.key c.args.at c.page_word-count.result c.page_word-heap.result c.in_ok-slot.slot.place c.in_ok-slot.slot.size (length c.args.value.now) w c.read_header.new.into (a.known told)
+    c.page_word-count.ensures.value c.page_word-heap.ensures.value c.requires.level well (c.requires.spot told well) place size (c.has_length.ensures.none c.if-has_length.false) (c.can_swap.ensures.none c.if-not-can_swap.true)
+
+pub write_spread-requires-clause-room : goal.write_spread-requires-clause-room
+write_spread-requires-clause-room g c =
+    let most = changed_most c.copy_from.new.self c.set_part.new.self in
+    omega (arith, most, c.requires.room, c.in_ok-read_header.ensures.reads.room, c.in_ok-slot.ensures.reads.room, c.in_ok-read_spread.ensures.reads.room)
+
+pub write_spread-requires-2-clause-room : goal.write_spread-requires-2-clause-room
+write_spread-requires-2-clause-room g c =
+    let most = changed_most c.copy_from-2.new.self c.lay_row.new.page in
+    omega (arith, most, c.requires.room, c.in_ok-read_header.ensures.reads.room, c.in_ok-slot.ensures.reads.room, c.in_ok-read_spread-2.ensures.reads.room)

@@ -1,6 +1,6 @@
 use Rattle.std.proofs.Common.{◌+◌, ◌*◌, arith}
 use Rattle.line_pages.proofs.CostLaws.{Costs-trans}
-use Rattle.leaf_lines.proofs.CostLaws.{costs_half}
+use Rattle.page_alloc.proofs.CostLaws.{costs_half}
 use Rattle.line_pages.proofs.StandingLaws.{ReadsPage-trans}
 use Rattle.leaf_lines.proofs.put.read_slot.Goals as goal
 

@@ -1,5 +1,6 @@
-use Rattle.std.proofs.Common.{rules, not, ap, refl, length, IsTrue, sym, subst, ◌∙◌}
-use Rattle.table_catalog.specs.Catalog.{tables}
+use Rattle.std.proofs.Common.{◌≡◌, ◌<◌, arith, rules, not, ap, refl, length, Some, IsTrue, sym, subst, ◌∙◌}
+use Rattle.table_catalog.specs.declared.entry.Place.{Place}
+use Rattle.table_catalog.specs.Catalog.{entries, place_of, tables}
 use Rattle.rows.specs.Tables.{is_known}
 use Rattle.table_store.specs.Putting.{stored_of, is_no_table}
 use Rattle.table_store.proofs.CreateLaws.{unknown_by, present_is}
@@ -59,3 +60,11 @@ returns-in-Some-clause-again g c = λ told.
     let found = c.in_ok-find_entry.ensures in
     again_named c.args.limits.now c.args.name.now c.args.key (length c.args.value.now) c.in-Some.place old mid (g.P.Pages.standing c.put_at.new.pages) c.put_at.result (sym (found.place told) ∙ c.in-Some.is) (rw c.in-Some.is at found.fits)
     (found.reads.current told) found.call.continues.count (nothing_read found.reads) (c.put_at.ensures.again (subst IsTrue (sym found.call.continues.told) told))
+
+pub returns-in-Some-clause-once : goal.returns-in-Some-clause-once
+returns-in-Some-clause-once g c = λ told below.
+    let old = g.P.Pages.standing c.args.pages.now in
+    let there : place_of c.args.name.now 0 (entries old.current) ≡ Some c.in-Some.place = sym (c.in_ok-find_entry.ensures.place told) ∙ c.in-Some.is in
+    let those : below.0 ≡ c.in-Some.place = let is = below.1 in cc in
+    let few = c.put_at.ensures.once (subst (λ (p : Place). p.entry.rows < c.args.limits.now.rows) those below.2) in
+    omega (arith, few, c.in_ok-find_entry.ensures.few)

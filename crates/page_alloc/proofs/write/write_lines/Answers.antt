@@ -6,9 +6,9 @@ use Rattle.page_alloc.specs.Written.{Differs, line_part, changed_in}
 use Rattle.page_alloc.proofs.WrittenLaws.{changed_none, visited_on}
 use Rattle.page_alloc.proofs.TouchedLaws.{only_refl, only_then}
 use Rattle.line_pages.proofs.CostLaws.{Costs-trans, Costs-weaker}
-use Rattle.leaf_lines.proofs.CostLaws.{costs_none}
-use Rattle.leaf_lines.proofs.LineLaws.{putting_start, putting_step, changed_next, still_writing}
-use Rattle.leaf_lines.proofs.lines.write_lines.Goals as goal
+use Rattle.page_alloc.proofs.CostLaws.{costs_none}
+use Rattle.page_alloc.proofs.LineLaws.{putting_start, putting_step, changed_next, still_writing}
+use Rattle.page_alloc.proofs.write.write_lines.Goals as goal
 
 pub loop-line-init : goal.loop-line-init
 loop-line-init g c =

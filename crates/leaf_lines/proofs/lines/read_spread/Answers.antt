@@ -1,11 +1,12 @@
-use Rattle.std.proofs.Common.{◌*◌, IsTrue, sym, subst, rules}
+use Rattle.std.proofs.Common.{◌*◌, IsTrue, arith, sym, subst, rules}
 use Rattle.ssd_model.specs.Page.{Same}
 use Rattle.line_pages.specs.Lines.{Lines}
 use Rattle.line_pages.specs.Bytes.{bytes_of}
 use Rattle.line_pages.proofs.CostLaws.{Costs-trans}
 use Rattle.line_pages.proofs.StandingLaws.{ReadsPage-trans, KeepsPages-trans, KeepsPages-stops, KeepsPages-then}
+use Rattle.line_pages.proofs.NumberLaws.{same_then, same_part}
 use Rattle.leaf_lines.proofs.SpreadLaws.{alike_on}
-use Rattle.leaf_lines.proofs.put.read_spread.Goals as goal
+use Rattle.leaf_lines.proofs.lines.read_spread.Goals as goal
 
 pub returns-clause-reads : goal.returns-clause-reads
 returns-clause-reads g c = ReadsPage-trans c.in_ok-read_lines.ensures.reads c.in_ok-read_lines-2.ensures.reads
@@ -31,3 +32,10 @@ pub returns-clause-call : goal.returns-clause-call
 returns-clause-call g c =
     let a = c.in_ok-read_lines.ensures in
     KeepsPages-then a.call c.in_ok-read_lines-2.ensures.call
+
+pub returns-clause-header : goal.returns-clause-header
+returns-clause-header g c =
+    let s = c.args.spread.now in
+    let order = c.requires.order in
+    same_then 0 64 c.args.into.now c.read_lines.new.into c.read_lines-2.new.into (same_part 0 64 0 (64 * s.slots) _ _ c.in_ok-read_lines.ensures.before (omega arith) (omega (arith, order.some)))
+    (same_part 0 64 0 (64 * s.heap) _ _ c.in_ok-read_lines-2.ensures.before (omega arith) (omega (arith, order.some, order.first, order.second)))

@@ -3,26 +3,25 @@ use Rattle.line_pages.specs.Bytes.{bytes_of}
 use Rattle.line_pages.proofs.CostLaws.{Costs-trans}
 use Rattle.line_pages.proofs.StandingLaws.{KeepsPages-trans, KeepsPages-stops, KeepsPages-then}
 use Rattle.page_alloc.specs.Written.{Differs}
-use Rattle.page_alloc.proofs.WrittenLaws.{changed_few, changed_most}
 use Rattle.page_alloc.proofs.TouchedLaws.{only_then}
 use Rattle.leaf_lines.proofs.SpreadLaws.{stands_after, known_later}
 use Rattle.leaf_lines.proofs.CountLaws.{spread_count}
-use Rattle.leaf_lines.proofs.put.write_spread.Goals as goal
+use Rattle.leaf_lines.proofs.lines.write_spread.Goals as goal
 
 pub write_lines-requires-clause-room : goal.write_lines-requires-clause-room
-write_lines-requires-clause-room g c = let few = changed_few c.args.old.now c.args.new.now 0 1 in omega (arith, few, c.requires.room)
+write_lines-requires-clause-room g c =
+    let all = spread_count c.args.spread.now c.args.old.now c.args.new.now c.requires.order c.requires.alike c.byte.ensures.size c.byte-2.ensures.size in
+    omega (arith, all, c.requires.room)
 
 pub write_lines-requires-2-clause-room : goal.write_lines-requires-2-clause-room
 write_lines-requires-2-clause-room g c =
-    let all = spread_count c.args.spread.now c.args.old.now c.args.new.now c.requires.order c.requires.alike c.byte.ensures.size c.byte-2.ensures.size in
-    let most = changed_most c.args.old.now c.args.new.now in
-    omega (arith, all, most, c.requires.room, c.in_ok-write_lines.ensures.room)
+    let all = spread_count c.args.spread.now c.args.old.now c.args.new.now c.requires.order c.requires.alike c.write_lines.ensures.size_old c.write_lines.ensures.size in
+    omega (arith, all, c.requires.room, c.in_ok-write_lines.ensures.room)
 
 pub write_lines-requires-3-clause-room : goal.write_lines-requires-3-clause-room
 write_lines-requires-3-clause-room g c =
-    let all = spread_count c.args.spread.now c.args.old.now c.args.new.now c.requires.order c.requires.alike c.byte.ensures.size c.byte-2.ensures.size in
-    let most = changed_most c.args.old.now c.args.new.now in
-    omega (arith, all, most, c.requires.room, c.in_ok-write_lines.ensures.room, c.in_ok-write_lines-2.ensures.room)
+    let all = spread_count c.args.spread.now c.args.old.now c.args.new.now c.requires.order c.requires.alike c.write_lines.ensures.size_old c.write_lines.ensures.size in
+    omega (arith, all, c.requires.room, c.in_ok-write_lines.ensures.room, c.in_ok-write_lines-2.ensures.room)
 
 pub returns-in_err-write_lines-3-clause-call : goal.returns-in_err-write_lines-3-clause-call
 returns-in_err-write_lines-3-clause-call g c =
@@ -59,7 +58,7 @@ returns-clause-stands g c = λ told known.
 
 pub returns-clause-room : goal.returns-clause-room
 returns-clause-room g c =
-    let all = spread_count c.args.spread.now c.args.old.now c.args.new.now c.requires.order c.requires.alike c.byte.ensures.size c.byte-2.ensures.size in
+    let all = spread_count c.args.spread.now c.args.old.now c.args.new.now c.requires.order c.requires.alike c.write_lines.ensures.size_old c.write_lines.ensures.size in
     omega (arith, all, c.in_ok-write_lines.ensures.room, c.in_ok-write_lines-2.ensures.room, c.in_ok-write_lines-3.ensures.room)
 
 pub returns-clause-touches : goal.returns-clause-touches

@@ -1,9 +1,9 @@
 use Rattle.std.proofs.Common.{List, ℕ, arith, sym, subst}
 use Rattle.ssd_model.specs.Page.{Same}
 use Rattle.line_pages.specs.Bytes.{bytes_of}
-use Rattle.leaf_lines.proofs.CostLaws.{costs_read}
+use Rattle.page_alloc.proofs.CostLaws.{costs_read}
 use Rattle.leaf_lines.proofs.LineLaws.{read_more}
-use Rattle.leaf_lines.proofs.put.read_header.Goals as goal
+use Rattle.leaf_lines.proofs.lines.read_header.Goals as goal
 
 pub returns-clause-known : goal.returns-clause-known
 returns-clause-known g c = λ told.

@@ -1,7 +1,7 @@
 use Rattle.std.proofs.Common.{◌+◌, ◌∙◌, drop, ap, arith}
 use Rattle.page_format.specs.Node.{slots, bytes_used}
 use Rattle.page_format.proofs.CheckLemmas.{slots_end, used_step}
-use Rattle.page_format.proofs.check.used.Goals as goal
+use Rattle.page_format.proofs.check.slots_used.Goals as goal
 
 pub loop-i-preserved : goal.loop-i-preserved
 loop-i-preserved c = record {

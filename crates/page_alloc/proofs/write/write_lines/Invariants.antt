@@ -6,8 +6,8 @@ use Rattle.line_pages.specs.Bytes.{bytes_of}
 use Rattle.line_pages.specs.Touch.{begins}
 use Rattle.line_pages.specs.Cost.{Costs}
 use Rattle.page_alloc.specs.Written.{Visited, Differs, WritesOnly, changed_in}
-use Rattle.leaf_lines.proofs.LineLaws.{Putting}
-use Rattle.leaf_lines.proofs.lines.write_lines.Given as goal
+use Rattle.page_alloc.proofs.LineLaws.{Putting}
+use Rattle.page_alloc.proofs.write.write_lines.Given as goal
 
 abbrev pub invariant-loop-line : goal.invariant-loop-line
 invariant-loop-line g l = record {
