@@ -11,3 +11,5 @@ pub mod StartLaws
 pub mod DrainLaws
 pub mod DrainFacts
 pub mod LengthenedFacts
+pub mod BlocksLaws
+pub mod BlocksFacts

@@ -26,7 +26,7 @@ use Rattle.log_laws.proofs.BehindLaws.{none_behind, behind_facts, behind_done, b
 use Rattle.log_laws.proofs.TailLaws.{tail_facts, tail_done, not_logged_grouped}
 use Rattle.log_laws.proofs.EndFacts.{end_facts, end_done}
 
-record_entries-append : (cs : List Change) (c : Change) → record_entries (cs ++ c ∷ []) ≡ record_entries cs ++ item (write c) ∷ []
+pub record_entries-append : (cs : List Change) (c : Change) → record_entries (cs ++ c ∷ []) ≡ record_entries cs ++ item (write c) ∷ []
 record_entries-append [] c = refl
 record_entries-append (x ∷ cs) c = ap (λ es. item (write x) ∷ es) (record_entries-append cs c)
 

@@ -13,6 +13,7 @@ pub mod Shipped
 pub mod Untouched
 pub mod Seen
 pub mod Drain
+pub mod Blocks
 pub mod Pending
 pub mod Copies
 pub mod Shown

@@ -1,0 +1,4 @@
+pub mod Stops
+pub mod Copies
+pub mod Reading
+pub mod Drains
