@@ -1,0 +1,14 @@
+pub mod CoarseLaws
+pub mod FitLaws
+pub mod OpenLaws
+pub mod PrintLaws
+pub mod Rows
+pub mod Rules
+pub mod RunLaws
+pub mod SettleLaws
+pub mod ShowLaws
+pub mod SoundLaws
+pub mod StandLaws
+pub mod StepLaws
+pub mod TouchLaws
+pub mod Walks

@@ -1,0 +1,5 @@
+pub mod GeneratedWalks
+pub mod Laws
+pub mod Rows
+pub mod Walks
+pub mod WrittenWalks
