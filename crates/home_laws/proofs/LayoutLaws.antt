@@ -70,4 +70,5 @@ are_placed g = record {
   frame_lines = frame_apart g;
   log_blocks = ring_block_apart g;
   homes = home_apart g;
+  home_blocks = λ p q same. omega arith;
 }

@@ -2,6 +2,7 @@ pub mod CopyFacts
 pub mod FlushedFacts
 pub mod WriteFacts
 pub mod MovesFacts
+pub mod BlocksMoves
 pub mod KeptCopyFacts
 pub mod KeptLogFacts
 pub mod KeptPlaceFacts

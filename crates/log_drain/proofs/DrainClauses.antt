@@ -99,24 +99,25 @@ raised_none : (g : Sizes) (at : Offsets) (s : State) → IsLogOf g at s → IsLo
 raised_none g at s is = record { sizes = is.sizes; start = is.start; drained = is.drained ∙ (omega arith); tail = is.tail }
 
 -- What is known where a drain makes its calls: how many blocks, and where the log in memory stands behind them.
-record Drained {T E : Type 0} (g : Sizes) (at to : Offsets) (blocks : List (List ℕ)) (a b : Standing) (r : Result T E) : Type 0 where
+record Drained {T E : Type 0} (g : Sizes) (most : ℕ) (at to : Offsets) (blocks : List (List ℕ)) (a b : Standing) (r : Result T E) : Type 0 where
   pub makes : MakesAll (drain_makes g at.drained blocks) a b r
   pub copied : IsTrue a.told → AreCopied g at.drained blocks (now a)
   pub aligned : at.drained % 64 ≡ 0
   pub lines : at.drained + 64 * length blocks ≤ at.tail
   pub room : at.drained + 64 * length blocks ≤ floor64 at.start + 64 * ring_blocks g
   pub few : length blocks ≤ ring_blocks g
+  pub bound : length blocks ≤ most
   pub reached : OnOk r (to ≡ raised (length blocks) at)
 
 -- The log lines of every image are the same.
-drained_lines : {T E : Type 0} {a b : Standing} {r : Result T E} (g : Sizes) (at to : Offsets) (blocks : List (List ℕ)) → Drained g at to blocks a b r
+drained_lines : {T E : Type 0} {a b : Standing} {r : Result T E} (g : Sizes) (most : ℕ) (at to : Offsets) (blocks : List (List ℕ)) → Drained g most at to blocks a b r
     → IsTrue a.told → IsLogOf g at (now a) → CanPut (now a) 0 → KeepsLines g to a b r
-drained_lines {a = a} {b = b} {r = r} g at to [] d told is can = record {
+drained_lines {a = a} {b = b} {r = r} g most at to [] d told is can = record {
   part = Moments-map (λ mid same i left. lines_durable (now a) 0 can i (subst (λ (s : State). Leaves s i) same left)) (d.makes.part told);
   whole = OnOk_both r (λ reached same. subst (λ (x : Offsets). IsLogOf g x (now b)) (sym reached)
       (subst (λ (s : State). IsLogOf g (raised 0 at) s) (sym same) (raised_none g at (now a) is))) d.reached (d.makes.whole told);
 }
-drained_lines {a = a} {b = b} {r = r} g at to (x ∷ xs) d told is can =
+drained_lines {a = a} {b = b} {r = r} g most at to (x ∷ xs) d told is can =
     let drains : CanDrainAll (now a) (x ∷ xs) = can_drain g at (x ∷ xs) (now a) is can d.aligned d.lines d.room d.few (d.copied told) in
     let makes : MakesAll (drain_all_calls (super_of (current (now a))).sizes (super_of (current (now a))).drained (x ∷ xs)) a b r = drains_at g at (x ∷ xs) is (record { whole = d.makes.whole; part = d.makes.part }) in
     record {
@@ -126,27 +127,29 @@ drained_lines {a = a} {b = b} {r = r} g at to (x ∷ xs) d told is can =
     }
 
 -- The facts hold.
-drained_keeps : {T E : Type 0} {a d : Standing} {r : Result T E} (g : Sizes) (at to : Offsets) (blocks : List (List ℕ)) → Drained g at to blocks a d r
-    → (b : Bookkeeping) → IsTrue a.told → IsLogOf g at (now a) → StoreFacts b (now a) → b.changing ≡ None → KeepsRaised g at.drained to b a d r
-drained_keeps {a = a} {d = d} {r = r} g at to [] drained b told is facts still =
-    let lines : KeepsLines g to a d r = drained_lines g at to [] drained told is (facts_can_put_none b (now a) facts still) in
+drained_keeps : {T E : Type 0} {a d : Standing} {r : Result T E} (g : Sizes) (most : ℕ) (at to : Offsets) (blocks : List (List ℕ)) → Drained g most at to blocks a d r
+    → (b : Bookkeeping) → IsTrue a.told → IsLogOf g at (now a) → StoreFacts b (now a) → b.changing ≡ None → KeepsRaised g at.drained most to b a d r
+drained_keeps {a = a} {d = d} {r = r} g most at to [] drained b told is facts still =
+    let lines : KeepsLines g to a d r = drained_lines g most at to [] drained told is (facts_can_put_none b (now a) facts still) in
     record {
       to = at.drained + 64 * 0;
+      bound = omega arith;
       part = Moments-map (λ mid same. subst (λ (s : State). StoreFacts (changing_to b Gate.drained at.drained (at.drained + 64 * 0) b.committed) s) (sym same)
           (facts_changing b (now a) facts still Gate.drained tt at.drained (at.drained + 64 * 0) is.drained b.committed (λ p l w. refl))) (drained.makes.part told);
       whole = OnOk_give r (λ same. subst (λ (s : State). StoreFacts b s) (sym same) facts) (drained.makes.whole told);
       reached = OnOk_give r (λ reached. ap (λ (x : Offsets). x.drained) reached) drained.reached;
       log_is = lines.whole;
     }
-drained_keeps {a = a} {d = d} {r = r} g at to (x ∷ xs) drained b told is facts still =
+drained_keeps {a = a} {d = d} {r = r} g most at to (x ∷ xs) drained b told is facts still =
     let can : CanPut (now a) 0 = facts_can_put_none b (now a) facts still in
     let drains : CanDrainAll (now a) (x ∷ xs) = can_drain g at (x ∷ xs) (now a) is can drained.aligned drained.lines drained.room drained.few (drained.copied told) in
     let makes : MakesAll (drain_all_calls (super_of (current (now a))).sizes (super_of (current (now a))).drained (x ∷ xs)) a d r = drains_at g at (x ∷ xs) is (record { whole = drained.makes.whole; part = drained.makes.part }) in
     let makes_b : MakesAll (drain_all_calls b.sizes (super_of (current (now a))).drained (x ∷ xs)) a d r =
     subst (λ (y : Sizes). MakesAll (drain_all_calls y (super_of (current (now a))).drained (x ∷ xs)) a d r) (facts.sizes (current (now a)) (current_leaves (now a))) makes in
-    let lines : KeepsLines g to a d r = drained_lines g at to (x ∷ xs) drained told is can in
+    let lines : KeepsLines g to a d r = drained_lines g most at to (x ∷ xs) drained told is can in
     record {
       to = at.drained + 64 * length (x ∷ xs);
+      bound = (let bound : length (x ∷ xs) ≤ most = drained.bound in omega arith);
       part = Moments-map (λ mid amid. subst (λ n. StoreFacts (changing_to b Gate.drained n (n + 64 * length (x ∷ xs)) b.committed) mid) is.drained
           (drain_all_facts b (now a) facts still (x ∷ xs) drains mid amid)) (makes_b.part told);
       whole = OnOk_give r (λ same. subst (λ (s : State). StoreFacts b s) (sym same) (drain_all_done b (now a) facts still (x ∷ xs) drains)) (makes_b.whole told);
@@ -155,23 +158,23 @@ drained_keeps {a = a} {d = d} {r = r} g at to (x ∷ xs) drained b told is facts
     }
 
 -- Both, of the log in memory and of where it stands behind the call.
-is_drained : {T E : Type 0} {a b : Standing} {r : Result T E} (log : Log) (to : Offsets) (n : ℕ) (d : Drains log n a b r) → log.drained % 64 ≡ 0 → OnOk r (to ≡ raised (length d.blocks) (offsets_of log))
-    → Drained (sizes_of log.geometry) (offsets_of log) to d.blocks a b r
-is_drained log to n d aligned reached = record { makes = d.makes; copied = d.copied; aligned = aligned; lines = d.lines; room = d.room; few = d.few; reached = reached }
+is_drained : {T E : Type 0} {a b : Standing} {r : Result T E} (log : Log) (most : ℕ) (to : Offsets) (n : ℕ) (d : Drains log most n a b r) → log.drained % 64 ≡ 0 → OnOk r (to ≡ raised (length d.blocks) (offsets_of log))
+    → Drained (sizes_of log.geometry) most (offsets_of log) to d.blocks a b r
+is_drained log most to n d aligned reached = record { makes = d.makes; copied = d.copied; aligned = aligned; lines = d.lines; room = d.room; few = d.few; bound = d.bound; reached = reached }
 
-pub lines_clause : {T E : Type 0} {a b : Standing} {r : Result T E} (log : Log) (to : Offsets) (n : ℕ) (d : Drains log n a b r) → log.drained % 64 ≡ 0 → OnOk r (to ≡ raised (length d.blocks) (offsets_of log))
+pub lines_clause : {T E : Type 0} {a b : Standing} {r : Result T E} (log : Log) (most : ℕ) (to : Offsets) (n : ℕ) (d : Drains log most n a b r) → log.drained % 64 ≡ 0 → OnOk r (to ≡ raised (length d.blocks) (offsets_of log))
     → IsTrue a.told → IsLogOf (sizes_of log.geometry) (offsets_of log) (now a) → CanPut (now a) 0 → KeepsLines (sizes_of log.geometry) to a b r
-lines_clause log to n d aligned reached = drained_lines (sizes_of log.geometry) (offsets_of log) to d.blocks (is_drained log to n d aligned reached)
+lines_clause log most to n d aligned reached = drained_lines (sizes_of log.geometry) most (offsets_of log) to d.blocks (is_drained log most to n d aligned reached)
 
-pub keeps_clause : {T E : Type 0} {a d : Standing} {r : Result T E} (log : Log) (to : Offsets) (n : ℕ) (drains : Drains log n a d r) → log.drained % 64 ≡ 0
+pub keeps_clause : {T E : Type 0} {a d : Standing} {r : Result T E} (log : Log) (most : ℕ) (to : Offsets) (n : ℕ) (drains : Drains log most n a d r) → log.drained % 64 ≡ 0
     → OnOk r (to ≡ raised (length drains.blocks) (offsets_of log)) → (b : Bookkeeping) → IsTrue a.told → IsLogOf (sizes_of log.geometry) (offsets_of log) (now a) → StoreFacts b (now a) → b.changing ≡ None
-    → KeepsRaised (sizes_of log.geometry) log.drained to b a d r
-keeps_clause log to n drains aligned reached = drained_keeps (sizes_of log.geometry) (offsets_of log) to drains.blocks (is_drained log to n drains aligned reached)
+    → KeepsRaised (sizes_of log.geometry) log.drained most to b a d r
+keeps_clause log most to n drains aligned reached = drained_keeps (sizes_of log.geometry) most (offsets_of log) to drains.blocks (is_drained log most to n drains aligned reached)
 
 -- What a drain of n blocks made, up to where it ends.
 pub drains_of : {T E : Type 0} {a b : Standing} {r : Result T E} (log : Log) (n drained : ℕ) (blocks : List (List ℕ)) → length blocks ≤ n → log.drained + 64 * n ≤ log.tail
     → log.drained + 64 * n ≤ floor64 log.start + 64 * ring_blocks (sizes_of log.geometry) → n ≤ ring_blocks (sizes_of log.geometry) → OnOk r (drained ≡ log.drained + 64 * length blocks)
-    → MakesAll (drain_makes (sizes_of log.geometry) log.drained blocks) a b r → (IsTrue a.told → AreCopied (sizes_of log.geometry) log.drained blocks (now a)) → Drains log drained a b r
+    → MakesAll (drain_makes (sizes_of log.geometry) log.drained blocks) a b r → (IsTrue a.told → AreCopied (sizes_of log.geometry) log.drained blocks (now a)) → Drains log n drained a b r
 drains_of log n drained blocks most lines room few count makes copied = record {
   blocks = blocks;
   makes = makes;
@@ -179,18 +182,20 @@ drains_of log n drained blocks most lines room few count makes copied = record {
   lines = omega arith;
   room = omega arith;
   few = omega arith;
+  bound = most;
   count = count;
 }
 
 -- no block is drained, by no call
-pub drains_none : {T E : Type 0} {a : Standing} (log : Log) (r : Result T E) → log.drained ≤ log.tail → log.drained ≤ floor64 log.start + 64 * ring_blocks (sizes_of log.geometry) → Drains log log.drained a a r
-drains_none {a = a} log r below in_blocks = record {
+pub drains_none : {T E : Type 0} {a : Standing} (log : Log) (most : ℕ) (r : Result T E) → log.drained ≤ log.tail → log.drained ≤ floor64 log.start + 64 * ring_blocks (sizes_of log.geometry) → Drains log most log.drained a a r
+drains_none {a = a} log most r below in_blocks = record {
   blocks = [];
   makes = makes_none r (Goes-refl a) (Stays-refl a);
   copied = λ told. none_copied (sizes_of log.geometry) log.drained (now a);
   lines = omega arith;
   room = omega arith;
   few = omega arith;
+  bound = omega arith;
   count = OnOk_of r (omega arith);
 }
 

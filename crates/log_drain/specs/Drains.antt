@@ -37,14 +37,16 @@ drain_makes g offset [] = []
 drain_makes g offset (bytes ∷ blocks) = drain_all_calls g offset (bytes ∷ blocks)
 
 -- Copies of whole blocks of the log, from `drained` on, that stand below the tail and have a free place each, are written,
--- settled by one sync, and then the gate is raised over them; all of it where the call answers ok, and then it is here.
-pub record Drains {T E : Type 0} (log : Log) (drained : ℕ) (old new : Standing) (result : Result T E) : Type 0 where
+-- settled by one sync, and then the gate is raised over them; so many at most, and all of it where the call answers ok, and
+-- then it is here.
+pub record Drains {T E : Type 0} (log : Log) (most drained : ℕ) (old new : Standing) (result : Result T E) : Type 0 where
   pub blocks : List (List ℕ)
   pub makes : MakesAll (drain_makes (sizes_of log.geometry) log.drained blocks) old new result
   pub copied : IsTrue old.told → AreCopied (sizes_of log.geometry) log.drained blocks (now old)
   pub lines : log.drained + 64 * length blocks ≤ log.tail
   pub room : log.drained + 64 * length blocks ≤ floor64 log.start + 64 * ring_blocks (sizes_of log.geometry)
   pub few : length blocks ≤ ring_blocks (sizes_of log.geometry)
+  pub bound : length blocks ≤ most
   pub count : OnOk result (drained ≡ log.drained + 64 * length blocks)
 
 -- At each moment every image has the same log lines; where the call answers ok the log in memory is that of the devices.
@@ -57,16 +59,17 @@ DrainLines log new_log old new result =
     IsTrue old.told → IsLogOf (sizes_of log.geometry) (offsets_of log) (now old) → CanPut (now old) 0
     → KeepsLines (sizes_of new_log.geometry) (offsets_of new_log) old new result
 
--- At each moment the facts hold with `drained` being raised, and where the call answers ok with no gate being changed, and
+-- At each moment the facts hold with `drained` being raised by so many blocks at most, and where the call answers ok with no gate being changed, and
 -- the log in memory is that of the devices.
-pub record KeepsRaised {T E : Type 0} (g : Sizes) (from_here : ℕ) (at : Offsets) (b : Bookkeeping) (old new : Standing) (result : Result T E) : Type 0 where
+pub record KeepsRaised {T E : Type 0} (g : Sizes) (from_here most : ℕ) (at : Offsets) (b : Bookkeeping) (old new : Standing) (result : Result T E) : Type 0 where
   pub to : ℕ
+  pub bound : to ≤ from_here + 64 * most
   pub part : Moments old new (StoreFacts (changing_to b Gate.drained from_here to b.committed))
   pub whole : OnOk result (StoreFacts b (now new))
   pub reached : OnOk result (at.drained ≡ to)
   pub log_is : OnOk result (IsLogOf g at (now new))
 
-abbrev pub DrainKeeps : {T E : Type 0} → Log → Log → Standing → Standing → Result T E → Type 0
-DrainKeeps log new_log old new result =
+abbrev pub DrainKeeps : {T E : Type 0} → Log → ℕ → Log → Standing → Standing → Result T E → Type 0
+DrainKeeps log most new_log old new result =
     (b : Bookkeeping) → IsTrue old.told → IsLogOf (sizes_of log.geometry) (offsets_of log) (now old) → StoreFacts b (now old) → b.changing ≡ None
-    → KeepsRaised (sizes_of new_log.geometry) log.drained (offsets_of new_log) b old new result
+    → KeepsRaised (sizes_of new_log.geometry) log.drained most (offsets_of new_log) b old new result

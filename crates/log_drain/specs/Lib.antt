@@ -1,4 +1,3 @@
-pub mod Stops
 pub mod Copies
 pub mod Reading
 pub mod Drains

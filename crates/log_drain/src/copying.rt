@@ -5,7 +5,7 @@ ghost use Rattle.devices.specs.State.Call.{write_block};
 ghost use Rattle.devices.specs.World.{Goes, Stays, MakesAll, now};
 ghost use Rattle.store_model.specs.Layout.{nvm_lines, ssd_blocks};
 ghost use Rattle.nvm_layout.specs.Sizes.{sizes_of};
-ghost use Rattle.log_drain.specs.Stops.{StopCause};
+ghost use Rattle.device_calls.specs.Stops.{StopCause};
 ghost use Rattle.log_drain.specs.Copies.{Copies, AreLoaded};
 
 use devices::{Devices, Failed};

@@ -6,7 +6,7 @@ ghost use Rattle.store_model.specs.Layout.{nvm_lines, ssd_blocks, ring_blocks, f
 ghost use Rattle.nvm_layout.specs.Sizes.{sizes_of};
 ghost use Rattle.nvm_log.specs.Puts.{gate_put};
 ghost use Rattle.nvm_log.specs.Offsets.{offsets_of, IsMoved};
-ghost use Rattle.log_drain.specs.Stops.{StopCause};
+ghost use Rattle.device_calls.specs.Stops.{StopCause};
 ghost use Rattle.log_drain.specs.Drains.{raised, drainable, MovesBlocks, Drains, DrainLines, DrainKeeps};
 
 use crate::copying::{BLOCK_LINES, copy_blocks};
@@ -28,7 +28,7 @@ pub fn drain_block<D: Devices>(log: &mut Log, dev: &mut D) -> Result<(), Stop>
 
     // What it does to the log in memory, to the devices, and to the log of every image.
     ensures moved { IsMoved log.old log.new (raised 1 (offsets_of log.old)) result }
-    ensures makes { Drains log.old log.new.drained (D.standing dev.old) (D.standing dev.new) result }
+    ensures makes { Drains log.old 1 log.new.drained (D.standing dev.old) (D.standing dev.new) result }
     ensures lines { DrainLines log.old log.new (D.standing dev.old) (D.standing dev.new) result }
 
     // Why it fails.
@@ -36,7 +36,7 @@ pub fn drain_block<D: Devices>(log: &mut Log, dev: &mut D) -> Result<(), Stop>
 
     // What stays, however far it gets.
     ensures goes { Goes (D.standing dev.old) (D.standing dev.new) }
-    ensures keeps { DrainKeeps log.old log.new (D.standing dev.old) (D.standing dev.new) result }
+    ensures keeps { DrainKeeps log.old 1 log.new (D.standing dev.old) (D.standing dev.new) result }
 {
     drain(log, dev, 1)
 }
@@ -50,7 +50,7 @@ pub fn drain_blocks<D: Devices>(log: &mut Log, dev: &mut D, most: u64) -> Result
 
     // What it does to the log in memory, to the devices, and to the log of every image.
     ensures moved { MovesBlocks log.old log.new most result }
-    ensures makes { Drains log.old log.new.drained (D.standing dev.old) (D.standing dev.new) result }
+    ensures makes { Drains log.old (drainable most log.old) log.new.drained (D.standing dev.old) (D.standing dev.new) result }
     ensures nothing { drainable most log.old ≡ 0 → D.standing dev.new ≡ D.standing dev.old }
     ensures lines { DrainLines log.old log.new (D.standing dev.old) (D.standing dev.new) result }
 
@@ -59,7 +59,7 @@ pub fn drain_blocks<D: Devices>(log: &mut Log, dev: &mut D, most: u64) -> Result
 
     // What stays, however far it gets.
     ensures goes { Goes (D.standing dev.old) (D.standing dev.new) }
-    ensures keeps { DrainKeeps log.old log.new (D.standing dev.old) (D.standing dev.new) result }
+    ensures keeps { DrainKeeps log.old (drainable most log.old) log.new (D.standing dev.old) (D.standing dev.new) result }
 {
     let count = drainable(log, most);
     if count == 0 {
@@ -114,11 +114,11 @@ fn drain<D: Devices>(log: &mut Log, dev: &mut D, count: u64) -> Result<(), Stop>
     requires fits { nvm_lines (sizes_of log.old.geometry) ≤ (D.standing dev.old).lines }
     requires blocks { ssd_blocks (sizes_of log.old.geometry) ≤ (D.standing dev.old).blocks }
     ensures moved { IsMoved log.old log.new (raised count (offsets_of log.old)) result }
-    ensures makes { Drains log.old log.new.drained (D.standing dev.old) (D.standing dev.new) result }
+    ensures makes { Drains log.old count log.new.drained (D.standing dev.old) (D.standing dev.new) result }
     ensures lines { DrainLines log.old log.new (D.standing dev.old) (D.standing dev.new) result }
     ensures cause { StopCause (D.standing dev.old) (D.standing dev.new) result }
     ensures goes { Goes (D.standing dev.old) (D.standing dev.new) }
-    ensures keeps { DrainKeeps log.old log.new (D.standing dev.old) (D.standing dev.new) result }
+    ensures keeps { DrainKeeps log.old count log.new (D.standing dev.old) (D.standing dev.new) result }
 {
     prove!(log.drained <= log.tail);
     let drained = log.drained + BLOCK_LINES * count;

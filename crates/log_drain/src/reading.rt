@@ -3,7 +3,7 @@ ghost use Rattle.std.specs.Prelude.{◌≡◌, ◌≤◌, ◌<◌, ℕ, ◌+◌,
 ghost use Rattle.devices.specs.World.{Goes, Stays};
 ghost use Rattle.store_model.specs.Layout.{nvm_lines, ssd_blocks, ring_blocks, floor64};
 ghost use Rattle.nvm_layout.specs.Sizes.{sizes_of};
-ghost use Rattle.log_drain.specs.Stops.{StopCause};
+ghost use Rattle.device_calls.specs.Stops.{StopCause};
 ghost use Rattle.log_drain.specs.Reading.{ReadsLine, ReadsBlockLine};
 
 use crate::copying::load;

@@ -7,6 +7,7 @@ pub mod EndsLaws
 pub mod EndsFacts
 pub mod RecordFacts
 pub mod PendingFacts
+pub mod StandLaws
 pub mod StartLaws
 pub mod DrainLaws
 pub mod DrainFacts

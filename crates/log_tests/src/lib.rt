@@ -4,4 +4,12 @@
 #![tactic(auto)]
 
 #[cfg(test)]
+mod calls;
+#[cfg(test)]
+mod counting;
+#[cfg(test)]
+mod crashes;
+#[cfg(test)]
 mod layout;
+#[cfg(test)]
+mod machine;

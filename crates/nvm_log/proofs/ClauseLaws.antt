@@ -1,26 +1,28 @@
 -- The clauses of the calls of a log, out of the device calls that they make.
-use Rattle.std.proofs.Common.{◌≡◌, ◌≢◌, ℕ, zero, suc, ◌+◌, ◌*◌, ◌<◌, ◌≤◌, List, [], ◌∷◌, ◌++◌, length, length-append, get_or, refl, sym, ap, ◌∙◌, subst, inr, arith, None, IsTrue, Result, Ok, Err}
+use Rattle.std.proofs.Common.{◌≡◌, ◌≢◌, ℕ, zero, suc, ◌+◌, ◌*◌, ◌<◌, ◌≤◌, List, [], ◌∷◌, ◌++◌, length, length-append, get_or, refl, sym, ap, ◌∙◌, subst, inl, inr, arith, true, false, Some, None, IsTrue, Result, Ok, Err}
 use Rattle.std.specs.Prelude.{OnOk, IsErr, if◌then◌else◌, ◌==◌}
-use Rattle.std.proofs.lemmas.Bool.{cond-true, cond-false, eq-eqb, ne_eqb}
+use Rattle.std.proofs.lemmas.Bool.{cases_Bool, cond-true, cond-false, eq-eqb, ne_eqb}
 use Rattle.nvm_model.specs.declared.line.Line.{Line}
 use Rattle.devices.specs.State.{State, Call, Image, Leaves, current, Amid, after_all}
 use Rattle.devices.specs.World.{Standing, MakesAll, now}
 use Rattle.devices.proofs.MomentLaws.{Moments-map}
 use Rattle.devices.proofs.JoinLaws.{Moments-at}
 use Rattle.store_model.specs.Layout.{Sizes, ring_lines}
-use Rattle.store_model.specs.Log.{Log as Groups, Change, Entry, grouped, extended, no_log}
+use Rattle.store_model.specs.Log.{Log as Groups, Change, Entry, grouped, extended, no_log, is_logged}
 use Rattle.store_model.specs.Log.Item.{write}
 use Rattle.store_model.specs.Log.Entry.{item, commit, abort}
-use Rattle.store_model.specs.Format.{Format, IsWhole, entries, lines_behind, zero_line, log_check}
+use Rattle.store_model.specs.Format.{Format, IsWhole, entries, lines_behind, zero_line, log_check, word_in}
 use Rattle.store_model.specs.Format.Format.{whole_lines}
-use Rattle.store_model.specs.Recovered.{Super, super_of, log_of}
-use Rattle.store_model.specs.StoreFacts.{Gate, Bookkeeping, StoreFacts, committed_from}
+use Rattle.store_model.specs.Recovered.{Super, super_of, entry_at, frame_of, home, log_lines, log_of}
+use Rattle.store_model.specs.InOrder.{HomeStands}
+use Rattle.store_model.specs.StoreFacts.{Gate, Bookkeeping, IsWord, StoreFacts, committed_from}
 use Rattle.store_model.specs.Put.{put_calls, IsLine, CanPut}
 use Rattle.store_model.specs.Pending.{harden_calls, end_calls, record_entries, with_records, CanPutEntry, PendingStands, IsConstant, pending_with, none_pending}
 use Rattle.store_model.specs.Seen.{gate_calls, changing_to}
 use Rattle.home_laws.proofs.FactsLaws.{current_leaves}
 use Rattle.home_laws.proofs.RecoveredLaws.{entries-append}
-use Rattle.home_laws.proofs.SeenLaws.{facts_changing}
+use Rattle.home_laws.proofs.SeenLaws.{facts_changing, facts_log}
+use Rattle.log_laws.proofs.StandLaws.{home_stands}
 use Rattle.log_laws.proofs.PendingFacts.{record_entries-append, append_pending_facts, append_pending_done, append_pending_stands, harden_facts, harden_done, commit_pending_facts, commit_pending_done, abort_pending_facts, abort_pending_done, nothing_stands, nothing_pending}
 use Rattle.log_laws.proofs.LengthenedFacts.{append_lengthened, harden_lengthened, end_lengthened}
 use Rattle.log_laws.proofs.StartLaws.{start_facts, start_done}
@@ -82,7 +84,7 @@ abbrev KeepsTo : {T E : Type 0} → Log → Offsets → (Bookkeeping → State �
 KeepsTo log to Can during after left old new result = (b : Bookkeeping) (lines : List Line) → IsTrue old.told → HasFacts whole_lines (sizes_of log.geometry) (offsets_of log) b lines (now old) → Can b (now old)
     → Keeps whole_lines (sizes_of log.geometry) to (during b) (after b) (left lines) old new result
 
-whole-append : (format : Format) (skip : ℕ) (xs ys : List Line) → IsWhole format skip xs → IsWhole format 0 ys → IsWhole format skip (xs ++ ys)
+pub whole-append : (format : Format) (skip : ℕ) (xs ys : List Line) → IsWhole format skip xs → IsWhole format 0 ys → IsWhole format skip (xs ++ ys)
 whole-append format zero [] ys whole behind = behind
 whole-append format (suc skip) [] ys whole behind = absurd (omega arith)
 whole-append format (suc skip) (x ∷ xs) ys whole behind = whole-append format skip xs ys whole behind
@@ -97,7 +99,7 @@ no_records [] e = refl
 no_records (c ∷ cs) e = cc
 
 -- the superblock of a log in memory
-super_log : (g : Sizes) (at : Offsets) (s t : State) (n : ℕ) → IsLogOf g at s → super_of (current t) ≡ record (super_of (current s)) { tail = n } → n ≡ at.written
+pub super_log : (g : Sizes) (at : Offsets) (s t : State) (n : ℕ) → IsLogOf g at s → super_of (current t) ≡ record (super_of (current s)) { tail = n } → n ≡ at.written
     → IsLogOf g (hardened at) t
 super_log g at s t n is e f = record {
   sizes = ap (λ (x : Super). x.sizes) e ∙ is.sizes;
@@ -106,7 +108,7 @@ super_log g at s t n is e f = record {
   tail = ap (λ (x : Super). x.tail) e ∙ f;
 }
 
-same_log : (g : Sizes) (at : Offsets) (s t : State) (n : ℕ) → IsLogOf g at s → super_of (current t) ≡ super_of (current s) → IsLogOf g (appended n at) t
+pub same_log : (g : Sizes) (at : Offsets) (s t : State) (n : ℕ) → IsLogOf g at s → super_of (current t) ≡ super_of (current s) → IsLogOf g (appended n at) t
 same_log g at s t n is e = record {
   sizes = ap (λ (x : Super). x.sizes) e ∙ is.sizes;
   start = ap (λ (x : Super). x.start) e ∙ is.start;
@@ -123,11 +125,11 @@ emptied_log g at s t is e = record {
 }
 
 -- where the next line goes
-next_is : (g : Sizes) (at : Offsets) (s : State) (n : ℕ) → IsLogOf g at s → at.tail + n ≡ at.written → at.written ≡ (super_of (current s)).tail + n
+pub next_is : (g : Sizes) (at : Offsets) (s : State) (n : ℕ) → IsLogOf g at s → at.tail + n ≡ at.written → at.written ≡ (super_of (current s)).tail + n
 next_is g at s n is count = sym count ∙ ap (λ k. k + n) (sym is.tail)
 
 -- the room in the ring, by the superblock
-room_is : (g : Sizes) (at : Offsets) (s : State) (n m : ℕ) → IsLogOf g at s → at.tail + n ≡ at.written → at.written + m ≤ at.drained + ring_lines g
+pub room_is : (g : Sizes) (at : Offsets) (s : State) (n m : ℕ) → IsLogOf g at s → at.tail + n ≡ at.written → at.written + m ≤ at.drained + ring_lines g
     → (super_of (current s)).tail + n + m ≤ (super_of (current s)).drained + ring_lines (super_of (current s)).sizes
 room_is g at s n m is count room =
     let e : (super_of (current s)).tail ≡ at.tail = is.tail in
@@ -367,6 +369,26 @@ end_keeps {a = a} Abort log at room moved makes = λ b lines told has constant.
     (abort_pending_facts b s has.facts has.still lines has.stands abort (end_lines Abort) (end_puts Abort log b lines s has room) refl constant')
     (abort_pending_done b s has.facts has.still lines has.stands abort (end_lines Abort) (end_puts Abort log b lines s has room) refl constant')
 
+-- What the condition of an empty log gives: the homes of the words that the log names are durable, and all copies are homes.
+module _ (b : Bookkeeping) (s : State) (facts : StoreFacts b s) (still : b.changing ≡ None) (can : CanEmpty b s) where
+  logged_now : (j : Image) → Leaves s j → (p l w : ℕ) → is_logged (log_of b.format j) p l w ≡ is_logged (log_of b.format (current s)) p l w
+  logged_now j left p l w = ap (λ (xs : List Line). is_logged (grouped no_log (entries b.format 0 xs)) p l w) (facts_log b s facts still j left)
+
+  homes_durable : (j : Image) → Leaves s j → (p l w : ℕ) → IsWord b.sizes p l w → is_logged (log_of b.format j) p l w ≡ true
+      → HomeStands b.sizes (frame_of (entry_at j) (b.sizes.frames + 1) p) s p l w × (home j p l w ≡ b.current p l w) × (home j p l w ≡ b.committed (super_of j).tail p l w)
+  homes_durable j left p l w word logged = (
+    home_stands b s facts still (b.current p l w) p l w
+        (λ i left_i. (can.homes i left_i p l w word (logged_now i left_i p l w ∙ sym (logged_now j left p l w) ∙ logged)).0) j left,
+    (can.homes j left p l w word logged).0,
+    (can.homes j left p l w word logged).1,
+  )
+
+  copies_home : (j : Image) → Leaves s j → (p l w : ℕ) (line : Line) → IsWord b.sizes p l w → b.copy p l ≡ Some line → word_in line w ≡ home j p l w
+  copies_home j left p l w line word copy = elim (cases_Bool (is_logged (log_of b.format j) p l w)) [
+    | inl logged ↦ can.copies p l w line word (sym (logged_now j left p l w) ∙ logged) copy ∙ sym (can.homes j left p l w word logged).0
+    | inr unlogged ↦ facts.copies j left p l w line word copy (let none : b.pending ≡ [] = can.nothing in rw (unlogged, none) refl)
+  ]
+
 pub start_keeps : {T E : Type 0} {a d : Standing} {r : Result T E} (log : Log) (at : Offsets) → log.tail ≡ log.written → OnOk r (at ≡ emptied (offsets_of log))
     → MakesAll (gate_calls Gate.start log.tail) a d r → (b : Bookkeeping) → IsTrue a.told → HasFacts whole_lines (sizes_of log.geometry) (offsets_of log) b [] (now a) → CanEmpty b (now a)
     → Keeps whole_lines (sizes_of log.geometry) at (changing_to b Gate.start log.start log.tail b.committed) b [] a d r
@@ -378,9 +400,9 @@ start_keeps {a = a} {d = d} {r = r} log at same moved makes b told has can =
     keeps_by whole_lines log at (emptied from_here) (changing_to b Gate.start log.start log.tail b.committed) b [] (gate_calls Gate.start (super_of (current s)).tail) told moved
     (subst (λ n. MakesAll (gate_calls Gate.start n) a d r) (sym tail) makes)
     (λ mid amid. subst (λ n. StoreFacts (changing_to b Gate.start n log.tail b.committed) mid) (has.log_is).start
-    (subst (λ n. StoreFacts (changing_to b Gate.start (super_of (current s)).start n b.committed) mid) tail (start_facts b s has.facts has.still can.nothing can.homes can.copies mid amid)))
+    (subst (λ n. StoreFacts (changing_to b Gate.start (super_of (current s)).start n b.committed) mid) tail (start_facts b s has.facts has.still can.nothing (homes_durable b s has.facts has.still can) (copies_home b s has.facts has.still can) mid amid)))
     (kept_none whole_lines g (emptied from_here) b _ (emptied_log g from_here s _ has.log_is (start_super s)) same
-    (start_done b s has.facts has.still can.nothing can.homes can.copies) has.still has.format_is can.nothing)
+    (start_done b s has.facts has.still can.nothing (homes_durable b s has.facts has.still can) (copies_home b s has.facts has.still can)) has.still has.format_is can.nothing)
 
 -- which calls a harden makes
 pub harden_made : {T E : Type 0} {a b : Standing} {r : Result T E} (log : Log) → log.tail ≢ log.written → MakesAll (harden_calls log.written) a b r

@@ -1,14 +1,13 @@
 -- What the calls of a log keep of the facts of an open store.
 use Rattle.std.specs.Prelude.{◌≡◌, ℕ, ◌+◌, ◌<◌, true, List, [], ◌++◌, length, Some, None, IsTrue, Result, OnOk}
 use Rattle.nvm_model.specs.declared.line.Line.{Line}
-use Rattle.devices.specs.State.{State, Image, Leaves}
+use Rattle.devices.specs.State.{State, Image, Leaves, current}
 use Rattle.devices.specs.World.{Standing, Moments, now}
 use Rattle.store_model.specs.Layout.{Sizes, pages}
 use Rattle.store_model.specs.Log.{is_logged}
 use Rattle.store_model.specs.Format.{Format, word_in}
 use Rattle.store_model.specs.Format.Format.{whole_lines}
-use Rattle.store_model.specs.Recovered.{super_of, entry_at, frame_of, home, log_of}
-use Rattle.store_model.specs.InOrder.{HomeStands}
+use Rattle.store_model.specs.Recovered.{super_of, home, log_of}
 use Rattle.store_model.specs.StoreFacts.{Gate, Bookkeeping, IsWord, StoreFacts, committed_from}
 use Rattle.store_model.specs.Seen.{changing_to}
 use Rattle.store_model.specs.Pending.{PendingStands, EndsRight, HasBefore, IsConstant, pending_with, none_pending}
@@ -43,13 +42,14 @@ pub record CanRecord (change : LineRecord) (b : Bookkeeping) (s : State) : Type 
   pub line : change.line < 64
   pub before : HasBefore b s (change_of change)
 
--- The log may be emptied: nothing is pending; the home of each word that it names is durable, its current and its
--- committed word, in every image; and the copies in DRAM are the homes.
+-- The log may be emptied: nothing is pending; the home of each word that it names is its current and its committed word, in
+-- every image; and where a copy in DRAM has such a word, that is the current one.
 pub record CanEmpty (b : Bookkeeping) (s : State) : Type 0 where
   pub nothing : b.pending ≡ []
   pub homes : (j : Image) → Leaves s j → (p l w : ℕ) → IsWord b.sizes p l w → is_logged (log_of b.format j) p l w ≡ true
-      → HomeStands b.sizes (frame_of (entry_at j) (b.sizes.frames + 1) p) s p l w × (home j p l w ≡ b.current p l w) × (home j p l w ≡ b.committed (super_of j).tail p l w)
-  pub copies : (j : Image) → Leaves s j → (p l w : ℕ) (line : Line) → IsWord b.sizes p l w → b.copy p l ≡ Some line → word_in line w ≡ home j p l w
+      → (home j p l w ≡ b.current p l w) × (home j p l w ≡ b.committed (super_of j).tail p l w)
+  pub copies : (p l w : ℕ) (line : Line) → IsWord b.sizes p l w → is_logged (log_of b.format (current s)) p l w ≡ true → b.copy p l ≡ Some line
+      → word_in line w ≡ b.current p l w
 
 -- The clauses of the four calls, of whatever the store keeps.
 abbrev pub RecordKeeps : {T E : Type 0} → Log → Log → LineRecord → Standing → Standing → Result T E → Type 0

@@ -95,3 +95,4 @@ pub record ArePlaced (g : Sizes) : Type 0 where
   pub log_blocks : (d a b : ℕ) → floor64 d ≤ a → a < floor64 d + 64 * ring_blocks g → floor64 d ≤ b → b < floor64 d + 64 * ring_blocks g
       → ring_block g a ≡ ring_block g b → a % 64 ≡ b % 64 → a ≡ b
   pub homes : (offset page : ℕ) → ring_block g offset < page_block g page
+  pub home_blocks : (p q : ℕ) → page_block g p ≡ page_block g q → p ≡ q

@@ -16,10 +16,10 @@ returns-in_err-copy_blocks-clause-makes g c =
     copies.copied
 
 pub returns-in_err-copy_blocks-clause-lines : goal.returns-in_err-copy_blocks-clause-lines
-returns-in_err-copy_blocks-clause-lines g c = lines_clause c.args.log.now (offsets_of c.args.log.now) (offsets_of c.args.log.now).drained (returns-in_err-copy_blocks-clause-makes g c) c.args.log.now.aligned (not_ok _ c.from_residual.result c.from_residual.ensures.0)
+returns-in_err-copy_blocks-clause-lines g c = lines_clause c.args.log.now c.args.count (offsets_of c.args.log.now) (offsets_of c.args.log.now).drained (returns-in_err-copy_blocks-clause-makes g c) c.args.log.now.aligned (not_ok _ c.from_residual.result c.from_residual.ensures.0)
 
 pub returns-in_err-copy_blocks-clause-keeps : goal.returns-in_err-copy_blocks-clause-keeps
-returns-in_err-copy_blocks-clause-keeps g c = keeps_clause c.args.log.now (offsets_of c.args.log.now) (offsets_of c.args.log.now).drained (returns-in_err-copy_blocks-clause-makes g c) c.args.log.now.aligned (not_ok _ c.from_residual.result c.from_residual.ensures.0)
+returns-in_err-copy_blocks-clause-keeps g c = keeps_clause c.args.log.now c.args.count (offsets_of c.args.log.now) (offsets_of c.args.log.now).drained (returns-in_err-copy_blocks-clause-makes g c) c.args.log.now.aligned (not_ok _ c.from_residual.result c.from_residual.ensures.0)
 
 pub returns-in_err-settle-clause-makes : goal.returns-in_err-settle-clause-makes
 returns-in_err-settle-clause-makes g c =
@@ -30,10 +30,10 @@ returns-in_err-settle-clause-makes g c =
     copies.copied
 
 pub returns-in_err-settle-clause-lines : goal.returns-in_err-settle-clause-lines
-returns-in_err-settle-clause-lines g c = lines_clause c.args.log.now (offsets_of c.args.log.now) (offsets_of c.args.log.now).drained (returns-in_err-settle-clause-makes g c) c.args.log.now.aligned (not_ok _ c.from_residual-in_err-settle.result c.from_residual-in_err-settle.ensures.0)
+returns-in_err-settle-clause-lines g c = lines_clause c.args.log.now c.args.count (offsets_of c.args.log.now) (offsets_of c.args.log.now).drained (returns-in_err-settle-clause-makes g c) c.args.log.now.aligned (not_ok _ c.from_residual-in_err-settle.result c.from_residual-in_err-settle.ensures.0)
 
 pub returns-in_err-settle-clause-keeps : goal.returns-in_err-settle-clause-keeps
-returns-in_err-settle-clause-keeps g c = keeps_clause c.args.log.now (offsets_of c.args.log.now) (offsets_of c.args.log.now).drained (returns-in_err-settle-clause-makes g c) c.args.log.now.aligned (not_ok _ c.from_residual-in_err-settle.result c.from_residual-in_err-settle.ensures.0)
+returns-in_err-settle-clause-keeps g c = keeps_clause c.args.log.now c.args.count (offsets_of c.args.log.now) (offsets_of c.args.log.now).drained (returns-in_err-settle-clause-makes g c) c.args.log.now.aligned (not_ok _ c.from_residual-in_err-settle.result c.from_residual-in_err-settle.ensures.0)
 
 pub returns-in_err-raise-clause-makes : goal.returns-in_err-raise-clause-makes
 returns-in_err-raise-clause-makes g c =
@@ -45,10 +45,10 @@ returns-in_err-raise-clause-makes g c =
     copies.copied
 
 pub returns-in_err-raise-clause-lines : goal.returns-in_err-raise-clause-lines
-returns-in_err-raise-clause-lines g c = lines_clause c.args.log.now (offsets_of c.args.log.now) (offsets_of c.args.log.now).drained (returns-in_err-raise-clause-makes g c) c.args.log.now.aligned (not_ok _ c.from_residual-in_err-raise.result c.from_residual-in_err-raise.ensures.0)
+returns-in_err-raise-clause-lines g c = lines_clause c.args.log.now c.args.count (offsets_of c.args.log.now) (offsets_of c.args.log.now).drained (returns-in_err-raise-clause-makes g c) c.args.log.now.aligned (not_ok _ c.from_residual-in_err-raise.result c.from_residual-in_err-raise.ensures.0)
 
 pub returns-in_err-raise-clause-keeps : goal.returns-in_err-raise-clause-keeps
-returns-in_err-raise-clause-keeps g c = keeps_clause c.args.log.now (offsets_of c.args.log.now) (offsets_of c.args.log.now).drained (returns-in_err-raise-clause-makes g c) c.args.log.now.aligned (not_ok _ c.from_residual-in_err-raise.result c.from_residual-in_err-raise.ensures.0)
+returns-in_err-raise-clause-keeps g c = keeps_clause c.args.log.now c.args.count (offsets_of c.args.log.now) (offsets_of c.args.log.now).drained (returns-in_err-raise-clause-makes g c) c.args.log.now.aligned (not_ok _ c.from_residual-in_err-raise.result c.from_residual-in_err-raise.ensures.0)
 
 pub returns-clause-makes : goal.returns-clause-makes
 returns-clause-makes g c =
@@ -60,7 +60,7 @@ returns-clause-makes g c =
     copies.copied
 
 pub returns-clause-lines : goal.returns-clause-lines
-returns-clause-lines g c = lines_clause c.args.log.now (raised c.args.count (offsets_of c.args.log.now)) (raised c.args.count (offsets_of c.args.log.now)).drained (returns-clause-makes g c) c.args.log.now.aligned (reached_by (offsets_of c.args.log.now) _ _ (returns-clause-makes g c).count)
+returns-clause-lines g c = lines_clause c.args.log.now c.args.count (raised c.args.count (offsets_of c.args.log.now)) (raised c.args.count (offsets_of c.args.log.now)).drained (returns-clause-makes g c) c.args.log.now.aligned (reached_by (offsets_of c.args.log.now) _ _ (returns-clause-makes g c).count)
 
 pub returns-clause-keeps : goal.returns-clause-keeps
-returns-clause-keeps g c = keeps_clause c.args.log.now (raised c.args.count (offsets_of c.args.log.now)) (raised c.args.count (offsets_of c.args.log.now)).drained (returns-clause-makes g c) c.args.log.now.aligned (reached_by (offsets_of c.args.log.now) _ _ (returns-clause-makes g c).count)
+returns-clause-keeps g c = keeps_clause c.args.log.now c.args.count (raised c.args.count (offsets_of c.args.log.now)) (raised c.args.count (offsets_of c.args.log.now)).drained (returns-clause-makes g c) c.args.log.now.aligned (reached_by (offsets_of c.args.log.now) _ _ (returns-clause-makes g c).count)
