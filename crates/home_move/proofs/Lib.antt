@@ -1,0 +1,7 @@
+pub mod FrameLaws
+pub mod HomeLaws
+pub mod JudgeLaws
+pub mod MoveLaws
+pub mod PlaceFacts
+pub mod ReplayLaws
+mod FlushLaws

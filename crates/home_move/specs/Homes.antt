@@ -1,0 +1,93 @@
+-- What a run of writes to homes knows and keeps: where the words of each page are, and what recovery gives.
+use Rattle.std.specs.Int.{bit_at}
+use Rattle.std.specs.Prelude.{◌≡◌, ◌≢◌, ℕ, true, false, ◌+◌, ◌<◌, List, [], Option, Some, None}
+use Rattle.nvm_model.specs.declared.line.Line.{Line}
+use Rattle.devices.specs.State.{State, current}
+use Rattle.store_model.specs.Layout.{Sizes}
+use Rattle.store_model.specs.Log.{Words, Change, Log, no_log, grouped, is_logged}
+use Rattle.store_model.specs.Format.{Format, entries, word_in}
+use Rattle.store_model.specs.Recovered.{Super, super_of, entry_at, home, log_lines}
+use Rattle.store_model.specs.StoreFacts.{Changing, Bookkeeping, IsWord, StoreFacts}
+use Rattle.store_model.specs.Copies.{with_line}
+use Rattle.store_model.specs.Shown.{HomesFlushed}
+
+-- The plain data of such a run: the superblock and the log, the entries of the frames that keep pages, the words of all
+-- homes, and the words that recovery gives.
+pub record Aim : Type 0 where
+  pub format : Format
+  pub sizes : Sizes
+  pub gates : Super
+  pub log : List Line
+  pub entry : ℕ → ℕ
+  pub words : Words
+  pub kept : Words
+
+-- what a store keeps then: no copy, nothing pending
+abbrev pub keeping : Aim → Bookkeeping
+keeping aim = record {
+  format = aim.format;
+  sizes = aim.sizes;
+  changing = None;
+  current = aim.kept;
+  committed = λ n. aim.kept;
+  pending = [];
+  copy = λ p l. None;
+}
+
+-- At a moment of the run the facts hold, with some gate being changed or none: each image is a store that recovers to the
+-- kept words.
+pub record Keeps (aim : Aim) (s : State) : Type 0 where
+  pub changing : Option Changing
+  pub facts : StoreFacts (record (keeping aim) { changing = changing }) s
+
+-- the entry of the frame through which pages pass
+abbrev pub entry_of : Option ℕ → ℕ
+entry_of None = 0
+entry_of (Some page) = page + 1
+
+-- Between two writes: the superblock and the log are those of the aim, this page is in the frame through which pages pass,
+-- the homes have the words of the aim, and a fence makes all of them durable.
+pub record Homes (g : Sizes) (passing : Option ℕ) (aim : Aim) (s : State) : Type 0 where
+  pub sizes : aim.sizes ≡ g
+  pub facts : StoreFacts (keeping aim) s
+  pub super_words : super_of (current s) ≡ aim.gates
+  pub log : log_lines (current s) ≡ aim.log
+  pub entries : (k : ℕ) → k < g.frames → entry_at (current s) k ≡ aim.entry k
+  pub passes : entry_at (current s) g.frames ≡ entry_of passing
+  pub words : (p l w : ℕ) → IsWord g p l w → home (current s) p l w ≡ aim.words p l w
+  pub flushed : HomesFlushed (keeping aim) s
+
+-- the page has this frame, or none of those that keep pages
+abbrev pub IsKeptIn : Sizes → ℕ → Option ℕ → Aim → Type 0
+IsKeptIn g page None aim = (k : ℕ) → k < g.frames → aim.entry k ≢ page + 1
+IsKeptIn g page (Some k) aim = aim.entry k ≡ page + 1
+
+-- where the log doesn't name a word of the line, this value has the word that is there
+abbrev pub IsLoggedLine : ℕ → ℕ → Line → Aim → Type 0
+IsLoggedLine page line value aim = (w : ℕ) → w < 8 → is_logged (grouped no_log (entries aim.format 0 aim.log)) page line w ≡ false → word_in value w ≡ aim.words page line w
+
+-- the line of a page can be written there
+pub record CanWrite (g : Sizes) (page line : ℕ) (kept_in : Option ℕ) (value : Line) (aim : Aim) : Type 0 where
+  pub place : IsKeptIn g page kept_in aim
+  pub logged : IsLoggedLine page line value aim
+
+-- one line is this one
+abbrev pub aim_with : ℕ → ℕ → Line → Aim → Aim
+aim_with page line value aim = record aim { words = with_line aim.words page line value }
+
+-- the words of all homes are changed so
+abbrev pub over : (Words → Words) → Aim → Aim
+over change aim = record aim { words = change aim.words }
+
+-- the log that is replayed
+abbrev pub log_in : Aim → Log
+log_in aim = grouped no_log (entries aim.format 0 aim.log)
+
+-- The log names each word of the line, so that it can be written to its home, whatever is there.
+pub record CanReplay (g : Sizes) (page line : ℕ) (kept_in : Option ℕ) (aim : Aim) : Type 0 where
+  pub place : IsKeptIn g page kept_in aim
+  pub logged : (w : ℕ) → w < 8 → is_logged (log_in aim) page line w ≡ true
+
+-- the record names each word of its line
+pub record NamesWholeLine (change : Change) : Type 0 where
+  pub each : (w : ℕ) → w < 8 → bit_at change.mask w ≡ 1
