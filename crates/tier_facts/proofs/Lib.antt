@@ -1,0 +1,9 @@
+pub mod PlaceLaws
+pub mod CopyLaws
+pub mod StoreLaws
+pub mod InstallLaws
+pub mod ReleaseLaws
+pub mod LineLaws
+pub mod ShownLaws
+pub mod Example
+pub mod CallLaws
