@@ -1,0 +1,10 @@
+pub mod RecordLaws
+pub mod RecordSteps
+pub mod DrainSteps
+pub mod EmptySteps
+pub mod BookLaws
+pub mod WriteLaws
+pub mod ShowingLaws
+pub mod AsPagesLaws
+pub mod BackLaws
+pub mod WholeLaws

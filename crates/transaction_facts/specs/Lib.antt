@@ -1,0 +1,5 @@
+pub mod Records
+pub mod Books
+pub mod Showing
+pub mod AsPages
+pub mod Aborts
