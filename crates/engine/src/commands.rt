@@ -98,23 +98,23 @@ impl Engine {
     pub(crate) fn scan<W: World>(
         &mut self,
         world: &mut W,
-        name: Name,
+        name: &Name,
         from: u64,
         to: u64,
     ) -> Result<Step, Stop>
         requires { StandsFor self.old (W.Devices.standing world.old) }
-        ensures does { Does (after_command self.old (Some (ScanRows name from to))) self.old (W.Devices.standing world.old) self.new (W.Devices.standing world.new) result }
-        ensures replies { IsTrue (W.Devices.standing world.old).told → (s : State) → Shows self.old (W.Devices.standing world.old) s → IfOk result (λ step. ((machine (bounds_in (engine_sizes self.old))).step s (Some (ScanRows name from to))).1 ≡ step_replies step (seen_tables s)) }
+        ensures does { Does (after_command self.old (Some (ScanRows name.now from to))) self.old (W.Devices.standing world.old) self.new (W.Devices.standing world.new) result }
+        ensures replies { IsTrue (W.Devices.standing world.old).told → (s : State) → Shows self.old (W.Devices.standing world.old) s → IfOk result (λ step. ((machine (bounds_in (engine_sizes self.old))).step s (Some (ScanRows name.now from to))).1 ≡ step_replies step (seen_tables s)) }
         ensures begun { IfOk result IsBegun }
         ensures refused { IfOk result (LineStaysIfRefused self.old (W.Devices.standing world.old) self.new (W.Devices.standing world.new)) }
         ensures cause { HasCause (IsNameDamage self.old (W.Devices.standing world.old) (evidence_bytes self.new)) (shown self.old (W.Devices.standing world.old)) (shown self.new (W.Devices.standing world.new)) result }
         ensures reads { Reads self.old (W.Devices.standing world.old) self.new (W.Devices.standing world.new) result }
     {
-        if !self.knows(world, &name)? {
+        if !self.knows(world, name)? {
             return Ok(Step::Said(Reply::Refused(Reason::Table)));
         }
         Ok(Step::Scanning(Scan {
-            name,
+            name: name.copy(),
             from,
             to,
             count: 0,

@@ -69,41 +69,41 @@ impl Engine {
         }
         match read_line(line) {
             None => Ok(Step::Said(Reply::Refused(Reason::Form))),
-            Some(command) => self.answer(world, command),
+            Some(command) => self.answer(world, &command),
         }
     }
 
     /// Does what a command asks, if a transaction is open where one must be and none where none may be.
-    fn answer<W: World>(&mut self, world: &mut W, command: Command) -> Result<Step, Stop>
+    fn answer<W: World>(&mut self, world: &mut W, command: &Command) -> Result<Step, Stop>
         requires ready { StandsFor self.old (W.Devices.standing world.old) }
         requires low { log_end self.old ≤ 2 ^ 61 + 2 ^ 46 }
-        ensures { Obeys (Some command) self.old (W.Devices.standing world.old) self.new (W.Devices.standing world.new) result }
+        ensures { Obeys (Some command.now) self.old (W.Devices.standing world.old) self.new (W.Devices.standing world.new) result }
     {
-        if is_misplaced(&command, self.book.is_open()) {
+        if is_misplaced(command, self.book.is_open()) {
             return Ok(Step::Said(Reply::Refused(Reason::Transaction)));
         }
         self.obey(world, command)
     }
 
     /// The same where it is so.
-    fn obey<W: World>(&mut self, world: &mut W, command: Command) -> Result<Step, Stop>
+    fn obey<W: World>(&mut self, world: &mut W, command: &Command) -> Result<Step, Stop>
         requires ready { StandsFor self.old (W.Devices.standing world.old) }
         requires low { log_end self.old ≤ 2 ^ 61 + 2 ^ 46 }
-        requires placed { transaction_wrong command (has_open self.old) ≡ false }
-        ensures { Obeys (Some command) self.old (W.Devices.standing world.old) self.new (W.Devices.standing world.new) result }
+        requires placed { transaction_wrong command.now (has_open self.old) ≡ false }
+        ensures { Obeys (Some command.now) self.old (W.Devices.standing world.old) self.new (W.Devices.standing world.new) result }
     {
         match command {
-            Command::Create(name) => said(self.create(world, &name)),
+            Command::Create(name) => said(self.create(world, name)),
             Command::Begin => said(self.begin(world)),
-            Command::Put(name, key, value) => said(self.put(world, &name, key, &value)),
-            Command::Del(name, key) => said(self.del(world, &name, key)),
-            Command::Get(name, key) => said(self.get(world, &name, key)),
-            Command::Scan(name, from, to) => self.scan(world, name, from, to),
+            Command::Put(name, key, value) => said(self.put(world, name, *key, value)),
+            Command::Del(name, key) => said(self.del(world, name, *key)),
+            Command::Get(name, key) => said(self.get(world, name, *key)),
+            Command::Scan(name, from, to) => self.scan(world, name, *from, *to),
             Command::Commit => said(self.commit(world)),
             Command::Abort => said(self.abort(world)),
             Command::Checkpoint => said(self.checkpoint(world)),
             Command::Drain => said(self.drain(world)),
-            Command::Clean(frames) => said(self.clean(world, frames)),
+            Command::Clean(frames) => said(self.clean(world, *frames)),
         }
     }
 

@@ -15,30 +15,31 @@ use Rattle.engine.proofs.engine.Engine.scan.Goals as goal
 
 pub returns-in_err-knows-clause-does : goal.returns-in_err-knows-clause-does
 returns-in_err-knows-clause-does g c =
-    does_same (λ (s : State). s) (after_command c.args.self.now (Some (command.Scan c.args.name c.args.from c.args.to))) c.args.self.now (g.W.Devices.standing c.args.world.now) c.knows.new.self (g.W.Devices.standing c.knows.new.world) c.from_residual.result
+    does_same (λ (s : State). s) (after_command c.args.self.now (Some (command.Scan c.args.name.now c.args.from c.args.to))) c.args.self.now (g.W.Devices.standing c.args.world.now) c.knows.new.self (g.W.Devices.standing c.knows.new.world) c.from_residual.result
     (does_err (λ (s : State). s) c.args.self.now (g.W.Devices.standing c.args.world.now) c.knows.new.self (g.W.Devices.standing c.knows.new.world) c.from_residual.result c.in_err-knows.field-0.0 c.from_residual.ensures c.in_err-knows.ensures.does)
-    (λ told s shows. sym (scan_stays (bounds_in (engine_sizes c.args.self.now)) s c.args.name c.args.from c.args.to))
+    (λ told s shows. sym (scan_stays (bounds_in (engine_sizes c.args.self.now)) s c.args.name.now c.args.from c.args.to))
 
 pub returns-then-not-branch-clause-does : goal.returns-then-not-branch-clause-does
 returns-then-not-branch-clause-does g c =
-    does_same (λ (s : State). s) (after_command c.args.self.now (Some (command.Scan c.args.name c.args.from c.args.to))) c.args.self.now (g.W.Devices.standing c.args.world.now) c.knows.new.self (g.W.Devices.standing c.knows.new.world) (Ok (step.Said (reply.Refused reason.Table)))
+    does_same (λ (s : State). s) (after_command c.args.self.now (Some (command.Scan c.args.name.now c.args.from c.args.to))) c.args.self.now (g.W.Devices.standing c.args.world.now) c.knows.new.self (g.W.Devices.standing c.knows.new.world) (Ok (step.Said (reply.Refused reason.Table)))
     (does_ok (λ (s : State). s) c.args.self.now (g.W.Devices.standing c.args.world.now) c.knows.new.self (g.W.Devices.standing c.knows.new.world) c.in_ok-knows.field-0 (step.Said (reply.Refused reason.Table)) c.in_ok-knows.ensures.does)
-    (λ told s shows. sym (scan_stays (bounds_in (engine_sizes c.args.self.now)) s c.args.name c.args.from c.args.to))
+    (λ told s shows. sym (scan_stays (bounds_in (engine_sizes c.args.self.now)) s c.args.name.now c.args.from c.args.to))
 
 pub returns-then-not-branch-clause-replies : goal.returns-then-not-branch-clause-replies
 returns-then-not-branch-clause-replies g c = λ told s shows.
-    ap (λ p. p.1) (scan_unknown (bounds_in (engine_sizes c.args.self.now)) s c.args.name c.args.from c.args.to (sym (c.in_ok-knows.ensures.known told s shows) ∙ c.if-not-branch.true))
+    ap (λ p. p.1) (scan_unknown (bounds_in (engine_sizes c.args.self.now)) s c.args.name.now c.args.from c.args.to (sym (c.in_ok-knows.ensures.known told s shows) ∙ c.if-not-branch.true))
 
 pub returns-clause-does : goal.returns-clause-does
 returns-clause-does g c =
-    does_same (λ (s : State). s) (after_command c.args.self.now (Some (command.Scan c.args.name c.args.from c.args.to))) c.args.self.now (g.W.Devices.standing c.args.world.now) c.knows.new.self (g.W.Devices.standing c.knows.new.world) (Ok (step.Scanning (record { name = c.args.name; from = c.args.from; to = c.args.to; count = 0; over = false })))
-    (does_ok (λ (s : State). s) c.args.self.now (g.W.Devices.standing c.args.world.now) c.knows.new.self (g.W.Devices.standing c.knows.new.world) c.in_ok-knows.field-0 (step.Scanning (record { name = c.args.name; from = c.args.from; to = c.args.to; count = 0; over = false })) c.in_ok-knows.ensures.does)
-    (λ told s shows. sym (scan_stays (bounds_in (engine_sizes c.args.self.now)) s c.args.name c.args.from c.args.to))
+    does_same (λ (s : State). s) (after_command c.args.self.now (Some (command.Scan c.args.name.now c.args.from c.args.to))) c.args.self.now (g.W.Devices.standing c.args.world.now) c.knows.new.self (g.W.Devices.standing c.knows.new.world) (Ok (step.Scanning (record { name = c.copy.result; from = c.args.from; to = c.args.to; count = 0; over = false })))
+    (does_ok (λ (s : State). s) c.args.self.now (g.W.Devices.standing c.args.world.now) c.knows.new.self (g.W.Devices.standing c.knows.new.world) c.in_ok-knows.field-0 (step.Scanning (record { name = c.copy.result; from = c.args.from; to = c.args.to; count = 0; over = false })) c.in_ok-knows.ensures.does)
+    (λ told s shows. sym (scan_stays (bounds_in (engine_sizes c.args.self.now)) s c.args.name.now c.args.from c.args.to))
 
 pub returns-clause-replies : goal.returns-clause-replies
 returns-clause-replies g c = λ told s shows.
-    ap (λ p. p.1) (scan_known (bounds_in (engine_sizes c.args.self.now)) s c.args.name c.args.from c.args.to (sym (c.in_ok-knows.ensures.known told s shows) ∙ c.if-not-branch.false))
-    ∙ scanned_from (rows_in c.args.name s) c.args.from c.args.to
+    rw c.copy.ensures (
+    ap (λ p. p.1) (scan_known (bounds_in (engine_sizes c.args.self.now)) s c.args.name.now c.args.from c.args.to (sym (c.in_ok-knows.ensures.known told s shows) ∙ c.if-not-branch.false))
+    ∙ scanned_from (rows_in c.args.name.now s) c.args.from c.args.to)
 
 pub returns-in_err-knows-clause-reads : goal.returns-in_err-knows-clause-reads
 returns-in_err-knows-clause-reads g c = reads_err _ _ _ _ c.from_residual.result c.in_err-knows.field-0.0 c.from_residual.ensures c.in_err-knows.ensures.reads
