@@ -193,9 +193,10 @@ edits_alone e old mid new page child low high at other step some same found dele
     let never = d.tree.0 in absurd (cc))
 
 -- the page above a child that fell below the floor
-pub record ShortBelow (e : Expect) (old mid : Lines) (level page low : ℕ) (free : List ℕ) (rows' : List Row) : Type 0 where
+pub record ShortBelow (e : Expect) (old mid : Lines) (level page low child : ℕ) (free : List ℕ) (rows' : List Row) : Type 0 where
   pub rest : List ℕ
   pub mendable : IsMendable mid page (at_level e (suc level)) low level rest
+  pub child_is : child ≡ mendable.s.1
   pub moves : Moves e.pages old mid (tree_pages old (suc level) page) (tree_pages mid (suc level) page) free rest
   pub entries : SameEntries old mid
   pub rows : rows_of mid level (children (bytes_of mid page)) ≡ rows'
@@ -204,7 +205,7 @@ pub short_below : (e : Expect) (old mid : Lines) (level page key child low high 
     → slice_get (spans (children (bytes_of old page)) e.high) at ≡ Some (record { page = child; low = low; high = high }) → low ≤ key → key ≤ high
     → Edits old mid child (record { level = level; low = low; high = high; root = false; pages = e.pages }) Short step
     → IsTree e.pages old (suc level) page e.low e.high e.root → IsFreeList old free → ArePart old (tree_pages old (suc level) page ++ free) → high_of old ≤ e.pages
-    → ShortBelow e old mid level page low free (step (tree_rows old (suc level) page))
+    → ShortBelow e old mid level page low child free (step (tree_rows old (suc level) page))
 short_below e old mid level page key child low high at step free local spot above within deletes tree is whole bound =
     let s : Span = record { page = child; low = low; high = high } in
     let l = located (children (bytes_of old page)) e.high at s spot in
@@ -237,6 +238,7 @@ short_below e old mid level page key child low high at step free local spot abov
         parted = part_after whole moves;
         within = b.moves.within;
       };
+      child_is = refl;
       moves = moves;
       entries = b.entries;
       rows = ap (rows_of mid level) kids ∙ rows;

@@ -17,7 +17,7 @@ use Rattle.page_alloc.specs.Counted.{times, SameOn}
 use Rattle.tree_search.specs.Tree.{IsTree, tree_rows, tree_pages, rows_of, pages_of}
 use Rattle.page_alloc.specs.Moves.{ArePart, Moves, SameEntries}
 use Rattle.node_edit.specs.Edit.{part, both, joined, whole_of, Merges, IsEnoughLeaf, IsEnoughInner}
-use Rattle.bplus_tree.specs.Edit.{Turns, Joins, WritesJoined, WritesDivided}
+use Rattle.bplus_tree.specs.Edit.{Turns, Joins, WritesJoined, WritesDivided, left_pages}
 use Rattle.page_alloc.proofs.CountedLaws.{times-append, SameOn-first}
 use Rattle.tree_search.proofs.OrderLaws.{IsChildTree, length-children}
 use Rattle.tree_search.proofs.FanLaws.{spans-parts, spans-join, stay_under}
@@ -25,11 +25,7 @@ use Rattle.page_alloc.proofs.MovesLaws.{Moves-trans}
 use Rattle.page_alloc.proofs.Places.{Moves-widen, Moves-write, in_part, part_after, same_beside}
 use Rattle.bplus_tree.proofs.Editing.{tree_of, reach_begins}
 
--- the pages that are left, and their bytes
-abbrev pub left_pages : Pair → Option ℕ → List ℕ
-left_pages pair None = pair.left ∷ []
-left_pages pair (Some key) = pair.left ∷ pair.right ∷ []
-
+-- the bytes of the right one, where it is left
 abbrev pub RightIs : Lines → Pair → List ℕ → Option ℕ → Type 0
 RightIs lines pair right None = Unit {0}
 RightIs lines pair right (Some key) = bytes_of lines pair.right ≡ right
@@ -41,7 +37,7 @@ pub record JoinWritten (count : ℕ) (old new : Lines) (pair : Pair) (cut : Opti
   pub left_is : bytes_of new pair.left ≡ left
   pub right_is : RightIs new pair right cut
 
-two_apart : (lines : Lines) (a b : ℕ) (free : List ℕ) → ArePart lines (a ∷ b ∷ free) → a ≢ b
+pub two_apart : (lines : Lines) (a b : ℕ) (free : List ℕ) → ArePart lines (a ∷ b ∷ free) → a ≢ b
 two_apart lines a b free part e =
     let here = in_part lines (a ∷ b ∷ free) a part (rw (eq-eqb a a refl) (omega arith)) in
     let own = rw (eq-eqb a a refl, eq-eqb b a (sym e)) at here.2 in omega (arith, own)

@@ -5,6 +5,8 @@ pub mod TreeDamageLaws
 pub mod Editing
 pub mod Storing
 pub mod Joined
+pub mod PageLaws
+pub mod UnderLaws
 pub mod StandLaws
 pub mod PathLaws
 pub mod RootLaws

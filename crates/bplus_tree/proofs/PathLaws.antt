@@ -24,6 +24,8 @@ use Rattle.tree_search.proofs.SizeLaws.{full_root_rows}
 use Rattle.page_alloc.proofs.SoundLaws.{moved_header}
 use Rattle.tree_search.proofs.SearchLaws.{well_formed_top}
 use Rattle.page_alloc.proofs.LackLaws.{stops_wider, fault_stops}
+use Rattle.bplus_tree.specs.PageChanges.{ChangesUnder}
+use Rattle.bplus_tree.proofs.UnderLaws.{expect_is, under_on}
 use Rattle.bplus_tree.proofs.StandLaws.{way_down, stands_child, leads_stands, above_child, takes_leaf, takes_above}
 use Rattle.bplus_tree.proofs.Editing.{IsLocal, at_level, short_below, edits_kept, edits_short, edits_alone}
 use Rattle.bplus_tree.proofs.Storing.{edits_cut}
@@ -125,19 +127,11 @@ pub record Climbing (told : Bool) (count key : ℕ) (old now : Lines) (top : Pla
   pub safe : IsSafe count bottom.expect outcome
   pub below : StaysBelow bottom.expect outcome
   pub edits : IsTrue told → Edits old now bottom.page bottom.expect outcome step
+  pub under : IsTrue told → (free : List ℕ) → StandsAt old bottom.page bottom.expect free → ChangesUnder step key old now bottom.expect.level bottom.page bottom.expect.root outcome
   pub takes : IsTrue told → TakesFor count old now bottom.page bottom.expect outcome
   pub spent : IsSpent bottom.expect.level old_room room outcome
   pub height : bottom.expect.level + length path ≡ top.expect.level
   pub few : visits ≤ old_visits + top.expect.level + 9 + 13 * bottom.expect.level
-
-abbrev at_expect : ℕ → ℕ → ℕ → Bool → ℕ → Expect
-at_expect level low high root pages = record { level = level; low = low; high = high; root = root; pages = pages }
-
-expect_is : (e : Expect) (level pages : ℕ) (root : Bool) → e.level ≡ level → e.root ≡ root → e.pages ≡ pages → e ≡ record { level = level; low = e.low; high = e.high; root = root; pages = pages }
-expect_is e level pages root is_level is_root is_pages =
-    ap (λ (l : ℕ). at_expect l e.low e.high e.root e.pages) is_level
-    ∙ ap (λ (r : Bool). at_expect level e.low e.high r e.pages) is_root
-    ∙ ap (λ (n : ℕ). at_expect level e.low e.high root n) is_pages
 
 child_expect_of : (told : Bool) (lines : Lines) (count key : ℕ) (from : Passed) (to : Place) → LeadsTo told lines count key from to
     → to.expect ≡ record { level = from.place.expect.level - 1; low = to.expect.low; high = to.expect.high; root = false; pages = from.place.expect.pages }
@@ -165,7 +159,7 @@ settled told count key old mid new passed child Short outcome step local t way s
     let e = passed.place.expect in
     let below = subst (λ (x : Expect). Edits old mid child.page x Short step) (child_expect_of told old count key passed child way) edits in
     edits_short e old old mid new passed.place.page key child.page child.expect.low child.expect.high way.at outcome step local (omega (arith, way.level)) refl (way.found t) way.above way.within below
-    (subst (λ (low : ℕ). Mends mid new passed.place.page e low outcome) way.low mends)
+    (subst (λ (low : ℕ). Mends mid new passed.place.page e low outcome) way.low mends.0)
 settled told count key old mid new passed child (Cut separator right) outcome step local t way safe edits adds follows =
     let e = passed.place.expect in
     let below = subst (λ (x : Expect). Edits old mid child.page x (Cut separator right) step) (child_expect_of told old count key passed child way) edits in
@@ -198,6 +192,7 @@ climb_on told count key old mid new top path passed before outcome step old_room
       safe = safe;
       below = below;
       edits = λ t. settled told count key old mid new passed c.bottom before outcome step local t back.1 c.safe (c.edits t) (settles t) follows;
+      under = λ t free stands. under_on told count key old mid new passed c.bottom before outcome step free local t back.1 (c.edits t) (settles t) follows stands (c.under t free (stands_child told old count key passed c.bottom free t back.1 stands));
       takes = λ t. takes_above told count key old mid new passed c.bottom before outcome step t back.1.place.pages back.1 (c.edits t) (c.takes t) (settles t) follows;
       spent = subst (λ (l : ℕ). IsSpent l old_room room outcome) (sym back.1.level) (spent_above c.bottom.expect.level old_room mid_room room before outcome c.spent follows spent);
       height = omega (arith, c.height, more, back.1.level);
@@ -239,14 +234,16 @@ can_settle told count key old mid top path passed outcome step old_room room old
 -- at the leaf
 pub climb_start : (told : Bool) (count key : ℕ) (old mid new : Lines) (top leaf : Place) (path : List Passed) (outcome : Outcome) (step : List Row → List Row) (old_room mid_room room old_visits mid_visits visits : ℕ)
     → leaf.expect.level ≡ 0 → leaf.expect.pages ≡ count → Leads told old count key top path leaf → (IsTrue told → mid ≡ old) → mid_room ≡ old_room → mid_visits ≤ old_visits + top.expect.level + 1
-    → IsSafe count leaf.expect outcome → StaysBelow leaf.expect outcome → (IsTrue told → Edits mid new leaf.page leaf.expect outcome step) → IsSpent 0 mid_room room outcome → visits ≤ mid_visits + 8
+    → IsSafe count leaf.expect outcome → StaysBelow leaf.expect outcome → (IsTrue told → Edits mid new leaf.page leaf.expect outcome step)
+    → (IsTrue told → (free : List ℕ) → StandsAt old leaf.page leaf.expect free → ChangesUnder step key old new leaf.expect.level leaf.page leaf.expect.root outcome) → IsSpent 0 mid_room room outcome → visits ≤ mid_visits + 8
     → Climbing told count key old new top path outcome step old_room room old_visits visits
-climb_start told count key old mid new top leaf path outcome step old_room mid_room room old_visits mid_visits visits level is_count leads same same_room few_down safe below edits spent few = record {
+climb_start told count key old mid new top leaf path outcome step old_room mid_room room old_visits mid_visits visits level is_count leads same same_room few_down safe below edits under spent few = record {
   bottom = leaf;
   leads = leads;
   safe = safe;
   below = below;
   edits = λ t. subst (λ (lines : Lines). Edits lines new leaf.page leaf.expect outcome step) (same t) (edits t);
+  under = under;
   takes = λ t. takes_leaf count old new leaf outcome step level is_count (subst (λ (lines : Lines). Edits lines new leaf.page leaf.expect outcome step) (same t) (edits t));
   spent = subst (λ (l : ℕ). IsSpent l old_room room outcome) (sym level) (subst (λ (n : ℕ). IsSpent 0 n room outcome) same_room spent);
   height = leads-height told old count key top leaf path leads;
@@ -271,6 +268,13 @@ pub climb_end : (told : Bool) (count key : ℕ) (old now : Lines) (top : Place) 
 climb_end told count key old now top path outcome step old_room room old_visits visits none c =
     let is : top ≡ c.bottom = subst (λ (p : List Passed). Leads told old count key top p c.bottom) none c.leads in
     subst (λ (p : Place). Climbed told count old now p outcome step old_room room) (sym is) (record { safe = c.safe; below = c.below; edits = c.edits; takes = c.takes; spent = c.spent })
+
+pub climb_under : (told : Bool) (count key : ℕ) (old now : Lines) (top : Place) (path : List Passed) (outcome : Outcome) (step : List Row → List Row) (old_room room old_visits visits : ℕ) → path ≡ []
+    → Climbing told count key old now top path outcome step old_room room old_visits visits → IsTrue told → (free : List ℕ) → StandsAt old top.page top.expect free → ChangesUnder step key old now top.expect.level top.page top.expect.root outcome
+climb_under told count key old now top path outcome step old_room room old_visits visits none c t free stands =
+    let is : top ≡ c.bottom = subst (λ (p : List Passed). Leads told old count key top p c.bottom) none c.leads in
+    let here = subst (λ (p : Place). StandsAt old p.page p.expect free) is stands in
+    subst (λ (p : Place). ChangesUnder step key old now p.expect.level p.page p.expect.root outcome) (sym is) (c.under t free here)
 
 pub uncut_below : (e : Expect) (outcome : Outcome) → ((k r : ℕ) → outcome ≢ Cut k r) → StaysBelow e outcome
 uncut_below e Whole uncut = tt

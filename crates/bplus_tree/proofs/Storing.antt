@@ -20,6 +20,7 @@ use Rattle.tree_search.specs.Tree.{IsTree, Tree, tree_rows, tree_pages, rows_of,
 use Rattle.page_alloc.specs.Moves.{ArePart, Moves, Takes}
 use Rattle.bplus_tree.specs.Changes.{ChangesRows}
 use Rattle.page_alloc.specs.Written.{Rewrites}
+use Rattle.node_edit.specs.Cuts.{CutsChildren}
 use Rattle.node_edit.specs.Edit.{part, loose, Divides, Fits, child_put, IsNewRoot}
 use Rattle.bplus_tree.specs.Edit.{Became, Edits, IsOutcome, Stored, Stores, AddsChild, root_left, spent, IsSpent}
 use Rattle.page_alloc.proofs.CountedLaws.{times-append, SameOn-first}
@@ -218,17 +219,19 @@ edits_cut e old first mid new page key child low high at separator right outcome
 
 -- an inner page that has one more child and was written
 pub child_added : (e : Expect) (old mid new : Lines) (page key child count : ℕ) (bytes left right : List ℕ) (fit : Fit) (outcome : Outcome) → count ≡ e.pages → mid ≡ old → bytes ≡ bytes_of old page
-    → Fits children e left right (child_put key child (children bytes)) fit → fit ≢ fits.Short → IsOutcome count fit outcome → Stores count mid new page outcome left right → AddsChild old new page e key child outcome
-child_added e old mid new page key child count bytes left right fit outcome is_count same are fits long is stores free is_free part within =
+    → Fits children e left right (child_put key child (children bytes)) fit → fit ≢ fits.Short
+    → ((k : ℕ) → fit ≡ fits.Cut k → CutsChildren (child_put key child (children bytes)) (children left) (children right) k) → IsOutcome count fit outcome → Stores count mid new page outcome left right → AddsChild old new page e key child outcome
+child_added e old mid new page key child count bytes left right fit outcome is_count same are held long parts is stores free is_free part within =
     record {
       left = left;
       right = right;
       fit = fit;
       stored = subst (λ n. Stored n old new page outcome left right free) is_count
           (subst (λ lines. Stores count lines new page outcome left right) same stores free is_free part (subst (λ n. high_of old ≤ n) (sym is_count) within));
-      held = subst (λ b. Fits children e left right (child_put key child (children b)) fit) are fits;
+      held = subst (λ b. Fits children e left right (child_put key child (children b)) fit) are held;
       is = subst (λ n. IsOutcome n fit outcome) is_count is;
       long = long;
+      parts = subst (λ b. (k : ℕ) → fit ≡ fits.Cut k → CutsChildren (child_put key child (children b)) (children left) (children right) k) are parts;
     }
 
 -- a tree of these rows has at most so many pages

@@ -1,5 +1,5 @@
 -- What the calls that change a tree do to the pages under a page.
-use Rattle.std.specs.Prelude.{◌≡◌, ◌≢◌, ℕ, suc, ◌+◌, ◌-◌, ◌*◌, ◌<◌, ◌≤◌, ◌⊎◌, Bool, true, false, List, [], ◌∷◌, ◌++◌, Option, None, max}
+use Rattle.std.specs.Prelude.{◌≡◌, ◌≢◌, ℕ, suc, ◌+◌, ◌-◌, ◌*◌, ◌<◌, ◌≤◌, ◌⊎◌, Bool, true, false, List, [], ◌∷◌, ◌++◌, Option, None, Some, max, length}
 use Rattle.line_pages.specs.Lines.{Lines}
 use Rattle.line_pages.specs.Bytes.{bytes_of}
 use Rattle.page_format.specs.declared.root.Expect.{Expect}
@@ -17,6 +17,10 @@ use Rattle.tree_search.specs.Tree.{IsTree, tree_rows, tree_pages, pages_of, rows
 use Rattle.page_alloc.specs.Moves.{ArePart, Moves, SameEntries, Gives}
 use Rattle.page_alloc.specs.Written.{Rewrites}
 use Rattle.node_edit.specs.Edit.{Fits, Mended, both, child_put, joined}
+use Rattle.node_edit.specs.Cuts.{CutsChildren}
+use Rattle.page_format.specs.Room.{leaf_floor}
+use Rattle.page_format.specs.Sound.{row_bytes}
+use Rattle.bplus_tree.specs.PageChanges.{PairHolds, JoinsSibling, rows_at}
 
 -- what stands for a page afterwards: its pages, its rows, and that it is a tree, or two that part at a key
 abbrev pub pages_left : Lines → ℕ → ℕ → Outcome → List ℕ
@@ -80,6 +84,24 @@ Joins count old new level pair cut =
     → (left_loose ≡ false) ⊎ (right_loose ≡ false) → IsFreeList old free → ArePart old (pages_of old level (both pair) ++ free) → high_of old ≤ count
     → Turns count old new level (both pair) (joined pair cut) pair.high (rows_of old level (both pair)) free
 
+-- the pages that are left of two neighbours
+abbrev pub left_pages : Pair → Option ℕ → List ℕ
+left_pages pair None = pair.left ∷ []
+left_pages pair (Some key) = pair.left ∷ pair.right ∷ []
+
+-- two neighbours that were joined, by the pages that hold their entries
+pub record PairJoined (count : ℕ) (old new : Lines) (level : ℕ) (pair : Pair) (cut : Option ℕ) (free : List ℕ) : Type 0 where
+  pub rest : List ℕ
+  pub moves : Moves count old new (pair.left ∷ pair.right ∷ []) (left_pages pair cut) free rest
+  pub holds : PairHolds level (bytes_of old pair.left) (bytes_of old pair.right) (bytes_of new pair.left) (bytes_of new pair.right) cut
+
+-- It is said where one of two leaves is below the floor.
+abbrev pub JoinsPair : ℕ → Lines → Lines → ℕ → Pair → Option ℕ → Type 0
+JoinsPair count old new level pair cut =
+    (free : List ℕ) → IsFreeList old free → ArePart old (pair.left ∷ pair.right ∷ free) → high_of old ≤ count
+    → (level ≡ 0 → (row_bytes (rows_at old pair.left) < leaf_floor) ⊎ (row_bytes (rows_at old pair.right) < leaf_floor))
+    → PairJoined count old new level pair cut free
+
 -- A page of this tree, whose child at a key may be below the floor, beside a free list.
 pub record IsMendable (lines : Lines) (page : ℕ) (expect : Expect) (key level : ℕ) (free : List ℕ) : Type 0 where
   pub is_level : expect.level ≡ suc level
@@ -101,6 +123,12 @@ abbrev pub Mends : Lines → Lines → ℕ → Expect → ℕ → Outcome → Ty
 Mends old new page expect key outcome =
     (level : ℕ) (free : List ℕ) → IsMendable old page expect key level free
     → Became expect.pages old new expect.level page expect.low expect.high expect.root outcome (rows_of old level (children (bytes_of old page))) free
+
+-- The child is joined with a sibling where it is below the floor.
+abbrev pub MendsPages : Lines → Lines → ℕ → Expect → ℕ → Outcome → Type 0
+MendsPages old new page expect key outcome =
+    (level : ℕ) (free : List ℕ) → (m : IsMendable old page expect key level free) → (level ≡ 0 → row_bytes (rows_at old m.s.1) < leaf_floor)
+    → JoinsSibling old new level page expect.root key outcome
 
 -- the pages that were written
 abbrev pub own : ℕ → Outcome → List ℕ
@@ -148,6 +176,7 @@ pub record Added (old new : Lines) (page : ℕ) (expect : Expect) (all : List Ch
   pub held : Fits children expect left right all fit
   pub is : IsOutcome expect.pages fit outcome
   pub long : fit ≢ fits.Short
+  pub parts : (key : ℕ) → fit ≡ fits.Cut key → CutsChildren all (children left) (children right) key
 
 abbrev pub AddsChild : Lines → Lines → ℕ → Expect → ℕ → ℕ → Outcome → Type 0
 AddsChild old new page expect key child outcome =
@@ -197,6 +226,7 @@ pub record MendWritten (old new : Lines) (page : ℕ) (expect : Expect) (pair : 
   pub mended : Mended expect (bytes_of old page) bytes pair cut fit
   pub wrote : Rewrites page bytes old new
   pub uncut : (key : ℕ) → fit ≢ fits.Cut key
+  pub short : fit ≡ fits.Short → (expect.root ≡ false) × (length (children bytes) < 80)
   pub is : outcome ≡ after_fit fit
 
 pub record MendGiven (count : ℕ) (old new : Lines) (page : ℕ) (pair : Pair) (cut : Option ℕ) (outcome : Outcome) : Type 0 where

@@ -1,6 +1,7 @@
 pub mod Causes
 pub mod Changes
 pub mod Damage
+pub mod PageChanges
 pub mod Edit
 pub mod Full
 pub mod LineChanges

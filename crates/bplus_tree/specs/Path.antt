@@ -17,7 +17,7 @@ use Rattle.page_alloc.specs.Space.{high_of, IsFreeList}
 use Rattle.tree_search.specs.Tree.{IsTree, tree_pages}
 use Rattle.page_alloc.specs.Moves.{ArePart}
 use Rattle.page_alloc.specs.Stops.{IsFault, StopsFor, spare_pages}
-use Rattle.bplus_tree.specs.Edit.{IsMendable, Mends, AddsChild}
+use Rattle.bplus_tree.specs.Edit.{IsMendable, Mends, MendsPages, AddsChild}
 
 -- the place of a root
 abbrev pub root_place : Root → ℕ → Place
@@ -54,7 +54,8 @@ Leads told lines count key top (passed ∷ rest) bottom = (passed.place ≡ top)
 -- what was done to a page above a child that became this
 abbrev pub Settles : Lines → Lines → Passed → Outcome → Outcome → Type 0
 Settles old new passed Whole outcome = new ≡ old
-Settles old new passed Short outcome = Mends old new passed.place.page passed.place.expect passed.low outcome
+Settles old new passed Short outcome =
+    Mends old new passed.place.page passed.place.expect passed.low outcome × MendsPages old new passed.place.page passed.place.expect passed.low outcome
 Settles old new passed (Cut key right) outcome = AddsChild old new passed.place.page passed.place.expect key right outcome
 Settles old new passed (Alone child) outcome = new ≡ old
 

@@ -43,10 +43,13 @@ pub fn look<P: Pages>(
     requires root { is_root_span expect.now.low expect.now.high ≡ true → expect.now.root ≡ true }
     requires above { expect.now.low ≤ key }
     requires within { key ≤ expect.now.high }
-    ensures spot { OnPage P.Pages pages.old page expect.now (IfOk result (IsSpot (bytes_of (P.standing pages.old).current page) expect.now key)) }
+    ensures spot { OnPage P.Pages pages.old page expect.now
+        (IfOk result (IsSpot (bytes_of (P.standing pages.old).current page) expect.now key)) }
     ensures safe { IfOk result (IsSafeSpot expect.now key) }
     ensures reads { OnOk result (ReadsPage page (P.standing pages.old) (P.standing pages.new)) }
-    ensures cost { OnPage P.Pages pages.old page expect.now (OnOk result (Costs (search_lines expect.now.level) (P.standing pages.old) (P.standing pages.new))) }
+    ensures cost { OnPage P.Pages pages.old page expect.now
+        (OnOk result (Costs (search_lines expect.now.level) (P.standing pages.old)
+        (P.standing pages.new))) }
     ensures keeps { OnOk result (KeepsLines (P.standing pages.old) (P.standing pages.new)) }
     ensures sound { OnPage P.Pages pages.old page expect.now (IfErr result IsFault) }
     ensures cause { TreeCause P.Pages pages.old pages.new work.new.page result }
@@ -71,7 +74,8 @@ pub fn load<P: Pages>(
     requires pages { expect.now.pages ≡ (P.standing pages.old).count }
     requires root { is_root_span expect.now.low expect.now.high ≡ true → expect.now.root ≡ true }
     ensures well { OnOk result (IsWellFormed work.new.page expect.now) }
-    ensures bytes { IsTrue (P.standing pages.old).told → OnOk result (work.new.page ≡ bytes_of (P.standing pages.old).current page) }
+    ensures bytes { IsTrue (P.standing pages.old).told
+        → OnOk result (work.new.page ≡ bytes_of (P.standing pages.old).current page) }
     ensures others { KeepsOthers work.old work.new }
     ensures reads { OnOk result (ReadsPage page (P.standing pages.old) (P.standing pages.new)) }
     ensures keeps { OnOk result (KeepsLines (P.standing pages.old) (P.standing pages.new)) }
@@ -80,7 +84,8 @@ pub fn load<P: Pages>(
     ensures fails { IfErr result (Keeps (FailsTree (P.standing pages.old).count work.new.page)) }
     ensures not_full { IfErr result NotFull }
     ensures call { PagesCall P.Pages pages.old pages.new result }
-    ensures again { begins (P.standing pages.old).access page false ≡ false → (P.standing pages.new).visits ≤ (P.standing pages.old).visits }
+    ensures again { begins (P.standing pages.old).access page false ≡ false
+        → (P.standing pages.new).visits ≤ (P.standing pages.old).visits }
     ensures few { (P.standing pages.new).visits ≤ (P.standing pages.old).visits + 1 }
 {
     read_page(pages, page, expect, work)
@@ -90,11 +95,17 @@ pub fn load<P: Pages>(
 pub fn take<P: Pages>(pages: &mut P, work: &mut Work) -> Result<u64, Stop>
     requires ready { P.is_ready pages.old }
     requires room { 1 ≤ (P.standing pages.old).room }
-    ensures moves { IsTrue (P.standing pages.old).told → IfOk result (Takes (P.standing pages.old).count (P.standing pages.old).current (P.standing pages.new).current) }
+    ensures moves { IsTrue (P.standing pages.old).told
+        → IfOk result (Takes (P.standing pages.old).count (P.standing pages.old).current
+        (P.standing pages.new).current) }
     ensures in_range { IfOk result (λ page. (1 ≤ page) × (page < (P.standing pages.old).count)) }
     ensures room { OnOk result ((P.standing pages.new).room + 1 ≡ (P.standing pages.old).room) }
     ensures work { OnOk result (work.new ≡ work.old) }
-    ensures sound { IsTrue (P.standing pages.old).told → FitsHeader (P.standing pages.old).count ((P.standing pages.old).current 0 0) → (free : List ℕ) → IsFreeList (P.standing pages.old).current free → IfErr result (IsShort (spare_pages (P.standing pages.old).count (P.standing pages.old).current free) 0) }
+    ensures sound { IsTrue (P.standing pages.old).told
+        → FitsHeader (P.standing pages.old).count ((P.standing pages.old).current 0 0)
+        → (free : List ℕ) → IsFreeList (P.standing pages.old).current free
+        → IfErr result
+        (IsShort (spare_pages (P.standing pages.old).count (P.standing pages.old).current free) 0) }
     ensures cause { TreeCause P.Pages pages.old pages.new work.new.page result }
     ensures fails { IfErr result (Keeps (FailsTree (P.standing pages.old).count work.new.page)) }
     ensures not_full { IfErr result NotFull }
@@ -110,10 +121,14 @@ pub fn give<P: Pages>(pages: &mut P, work: &mut Work, page: u64) -> Result<(), S
     requires some { 1 ≤ page }
     requires page { page < (P.standing pages.old).count }
     requires room { 2 ≤ (P.standing pages.old).room }
-    ensures moves { IsTrue (P.standing pages.old).told → OnOk result (Gives (P.standing pages.old).count (P.standing pages.old).current (P.standing pages.new).current page) }
+    ensures moves { IsTrue (P.standing pages.old).told
+        → OnOk result (Gives (P.standing pages.old).count (P.standing pages.old).current
+        (P.standing pages.new).current page) }
     ensures room { OnOk result ((P.standing pages.new).room + 2 ≡ (P.standing pages.old).room) }
     ensures work { OnOk result (work.new ≡ work.old) }
-    ensures sound { IsTrue (P.standing pages.old).told → FitsHeader (P.standing pages.old).count ((P.standing pages.old).current 0 0) → IfErr result IsFault }
+    ensures sound { IsTrue (P.standing pages.old).told
+        → FitsHeader (P.standing pages.old).count ((P.standing pages.old).current 0 0)
+        → IfErr result IsFault }
     ensures cause { TreeCause P.Pages pages.old pages.new work.new.page result }
     ensures fails { IfErr result (Keeps (FailsTree (P.standing pages.old).count work.new.page)) }
     ensures not_full { IfErr result NotFull }
@@ -133,7 +148,9 @@ pub fn write_new<P: Pages>(
     requires ready { P.is_ready pages.old }
     requires page { page < (P.standing pages.old).count }
     requires room { 64 ≤ (P.standing pages.old).room }
-    ensures writes { IsTrue (P.standing pages.old).told → OnOk result (Rewrites page bytes.now (P.standing pages.old).current (P.standing pages.new).current) }
+    ensures writes { IsTrue (P.standing pages.old).told
+        → OnOk result
+        (Rewrites page bytes.now (P.standing pages.old).current (P.standing pages.new).current) }
     ensures room { OnOk result ((P.standing pages.old).room ≤ (P.standing pages.new).room + 64) }
     ensures sound { IfErr result IsFault }
     ensures cause { HasCause Never (P.standing pages.old) (P.standing pages.new) result }
@@ -150,10 +167,19 @@ fn store_cut<P: Pages>(pages: &mut P, page: u64, key: u64, work: &mut Work) -> R
     requires ready { P.is_ready pages.old }
     requires page { page < (P.standing pages.old).count }
     requires room { 129 ≤ (P.standing pages.old).room }
-    ensures stores { IsTrue (P.standing pages.old).told → work.old.spare ≡ bytes_of (P.standing pages.old).current page → IfOk result (λ outcome. Stores (P.standing pages.old).count (P.standing pages.old).current (P.standing pages.new).current page outcome work.old.page work.old.right) }
+    ensures stores { IsTrue (P.standing pages.old).told
+        → work.old.spare ≡ bytes_of (P.standing pages.old).current page
+        → IfOk result (λ outcome. Stores (P.standing pages.old).count (P.standing pages.old).current
+        (P.standing pages.new).current page outcome work.old.page work.old.right) }
     ensures is { IfOk result (IsCutAt (P.standing pages.old).count key) }
     ensures room { OnOk result ((P.standing pages.old).room ≤ (P.standing pages.new).room + 129) }
-    ensures sound { IsTrue (P.standing pages.old).told → work.old.spare ≡ bytes_of (P.standing pages.old).current page → (free : List ℕ) → IsFreeList (P.standing pages.old).current free → ArePart (P.standing pages.old).current (page ∷ free) → FitsHeader (P.standing pages.old).count ((P.standing pages.old).current 0 0) → IfErr result (IsShort (spare_pages (P.standing pages.old).count (P.standing pages.old).current free) 0) }
+    ensures sound { IsTrue (P.standing pages.old).told
+        → work.old.spare ≡ bytes_of (P.standing pages.old).current page → (free : List ℕ)
+        → IsFreeList (P.standing pages.old).current free
+        → ArePart (P.standing pages.old).current (page ∷ free)
+        → FitsHeader (P.standing pages.old).count ((P.standing pages.old).current 0 0)
+        → IfErr result
+        (IsShort (spare_pages (P.standing pages.old).count (P.standing pages.old).current free) 0) }
     ensures cause { TreeCause P.Pages pages.old pages.new work.new.page result }
     ensures fails { IfErr result (Keeps (FailsTree (P.standing pages.old).count work.new.page)) }
     ensures not_full { IfErr result NotFull }
@@ -172,14 +198,30 @@ fn store_cut<P: Pages>(pages: &mut P, page: u64, key: u64, work: &mut Work) -> R
 pub fn store<P: Pages>(pages: &mut P, page: u64, fit: Fit, work: &mut Work) -> Result<Outcome, Stop>
     requires ready { P.is_ready pages.old }
     requires page { page < (P.standing pages.old).count }
-    requires room { spent (lines_changed work.old.spare work.old.page) fit ≤ (P.standing pages.old).room }
-    ensures stores { IsTrue (P.standing pages.old).told → work.old.spare ≡ bytes_of (P.standing pages.old).current page → IfOk result (λ outcome. Stores (P.standing pages.old).count (P.standing pages.old).current (P.standing pages.new).current page outcome work.old.page work.old.right) }
+    requires room { spent (lines_changed work.old.spare work.old.page) fit
+        ≤ (P.standing pages.old).room }
+    ensures stores { IsTrue (P.standing pages.old).told
+        → work.old.spare ≡ bytes_of (P.standing pages.old).current page
+        → IfOk result (λ outcome. Stores (P.standing pages.old).count (P.standing pages.old).current
+        (P.standing pages.new).current page outcome work.old.page work.old.right) }
     ensures is { IfOk result (IsOutcome (P.standing pages.old).count fit) }
-    ensures room { OnOk result ((P.standing pages.old).room ≤ (P.standing pages.new).room + spent (lines_changed work.old.spare work.old.page) fit) }
-    ensures sound { IsTrue (P.standing pages.old).told → work.old.spare ≡ bytes_of (P.standing pages.old).current page → (free : List ℕ) → IsFreeList (P.standing pages.old).current free → ArePart (P.standing pages.old).current (page ∷ free) → FitsHeader (P.standing pages.old).count ((P.standing pages.old).current 0 0) → IfErr result (IsShort (spare_pages (P.standing pages.old).count (P.standing pages.old).current free) 0) }
+    ensures room { OnOk result ((P.standing pages.old).room ≤ (P.standing pages.new).room + spent
+        (lines_changed work.old.spare work.old.page) fit) }
+    ensures sound { IsTrue (P.standing pages.old).told
+        → work.old.spare ≡ bytes_of (P.standing pages.old).current page → (free : List ℕ)
+        → IsFreeList (P.standing pages.old).current free
+        → ArePart (P.standing pages.old).current (page ∷ free)
+        → FitsHeader (P.standing pages.old).count ((P.standing pages.old).current 0 0)
+        → IfErr result
+        (IsShort (spare_pages (P.standing pages.old).count (P.standing pages.old).current free) 0) }
     ensures plain { ((key : ℕ) → fit ≢ fits.Cut key) → IfErr result IsFault }
-    ensures shows { IsTrue (P.standing pages.old).told → work.old.spare ≡ bytes_of (P.standing pages.old).current page → ((key : ℕ) → fit ≢ fits.Cut key) → OnOk result (bytes_of (P.standing pages.new).current page ≡ work.old.page) }
-    ensures touches { ((key : ℕ) → fit ≢ fits.Cut key) → OnOk result (WritesOnly page (Differs work.old.spare work.old.page) (P.standing pages.old) (P.standing pages.new)) }
+    ensures shows { IsTrue (P.standing pages.old).told
+        → work.old.spare ≡ bytes_of (P.standing pages.old).current page
+        → ((key : ℕ) → fit ≢ fits.Cut key)
+        → OnOk result (bytes_of (P.standing pages.new).current page ≡ work.old.page) }
+    ensures touches { ((key : ℕ) → fit ≢ fits.Cut key)
+        → OnOk result (WritesOnly page (Differs work.old.spare work.old.page) (P.standing pages.old)
+        (P.standing pages.new)) }
     ensures cause { TreeCause P.Pages pages.old pages.new work.new.page result }
     ensures fails { IfErr result (Keeps (FailsTree (P.standing pages.old).count work.new.page)) }
     ensures not_full { IfErr result NotFull }

@@ -17,7 +17,9 @@ ghost use Rattle.page_alloc.specs.Moves.{ArePart};
 ghost use Rattle.bplus_tree.specs.Damage.{FailsTree, IsFullRoot};
 ghost use Rattle.bplus_tree.specs.Full.{NotFull, NamesFull, CutsFor, IsNeeded, IsOverfull};
 ghost use Rattle.page_alloc.specs.Stops.{IsFault, IsShort, StopsFor, spare_pages};
-ghost use Rattle.bplus_tree.specs.Edit.{Edits, Mends, IsMendable, AddsChild, IsSafe, IsSpent, StaysBelow, Rewritten, after_fit};
+ghost use Rattle.bplus_tree.specs.PageChanges.{CutsLeaf};
+ghost use Rattle.page_alloc.specs.Space.{high_of};
+ghost use Rattle.bplus_tree.specs.Edit.{Edits, Mends, MendsPages, IsMendable, AddsChild, IsSafe, IsSpent, StaysBelow, Rewritten, after_fit};
 ghost use Rattle.node_edit.specs.Edit.{IsPair, IsCutIn};
 ghost use Rattle.bplus_tree.specs.Path.{IsFullAt};
 ghost use Rattle.node_edit.specs.Record.{FitsLeaf, HoldsLength};
@@ -58,20 +60,55 @@ fn put_leaf<P: Pages>(
     requires room { 129 ≤ (P.standing pages.old).room }
     ensures safe { IfOk result (IsSafe (P.standing pages.old).count expect.now) }
     ensures below { IfOk result (StaysBelow expect.now) }
-    ensures edits { IsTrue (P.standing pages.old).told → IfOk result (λ outcome. Edits (P.standing pages.old).current (P.standing pages.new).current page expect.now outcome (row_put key value.now)) }
-    ensures again { IsTrue (P.standing pages.old).told → HoldsLength key (length value.now) (leaf_rows (bytes_of (P.standing pages.old).current page)) → OnOk result (WritesRecord page key (P.standing pages.old) (P.standing pages.new)) }
-    ensures whole { IsTrue (P.standing pages.old).told → HoldsLength key (length value.now) (leaf_rows (bytes_of (P.standing pages.old).current page)) → IfOk result (λ outcome. outcome ≡ Outcome.Whole) }
-    ensures lines { IsTrue (P.standing pages.old).told → FitsLeaf (expect.now.root ≡ true) (row_put key value.now (leaf_rows (bytes_of (P.standing pages.old).current page))) → OnOk result (WritesChange page (P.standing pages.old) (P.standing pages.new)) }
-    ensures fills { IsTrue (P.standing pages.old).told → FitsLeaf (expect.now.root ≡ true) (row_put key value.now (leaf_rows (bytes_of (P.standing pages.old).current page))) → IfOk result (λ outcome. outcome ≡ Outcome.Whole) }
+    ensures edits { IsTrue (P.standing pages.old).told
+        → IfOk result
+        (λ outcome. Edits (P.standing pages.old).current
+        (P.standing pages.new).current page expect.now outcome (row_put key value.now)) }
+    ensures again { IsTrue (P.standing pages.old).told
+        → HoldsLength key (length value.now)
+        (leaf_rows (bytes_of (P.standing pages.old).current page))
+        → OnOk result (WritesRecord page key (P.standing pages.old) (P.standing pages.new)) }
+    ensures whole { IsTrue (P.standing pages.old).told
+        → HoldsLength key (length value.now)
+        (leaf_rows (bytes_of (P.standing pages.old).current page))
+        → IfOk result (λ outcome. outcome ≡ Outcome.Whole) }
+    ensures lines { IsTrue (P.standing pages.old).told
+        → FitsLeaf (expect.now.root ≡ true)
+        (row_put key value.now (leaf_rows (bytes_of (P.standing pages.old).current page)))
+        → OnOk result (WritesChange page (P.standing pages.old) (P.standing pages.new)) }
+    ensures fills { IsTrue (P.standing pages.old).told
+        → FitsLeaf (expect.now.root ≡ true)
+        (row_put key value.now (leaf_rows (bytes_of (P.standing pages.old).current page)))
+        → IfOk result (λ outcome. outcome ≡ Outcome.Whole) }
+    ensures parts { IsTrue (P.standing pages.old).told → (free : List ℕ)
+        → IsFreeList (P.standing pages.old).current free
+        → ArePart (P.standing pages.old).current (page ∷ free)
+        → high_of (P.standing pages.old).current ≤ (P.standing pages.old).count
+        → IfOk result
+        (CutsLeaf (row_put key value.now (leaf_rows (bytes_of (P.standing pages.old).current page)))
+        (P.standing pages.new).current page) }
     ensures room { IfOk result (IsSpent 0 (P.standing pages.old).room (P.standing pages.new).room) }
-    ensures sound { IsTrue (P.standing pages.old).told → (free : List ℕ) → IsWellFormed (bytes_of (P.standing pages.old).current page) expect.now → IsFreeList (P.standing pages.old).current free → ArePart (P.standing pages.old).current (page ∷ free) → FitsHeader (P.standing pages.old).count ((P.standing pages.old).current 0 0) → IfErr result (IsShort (spare_pages (P.standing pages.old).count (P.standing pages.old).current free) 0) }
+    ensures sound { IsTrue (P.standing pages.old).told → (free : List ℕ)
+        → IsWellFormed (bytes_of (P.standing pages.old).current page) expect.now
+        → IsFreeList (P.standing pages.old).current free
+        → ArePart (P.standing pages.old).current (page ∷ free)
+        → FitsHeader (P.standing pages.old).count ((P.standing pages.old).current 0 0)
+        → IfErr result
+        (IsShort (spare_pages (P.standing pages.old).count (P.standing pages.old).current free) 0) }
     ensures cause { TreeCause P.Pages pages.old pages.new work.new.page result }
     ensures fails { IfErr result (Keeps (FailsTree (P.standing pages.old).count work.new.page)) }
     ensures not_full { IfErr result NotFull }
-    ensures cuts { IsTrue (P.standing pages.old).told → IfOk result (CutsFor (IsOverfull (row_put key value.now (leaf_rows (bytes_of (P.standing pages.old).current page))))) }
-    ensures needed { OnPage P.Pages pages.old page expect.now (IfErr result (IsNeeded (IsOverfull (row_put key value.now (leaf_rows (bytes_of (P.standing pages.old).current page)))) ⊥)) }
+    ensures cuts { IsTrue (P.standing pages.old).told
+        → IfOk result
+        (CutsFor (IsOverfull
+        (row_put key value.now (leaf_rows (bytes_of (P.standing pages.old).current page))))) }
+    ensures needed { OnPage P.Pages pages.old page expect.now
+        (IfErr result
+        (IsNeeded (IsOverfull
+        (row_put key value.now (leaf_rows (bytes_of (P.standing pages.old).current page)))) ⊥)) }
     ensures call { PagesCall P.Pages pages.old pages.new result }
-    ensures few_more { begins (P.standing pages.old).access page false ≡ false → (P.standing pages.new).visits ≤ (P.standing pages.old).visits + 7 }
+    ensures few_more { begins (P.standing pages.old).access page false ≡ false
+        → (P.standing pages.new).visits ≤ (P.standing pages.old).visits + 7 }
     ensures few { (P.standing pages.new).visits ≤ (P.standing pages.old).visits + 8 }
 {
     load(pages, page, expect, work)?;
@@ -84,7 +121,8 @@ fn put_leaf<P: Pages>(
 /// The row that a search in a leaf found, or else where it would stand, as `binary_search` of a slice answers.
 fn found_place(spot: Spot, expect: &Expect) -> Result<usize, usize>
     requires { expect.now.level ≡ 0 }
-    ensures { (bytes : List ℕ) (key : ℕ) → IsSafeSpot expect.now key spot → IsSpot bytes expect.now key spot → IsFound bytes expect.now key result }
+    ensures { (bytes : List ℕ) (key : ℕ) → IsSafeSpot expect.now key spot
+        → IsSpot bytes expect.now key spot → IsFound bytes expect.now key result }
 {
     match spot {
         Spot::Row(at) => Ok(at),
@@ -114,22 +152,70 @@ pub fn put_at<P: Pages>(
     requires size { length value.now ≤ 480 }
     requires printable { list_all is_printable value.now ≡ true }
     requires room { 129 ≤ (P.standing pages.old).room }
-    ensures safe { IfOk result (λ change. IsSafe (P.standing pages.old).count expect.now change.outcome) }
+    ensures safe { IfOk result
+        (λ change. IsSafe (P.standing pages.old).count expect.now change.outcome) }
     ensures below { IfOk result (λ change. StaysBelow expect.now change.outcome) }
-    ensures edits { IsTrue (P.standing pages.old).told → IfOk result (λ change. Edits (P.standing pages.old).current (P.standing pages.new).current page expect.now change.outcome (row_put key value.now)) }
-    ensures fresh { OnPage P.Pages pages.old page expect.now (IfOk result (λ change. change.fresh ≡ not (is_some (row_get key (leaf_rows (bytes_of (P.standing pages.old).current page)))))) }
-    ensures again { OnPage P.Pages pages.old page expect.now (HoldsLength key (length value.now) (leaf_rows (bytes_of (P.standing pages.old).current page)) → OnOk result (WritesRecord page key (P.standing pages.old) (P.standing pages.new))) }
-    ensures whole { OnPage P.Pages pages.old page expect.now (HoldsLength key (length value.now) (leaf_rows (bytes_of (P.standing pages.old).current page)) → IfOk result (λ change. change.outcome ≡ Outcome.Whole)) }
-    ensures lines { OnPage P.Pages pages.old page expect.now (FitsLeaf (expect.now.root ≡ true) (row_put key value.now (leaf_rows (bytes_of (P.standing pages.old).current page))) → OnOk result (WritesChange page (P.standing pages.old) (P.standing pages.new))) }
-    ensures by_lines { OnPage P.Pages pages.old page expect.now (fits_beside expect.now.root key (length value.now) (bytes_of (P.standing pages.old).current page) ≡ true → IfOk result (λ change. (change.outcome ≡ Outcome.Whole) × ByLines page (28 + put_lines key (length value.now) (bytes_of (P.standing pages.old).current page)) (P.standing pages.old) (P.standing pages.new))) }
-    ensures fills { OnPage P.Pages pages.old page expect.now (FitsLeaf (expect.now.root ≡ true) (row_put key value.now (leaf_rows (bytes_of (P.standing pages.old).current page))) → IfOk result (λ change. change.outcome ≡ Outcome.Whole)) }
-    ensures room { IfOk result (λ change. IsSpent 0 (P.standing pages.old).room (P.standing pages.new).room change.outcome) }
-    ensures sound { IsTrue (P.standing pages.old).told → (free : List ℕ) → IsWellFormed (bytes_of (P.standing pages.old).current page) expect.now → IsFreeList (P.standing pages.old).current free → ArePart (P.standing pages.old).current (page ∷ free) → FitsHeader (P.standing pages.old).count ((P.standing pages.old).current 0 0) → IfErr result (IsShort (spare_pages (P.standing pages.old).count (P.standing pages.old).current free) 0) }
+    ensures edits { IsTrue (P.standing pages.old).told
+        → IfOk result
+        (λ change. Edits (P.standing pages.old).current
+        (P.standing pages.new).current page expect.now change.outcome (row_put key value.now)) }
+    ensures fresh { OnPage P.Pages pages.old page expect.now
+        (IfOk result
+        (λ change. change.fresh
+        ≡ not (is_some (row_get key (leaf_rows (bytes_of (P.standing pages.old).current page)))))) }
+    ensures again { OnPage P.Pages pages.old page expect.now
+        (HoldsLength key (length value.now)
+        (leaf_rows (bytes_of (P.standing pages.old).current page))
+        → OnOk result (WritesRecord page key (P.standing pages.old) (P.standing pages.new))) }
+    ensures whole { OnPage P.Pages pages.old page expect.now
+        (HoldsLength key (length value.now)
+        (leaf_rows (bytes_of (P.standing pages.old).current page))
+        → IfOk result (λ change. change.outcome ≡ Outcome.Whole)) }
+    ensures lines { OnPage P.Pages pages.old page expect.now
+        (FitsLeaf (expect.now.root ≡ true)
+        (row_put key value.now (leaf_rows (bytes_of (P.standing pages.old).current page)))
+        → OnOk result (WritesChange page (P.standing pages.old) (P.standing pages.new))) }
+    ensures by_lines { OnPage P.Pages pages.old page expect.now
+        (fits_beside expect.now.root key (length value.now)
+        (bytes_of (P.standing pages.old).current page) ≡ true
+        → IfOk result (λ change. (change.outcome ≡ Outcome.Whole)
+        × ByLines page
+        (28 + put_lines key (length value.now) (bytes_of (P.standing pages.old).current page))
+        (P.standing pages.old) (P.standing pages.new))) }
+    ensures fills { OnPage P.Pages pages.old page expect.now
+        (FitsLeaf (expect.now.root ≡ true)
+        (row_put key value.now (leaf_rows (bytes_of (P.standing pages.old).current page)))
+        → IfOk result (λ change. change.outcome ≡ Outcome.Whole)) }
+    ensures parts { IsTrue (P.standing pages.old).told → (free : List ℕ)
+        → IsFreeList (P.standing pages.old).current free
+        → ArePart (P.standing pages.old).current (page ∷ free)
+        → high_of (P.standing pages.old).current ≤ (P.standing pages.old).count
+        → IfOk result
+        (λ change. CutsLeaf
+        (row_put key value.now (leaf_rows (bytes_of (P.standing pages.old).current page)))
+        (P.standing pages.new).current page change.outcome) }
+    ensures room { IfOk result
+        (λ change. IsSpent 0 (P.standing pages.old).room
+        (P.standing pages.new).room change.outcome) }
+    ensures sound { IsTrue (P.standing pages.old).told → (free : List ℕ)
+        → IsWellFormed (bytes_of (P.standing pages.old).current page) expect.now
+        → IsFreeList (P.standing pages.old).current free
+        → ArePart (P.standing pages.old).current (page ∷ free)
+        → FitsHeader (P.standing pages.old).count ((P.standing pages.old).current 0 0)
+        → IfErr result
+        (IsShort (spare_pages (P.standing pages.old).count (P.standing pages.old).current free) 0) }
     ensures cause { TreeCause P.Pages pages.old pages.new work.new.page result }
     ensures fails { IfErr result (Keeps (FailsTree (P.standing pages.old).count work.new.page)) }
     ensures not_full { IfErr result NotFull }
-    ensures cuts { IsTrue (P.standing pages.old).told → IfOk result (λ change. CutsFor (IsOverfull (row_put key value.now (leaf_rows (bytes_of (P.standing pages.old).current page)))) change.outcome) }
-    ensures needed { OnPage P.Pages pages.old page expect.now (IfErr result (IsNeeded (IsOverfull (row_put key value.now (leaf_rows (bytes_of (P.standing pages.old).current page)))) ⊥)) }
+    ensures cuts { IsTrue (P.standing pages.old).told
+        → IfOk result
+        (λ change. CutsFor
+        (IsOverfull (row_put key value.now
+        (leaf_rows (bytes_of (P.standing pages.old).current page)))) change.outcome) }
+    ensures needed { OnPage P.Pages pages.old page expect.now
+        (IfErr result
+        (IsNeeded (IsOverfull
+        (row_put key value.now (leaf_rows (bytes_of (P.standing pages.old).current page)))) ⊥)) }
     ensures call { PagesCall P.Pages pages.old pages.new result }
     ensures few { (P.standing pages.new).visits ≤ (P.standing pages.old).visits + 8 }
 {
@@ -162,7 +248,10 @@ fn delete_leaf<P: Pages>(
     requires level { expect.now.level ≡ 0 }
     requires room { 33 ≤ (P.standing pages.old).room }
     ensures safe { IfOk result (IsSafe (P.standing pages.old).count expect.now) }
-    ensures edits { IsTrue (P.standing pages.old).told → IfOk result (λ outcome. Edits (P.standing pages.old).current (P.standing pages.new).current page expect.now outcome (row_delete key)) }
+    ensures edits { IsTrue (P.standing pages.old).told
+        → IfOk result
+        (λ outcome. Edits (P.standing pages.old).current
+        (P.standing pages.new).current page expect.now outcome (row_delete key)) }
     ensures uncut { IfOk result (λ outcome. (k r : ℕ) → outcome ≢ Outcome.Cut k r) }
     ensures room { IfOk result (IsSpent 0 (P.standing pages.old).room (P.standing pages.new).room) }
     ensures sound { OnPage P.Pages pages.old page expect.now (IfErr result IsFault) }
@@ -170,7 +259,8 @@ fn delete_leaf<P: Pages>(
     ensures fails { IfErr result (Keeps (FailsTree (P.standing pages.old).count work.new.page)) }
     ensures not_full { IfErr result NotFull }
     ensures call { PagesCall P.Pages pages.old pages.new result }
-    ensures few_more { begins (P.standing pages.old).access page false ≡ false → (P.standing pages.new).visits ≤ (P.standing pages.old).visits + 7 }
+    ensures few_more { begins (P.standing pages.old).access page false ≡ false
+        → (P.standing pages.new).visits ≤ (P.standing pages.old).visits + 7 }
     ensures few { (P.standing pages.new).visits ≤ (P.standing pages.old).visits + 8 }
 {
     load(pages, page, expect, work)?;
@@ -197,8 +287,15 @@ pub fn delete_at<P: Pages>(
     requires within { key ≤ expect.now.high }
     requires room { 33 ≤ (P.standing pages.old).room }
     ensures safe { IfOk result (IsSafe (P.standing pages.old).count expect.now) }
-    ensures edits { IsTrue (P.standing pages.old).told → IfOk result (λ outcome. Edits (P.standing pages.old).current (P.standing pages.new).current page expect.now outcome (row_delete key)) }
-    ensures by_lines { OnPage P.Pages pages.old page expect.now (keeps_without key expect.now.root (bytes_of (P.standing pages.old).current page) ≡ true → IfOk result (λ outcome. (outcome ≡ Outcome.Whole) × ByLines page (28 + delete_lines (bytes_of (P.standing pages.old).current page)) (P.standing pages.old) (P.standing pages.new))) }
+    ensures edits { IsTrue (P.standing pages.old).told
+        → IfOk result
+        (λ outcome. Edits (P.standing pages.old).current
+        (P.standing pages.new).current page expect.now outcome (row_delete key)) }
+    ensures by_lines { OnPage P.Pages pages.old page expect.now
+        (keeps_without key expect.now.root (bytes_of (P.standing pages.old).current page) ≡ true
+        → IfOk result (λ outcome. (outcome ≡ Outcome.Whole)
+        × ByLines page (28 + delete_lines (bytes_of (P.standing pages.old).current page))
+        (P.standing pages.old) (P.standing pages.new))) }
     ensures uncut { IfOk result (λ outcome. (k r : ℕ) → outcome ≢ Outcome.Cut k r) }
     ensures room { IfOk result (IsSpent 0 (P.standing pages.old).room (P.standing pages.new).room) }
     ensures sound { OnPage P.Pages pages.old page expect.now (IfErr result IsFault) }
@@ -226,7 +323,8 @@ fn is_full_root(page: &PageBuf, expect: &Expect) -> bool
     ensures level { result ≡ true → expect.now.level ≡ 3 }
     ensures root { result ≡ true → expect.now.root ≡ true }
     ensures full { result ≡ true → entry_count page.now ≡ 240 }
-    ensures room { result ≡ false → expect.now.root ≡ true → expect.now.level ≡ 3 → entry_count page.now ≢ 240 }
+    ensures room { result ≡ false → expect.now.root ≡ true → expect.now.level ≡ 3
+        → entry_count page.now ≢ 240 }
 {
     expect.root && expect.level == 3 && page_word(page, 8) == 240
 }
@@ -253,15 +351,28 @@ pub fn add_child<P: Pages>(
     requires room { 129 ≤ (P.standing pages.old).room }
     ensures safe { IfOk result (IsSafe (P.standing pages.old).count expect.now) }
     ensures below { IfOk result (StaysBelow expect.now) }
-    ensures adds { IsTrue (P.standing pages.old).told → IfOk result (λ outcome. AddsChild (P.standing pages.old).current (P.standing pages.new).current page expect.now key child outcome) }
+    ensures adds { IsTrue (P.standing pages.old).told
+        → IfOk result
+        (λ outcome. AddsChild (P.standing pages.old).current
+        (P.standing pages.new).current page expect.now key child outcome) }
     ensures long { IfOk result (λ outcome. outcome ≢ Outcome.Short) }
     ensures room { OnOk result ((P.standing pages.old).room ≤ (P.standing pages.new).room + 129) }
-    ensures sound { IsTrue (P.standing pages.old).told → (free : List ℕ) → IsWellFormed (bytes_of (P.standing pages.old).current page) expect.now → IsFreeList (P.standing pages.old).current free → ArePart (P.standing pages.old).current (page ∷ free) → FitsHeader (P.standing pages.old).count ((P.standing pages.old).current 0 0) → IfErr result (StopsFor (spare_pages (P.standing pages.old).count (P.standing pages.old).current free ≤ 0) (IsFullAt (P.standing pages.old).current page expect.now)) }
+    ensures sound { IsTrue (P.standing pages.old).told → (free : List ℕ)
+        → IsWellFormed (bytes_of (P.standing pages.old).current page) expect.now
+        → IsFreeList (P.standing pages.old).current free
+        → ArePart (P.standing pages.old).current (page ∷ free)
+        → FitsHeader (P.standing pages.old).count ((P.standing pages.old).current 0 0)
+        → IfErr result
+        (StopsFor (spare_pages (P.standing pages.old).count (P.standing pages.old).current free ≤ 0)
+        (IsFullAt (P.standing pages.old).current page expect.now)) }
     ensures cause { TreeCause P.Pages pages.old pages.new work.new.page result }
     ensures fails { IfErr result (Keeps (FailsTree (P.standing pages.old).count work.new.page)) }
     ensures at { IfErr result (NamesFull page (expect.now.level ≡ 3)) }
-    ensures cuts { IsTrue (P.standing pages.old).told → IfOk result (CutsFor (entry_count (bytes_of (P.standing pages.old).current page) ≡ 240)) }
-    ensures needed { OnPage P.Pages pages.old page expect.now (IfErr result (IsNeeded (entry_count (bytes_of (P.standing pages.old).current page) ≡ 240) (expect.now.level ≡ 3))) }
+    ensures cuts { IsTrue (P.standing pages.old).told
+        → IfOk result (CutsFor (entry_count (bytes_of (P.standing pages.old).current page) ≡ 240)) }
+    ensures needed { OnPage P.Pages pages.old page expect.now
+        (IfErr result (IsNeeded (entry_count (bytes_of (P.standing pages.old).current page) ≡ 240)
+        (expect.now.level ≡ 3))) }
     ensures call { PagesCall P.Pages pages.old pages.new result }
     ensures few { (P.standing pages.new).visits ≤ (P.standing pages.old).visits + 8 }
 {
@@ -276,7 +387,8 @@ pub fn add_child<P: Pages>(
 
 /// The stop for a root that would have to be cut and cannot.
 fn full_root(page: u64, expect: &Expect) -> Stop
-    ensures { result ≡ Stop.Damaged (Evidence.Page page expect.now.level expect.now.low expect.now.high 39) }
+    ensures { result ≡ Stop.Damaged
+        (Evidence.Page page expect.now.level expect.now.low expect.now.high 39) }
 {
     Stop::Damaged(Evidence::Page {
         page,
@@ -303,10 +415,19 @@ pub fn mend<P: Pages>(
     requires level { 1 ≤ expect.now.level }
     requires room { 189 ≤ (P.standing pages.old).room }
     ensures safe { IfOk result (IsSafe (P.standing pages.old).count expect.now) }
-    ensures mends { IsTrue (P.standing pages.old).told → IfOk result (Mends (P.standing pages.old).current (P.standing pages.new).current page expect.now key) }
+    ensures mends { IsTrue (P.standing pages.old).told
+        → IfOk result
+        (Mends (P.standing pages.old).current (P.standing pages.new).current page expect.now key) }
+    ensures pages { IsTrue (P.standing pages.old).told
+        → IfOk result
+        (MendsPages (P.standing pages.old).current
+        (P.standing pages.new).current page expect.now key) }
     ensures uncut { IfOk result (λ outcome. (k r : ℕ) → outcome ≢ Outcome.Cut k r) }
     ensures room { OnOk result ((P.standing pages.old).room ≤ (P.standing pages.new).room + 189) }
-    ensures sound { IsTrue (P.standing pages.old).told → (level : ℕ) (free : List ℕ) → IsMendable (P.standing pages.old).current page expect.now key level free → FitsHeader (P.standing pages.old).count ((P.standing pages.old).current 0 0) → IfErr result IsFault }
+    ensures sound { IsTrue (P.standing pages.old).told → (level : ℕ) (free : List ℕ)
+        → IsMendable (P.standing pages.old).current page expect.now key level free
+        → FitsHeader (P.standing pages.old).count ((P.standing pages.old).current 0 0)
+        → IfErr result IsFault }
     ensures cause { TreeCause P.Pages pages.old pages.new work.new.page result }
     ensures fails { IfErr result (Keeps (FailsTree (P.standing pages.old).count work.new.page)) }
     ensures not_full { IfErr result NotFull }
@@ -338,10 +459,14 @@ fn rewrite<P: Pages>(
     requires cut { IsCutIn pair.now cut }
     requires room { 61 ≤ (P.standing pages.old).room }
     ensures safe { IfOk result (IsSafe (P.standing pages.old).count expect.now) }
-    ensures rewrites { IsTrue (P.standing pages.old).told → IfOk result (Rewritten (P.standing pages.old).count (P.standing pages.old).current (P.standing pages.new).current page expect.now pair.now cut) }
+    ensures rewrites { IsTrue (P.standing pages.old).told
+        → IfOk result (Rewritten (P.standing pages.old).count (P.standing pages.old).current
+        (P.standing pages.new).current page expect.now pair.now cut) }
     ensures uncut { IfOk result (λ outcome. (k r : ℕ) → outcome ≢ Outcome.Cut k r) }
     ensures room { OnOk result ((P.standing pages.old).room ≤ (P.standing pages.new).room + 61) }
-    ensures sound { OnPage P.Pages pages.old page expect.now (FitsHeader (P.standing pages.old).count ((P.standing pages.old).current 0 0) → IfErr result IsFault) }
+    ensures sound { OnPage P.Pages pages.old page expect.now
+        (FitsHeader (P.standing pages.old).count ((P.standing pages.old).current 0 0)
+        → IfErr result IsFault) }
     ensures cause { TreeCause P.Pages pages.old pages.new work.new.page result }
     ensures fails { IfErr result (Keeps (FailsTree (P.standing pages.old).count work.new.page)) }
     ensures not_full { IfErr result NotFull }
@@ -388,8 +513,13 @@ fn keep<P: Pages>(pages: &mut P, page: u64, fit: Fit, work: &mut Work) -> Result
     ensures is { IfOk result (λ outcome. outcome ≡ after_fit fit) }
     ensures uncut { IfOk result (λ outcome. (k r : ℕ) → outcome ≢ Outcome.Cut k r) }
     ensures safe { (count : ℕ) (expect : Expect) → IfOk result (IsSafe count expect) }
-    ensures writes { IsTrue (P.standing pages.old).told → work.old.spare ≡ bytes_of (P.standing pages.old).current page → OnOk result (Rewrites page work.old.page (P.standing pages.old).current (P.standing pages.new).current) }
-    ensures room { OnOk result ((P.standing pages.new).room + lines_changed work.old.spare work.old.page ≡ (P.standing pages.old).room) }
+    ensures writes { IsTrue (P.standing pages.old).told
+        → work.old.spare ≡ bytes_of (P.standing pages.old).current page
+        → OnOk result (Rewrites page work.old.page (P.standing pages.old).current
+        (P.standing pages.new).current) }
+    ensures room { OnOk result
+        ((P.standing pages.new).room + lines_changed work.old.spare work.old.page
+        ≡ (P.standing pages.old).room) }
     ensures sound { IfErr result IsFault }
     ensures cause { TreeCause P.Pages pages.old pages.new work.new.page result }
     ensures fails { IfErr result (Keeps (FailsTree (P.standing pages.old).count work.new.page)) }

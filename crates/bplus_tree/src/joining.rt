@@ -13,7 +13,9 @@ ghost use Rattle.page_alloc.specs.Space.{FitsHeader};
 ghost use Rattle.page_alloc.specs.Moves.{Gives};
 ghost use Rattle.page_alloc.specs.Written.{Rewrites};
 ghost use Rattle.node_edit.specs.Edit.{left_of, right_of, whole_of, Merges, IsEnoughLeaf, IsEnoughInner, IsCutIn, IsPair};
-ghost use Rattle.bplus_tree.specs.Edit.{Joins, WritesJoined, WritesDivided};
+ghost use Rattle.page_format.specs.Sound.{row_bytes};
+ghost use Rattle.node_edit.specs.Cuts.{JoinsRows, JoinsChildren};
+ghost use Rattle.bplus_tree.specs.Edit.{Joins, JoinsPair, WritesJoined, WritesDivided};
 
 use crate::access::{give, load};
 use line_pages::{Pages, Stop};
@@ -36,10 +38,16 @@ fn fetch<P: Pages>(
     ensures right { OnOk result (IsWellFormed work.new.right (right_of count level pair.now)) }
     ensures spare { OnOk result (work.new.spare ≡ work.new.left) }
     ensures page { OnOk result (work.new.page ≡ work.new.right) }
-    ensures left_is { IsTrue (P.standing pages.old).told → OnOk result (work.new.left ≡ bytes_of (P.standing pages.old).current pair.now.left) }
-    ensures right_is { IsTrue (P.standing pages.old).told → OnOk result (work.new.right ≡ bytes_of (P.standing pages.old).current pair.now.right) }
+    ensures left_is { IsTrue (P.standing pages.old).told
+        → OnOk result (work.new.left ≡ bytes_of (P.standing pages.old).current pair.now.left) }
+    ensures right_is { IsTrue (P.standing pages.old).told
+        → OnOk result (work.new.right ≡ bytes_of (P.standing pages.old).current pair.now.right) }
     ensures keeps { OnOk result (KeepsLines (P.standing pages.old) (P.standing pages.new)) }
-    ensures sound { IsTrue (P.standing pages.old).told → IsWellFormed (bytes_of (P.standing pages.old).current pair.now.left) (left_of count level pair.now) → IsWellFormed (bytes_of (P.standing pages.old).current pair.now.right) (right_of count level pair.now) → IfErr result IsFault }
+    ensures sound { IsTrue (P.standing pages.old).told
+        → IsWellFormed (bytes_of (P.standing pages.old).current pair.now.left)
+        (left_of count level pair.now)
+        → IsWellFormed (bytes_of (P.standing pages.old).current pair.now.right)
+        (right_of count level pair.now) → IfErr result IsFault }
     ensures cause { TreeCause P.Pages pages.old pages.new work.new.page result }
     ensures fails { IfErr result (Keeps (FailsTree (P.standing pages.old).count work.new.page)) }
     ensures not_full { IfErr result NotFull }
@@ -62,8 +70,19 @@ fn merge(work: &mut Work, pair: &Pair, level: u8, count: u64) -> Option<u64>
     requires left { IsWellFormed work.old.left (left_of count level pair.now) }
     requires right { IsWellFormed work.old.right (right_of count level pair.now) }
     ensures cut { IsCutIn pair.now result }
-    ensures leaves { level ≡ 0 → (IsEnoughLeaf work.old.left ⊎ IsEnoughLeaf work.old.right) → Merges rows_of (whole_of count 0 pair.now) work.new.left work.new.right (rows_of work.old.left ++ rows_of work.old.right) result }
-    ensures inner { 1 ≤ level → (IsEnoughInner work.old.left ⊎ IsEnoughInner work.old.right) → Merges children_of (whole_of count level pair.now) work.new.left work.new.right (children_of work.old.left ++ children_of work.old.right) result }
+    ensures leaves { level ≡ 0 → (IsEnoughLeaf work.old.left ⊎ IsEnoughLeaf work.old.right)
+        → Merges rows_of (whole_of count 0 pair.now) work.new.left work.new.right
+        (rows_of work.old.left ++ rows_of work.old.right) result }
+    ensures inner { 1 ≤ level → (IsEnoughInner work.old.left ⊎ IsEnoughInner work.old.right)
+        → Merges children_of (whole_of count level pair.now) work.new.left work.new.right
+        (children_of work.old.left ++ children_of work.old.right) result }
+    ensures rows { level ≡ 0
+        → ((row_bytes (rows_of work.old.left) < 1344) ⊎ (row_bytes (rows_of work.old.right) < 1344))
+        → JoinsRows (rows_of work.old.left ++ rows_of work.old.right) (rows_of work.new.left)
+        (rows_of work.new.right) result }
+    ensures children { 1 ≤ level
+        → JoinsChildren (children_of work.old.left ++ children_of work.old.right)
+        (children_of work.new.left) (children_of work.new.right) result }
     ensures page { work.new.page ≡ work.old.page }
     ensures spare { work.new.spare ≡ work.old.spare }
 {
@@ -85,9 +104,15 @@ fn write_joined<P: Pages>(
     requires count { count ≡ (P.standing pages.old).count }
     requires is { IsPair count pair.now }
     requires room { 128 ≤ (P.standing pages.old).room }
-    ensures writes { IsTrue (P.standing pages.old).told → work.old.spare ≡ bytes_of (P.standing pages.old).current pair.now.left → OnOk result (WritesJoined count (P.standing pages.old).current (P.standing pages.new).current pair.now work.old.left) }
+    ensures writes { IsTrue (P.standing pages.old).told
+        → work.old.spare ≡ bytes_of (P.standing pages.old).current pair.now.left
+        → OnOk result
+        (WritesJoined count (P.standing pages.old).current
+        (P.standing pages.new).current pair.now work.old.left) }
     ensures room { OnOk result ((P.standing pages.old).room ≤ (P.standing pages.new).room + 128) }
-    ensures sound { IsTrue (P.standing pages.old).told → work.old.spare ≡ bytes_of (P.standing pages.old).current pair.now.left → FitsHeader count ((P.standing pages.old).current 0 0) → IfErr result IsFault }
+    ensures sound { IsTrue (P.standing pages.old).told
+        → work.old.spare ≡ bytes_of (P.standing pages.old).current pair.now.left
+        → FitsHeader count ((P.standing pages.old).current 0 0) → IfErr result IsFault }
     ensures cause { TreeCause P.Pages pages.old pages.new work.new.page result }
     ensures fails { IfErr result (Keeps (FailsTree (P.standing pages.old).count work.new.page)) }
     ensures not_full { IfErr result NotFull }
@@ -110,7 +135,13 @@ fn write_divided<P: Pages>(
     requires count { count ≡ (P.standing pages.old).count }
     requires is { IsPair count pair.now }
     requires room { 128 ≤ (P.standing pages.old).room }
-    ensures writes { IsTrue (P.standing pages.old).told → work.old.spare ≡ bytes_of (P.standing pages.old).current pair.now.left → work.old.page ≡ bytes_of (P.standing pages.old).current pair.now.right → pair.now.left ≢ pair.now.right → OnOk result (WritesDivided (P.standing pages.old).current (P.standing pages.new).current pair.now work.old.left work.old.right) }
+    ensures writes { IsTrue (P.standing pages.old).told
+        → work.old.spare ≡ bytes_of (P.standing pages.old).current pair.now.left
+        → work.old.page ≡ bytes_of (P.standing pages.old).current pair.now.right
+        → pair.now.left ≢ pair.now.right
+        → OnOk result
+        (WritesDivided (P.standing pages.old).current
+        (P.standing pages.new).current pair.now work.old.left work.old.right) }
     ensures room { OnOk result ((P.standing pages.old).room ≤ (P.standing pages.new).room + 128) }
     ensures sound { IfErr result IsFault }
     ensures cause { TreeCause P.Pages pages.old pages.new work.new.page result }
@@ -136,9 +167,20 @@ pub fn join<P: Pages>(
     requires is { IsPair count pair.now }
     requires room { 128 ≤ (P.standing pages.old).room }
     ensures cut { IfOk result (IsCutIn pair.now) }
-    ensures joins { IsTrue (P.standing pages.old).told → IfOk result (Joins count (P.standing pages.old).current (P.standing pages.new).current level pair.now) }
+    ensures joins { IsTrue (P.standing pages.old).told
+        → IfOk result
+        (Joins count (P.standing pages.old).current (P.standing pages.new).current level pair.now) }
+    ensures pages { IsTrue (P.standing pages.old).told
+        → IfOk result
+        (JoinsPair count (P.standing pages.old).current
+        (P.standing pages.new).current level pair.now) }
     ensures room { OnOk result ((P.standing pages.old).room ≤ (P.standing pages.new).room + 128) }
-    ensures sound { IsTrue (P.standing pages.old).told → IsWellFormed (bytes_of (P.standing pages.old).current pair.now.left) (left_of count level pair.now) → IsWellFormed (bytes_of (P.standing pages.old).current pair.now.right) (right_of count level pair.now) → FitsHeader count ((P.standing pages.old).current 0 0) → IfErr result IsFault }
+    ensures sound { IsTrue (P.standing pages.old).told
+        → IsWellFormed (bytes_of (P.standing pages.old).current pair.now.left)
+        (left_of count level pair.now)
+        → IsWellFormed (bytes_of (P.standing pages.old).current pair.now.right)
+        (right_of count level pair.now) → FitsHeader count ((P.standing pages.old).current 0 0)
+        → IfErr result IsFault }
     ensures cause { TreeCause P.Pages pages.old pages.new work.new.page result }
     ensures fails { IfErr result (Keeps (FailsTree (P.standing pages.old).count work.new.page)) }
     ensures not_full { IfErr result NotFull }

@@ -16,6 +16,7 @@ ghost use Rattle.bplus_tree.specs.Full.{NotFull, NamesFull, NamesAbove, CutsFor,
 ghost use Rattle.page_alloc.specs.Stops.{IsFault, StopsFor, spare_pages};
 ghost use Rattle.bplus_tree.specs.Edit.{Edits, IsSafe, IsSpent, StaysBelow};
 ghost use Rattle.page_alloc.specs.Written.{WritesNothing};
+ghost use Rattle.bplus_tree.specs.PageChanges.{ChangesUnder};
 ghost use Rattle.bplus_tree.specs.Record.{PutsAgain};
 ghost use Rattle.bplus_tree.specs.LineChanges.{PutsChange};
 ghost use Rattle.bplus_tree.specs.LineCosts.{GoesByLines, put_lines, delete_lines, keeps_without};
@@ -98,16 +99,21 @@ fn descend<P: Pages>(
     ensures level { IfOk result (λ leaf. leaf.expect.level ≡ 0) }
     ensures above { IfOk result (λ leaf. leaf.expect.low ≤ key) }
     ensures within { IfOk result (λ leaf. key ≤ leaf.expect.high) }
-    ensures leads { IfOk result (Leads (P.standing pages.old).told (P.standing pages.old).current (P.standing pages.old).count key top path.new.items) }
+    ensures leads { IfOk result (Leads (P.standing pages.old).told (P.standing pages.old).current
+        (P.standing pages.old).count key top path.new.items) }
     ensures keeps { OnOk result (KeepsLines (P.standing pages.old) (P.standing pages.new)) }
-    ensures sound { IsTrue (P.standing pages.old).told → (free : List ℕ) → StandsAt (P.standing pages.old).current top.page top.expect free → IfErr result IsFault }
-    ensures cost { OnTree P.Pages pages.old top.page top.expect (OnOk result (Costs (10 * top.expect.level) (P.standing pages.old) (P.standing pages.new))) }
+    ensures sound { IsTrue (P.standing pages.old).told → (free : List ℕ)
+        → StandsAt (P.standing pages.old).current top.page top.expect free → IfErr result IsFault }
+    ensures cost { OnTree P.Pages pages.old top.page top.expect
+        (OnOk result
+        (Costs (10 * top.expect.level) (P.standing pages.old) (P.standing pages.new))) }
     ensures nothing { OnOk result (WritesNothing (P.standing pages.old) (P.standing pages.new)) }
     ensures cause { TreeCause P.Pages pages.old pages.new work.new.page result }
     ensures fails { IfErr result (Keeps (FailsTree (P.standing pages.old).count work.new.page)) }
     ensures not_full { IfErr result NotFull }
     ensures call { PagesCall P.Pages pages.old pages.new result }
-    ensures few { (P.standing pages.new).visits ≤ (P.standing pages.old).visits + top.expect.level + 1 }
+    ensures few { (P.standing pages.new).visits
+        ≤ (P.standing pages.old).visits + top.expect.level + 1 }
 {
     let mut place = top;
     loop {
@@ -142,16 +148,30 @@ fn settle<P: Pages>(
     requires room { room_above child ≤ (P.standing pages.old).room }
     ensures safe { IfOk result (IsSafe (P.standing pages.old).count passed.now.place.expect) }
     ensures below { IfOk result (StaysBelow passed.now.place.expect) }
-    ensures settles { IsTrue (P.standing pages.old).told → IfOk result (Settles (P.standing pages.old).current (P.standing pages.new).current passed.now child) }
+    ensures settles { IsTrue (P.standing pages.old).told
+        → IfOk result
+        (Settles (P.standing pages.old).current (P.standing pages.new).current passed.now child) }
     ensures follows { IfOk result (MayFollow child) }
     ensures kept { child ≡ Outcome.Whole → P.standing pages.new ≡ P.standing pages.old }
-    ensures room { OnOk result ((P.standing pages.old).room ≤ (P.standing pages.new).room + room_above child) }
-    ensures sound { IsTrue (P.standing pages.old).told → (free : List ℕ) → StandsAbove (P.standing pages.old).current passed.now child free → FitsHeader (P.standing pages.old).count ((P.standing pages.old).current 0 0) → IfErr result (StopsAbove (P.standing pages.old).count (P.standing pages.old).current passed.now child free) }
+    ensures room { OnOk result
+        ((P.standing pages.old).room ≤ (P.standing pages.new).room + room_above child) }
+    ensures sound { IsTrue (P.standing pages.old).told → (free : List ℕ)
+        → StandsAbove (P.standing pages.old).current passed.now child free
+        → FitsHeader (P.standing pages.old).count ((P.standing pages.old).current 0 0)
+        → IfErr result
+        (StopsAbove (P.standing pages.old).count
+        (P.standing pages.old).current passed.now child free) }
     ensures cause { TreeCause P.Pages pages.old pages.new work.new.page result }
     ensures fails { IfErr result (Keeps (FailsTree (P.standing pages.old).count work.new.page)) }
     ensures at { IfErr result (NamesAbove passed.now child) }
-    ensures cuts { IsTrue (P.standing pages.old).told → IfOk result (CutsFor (entry_count (bytes_of (P.standing pages.old).current passed.now.place.page) ≡ 240)) }
-    ensures needed { IsTrue (P.standing pages.old).told → IsWellFormed (bytes_of (P.standing pages.old).current passed.now.place.page) passed.now.place.expect → IfErr result (NeededAbove (P.standing pages.old).current passed.now child) }
+    ensures cuts { IsTrue (P.standing pages.old).told
+        → IfOk result
+        (CutsFor (entry_count
+        (bytes_of (P.standing pages.old).current passed.now.place.page) ≡ 240)) }
+    ensures needed { IsTrue (P.standing pages.old).told
+        → IsWellFormed (bytes_of (P.standing pages.old).current passed.now.place.page)
+        passed.now.place.expect
+        → IfErr result (NeededAbove (P.standing pages.old).current passed.now child) }
     ensures call { PagesCall P.Pages pages.old pages.new result }
     ensures few { (P.standing pages.new).visits ≤ (P.standing pages.old).visits + 13 }
 {
@@ -183,23 +203,64 @@ pub fn put_in<P: Pages>(
     requires printable { list_all is_printable value.now ≡ true }
     requires cut_room { 129 * top.expect.level + 129 ≤ (P.standing pages.old).room }
     requires join_room { 189 * top.expect.level + 33 ≤ (P.standing pages.old).room }
-    ensures safe { IfOk result (λ change. IsSafe (P.standing pages.old).count top.expect change.outcome) }
+    ensures safe { IfOk result
+        (λ change. IsSafe (P.standing pages.old).count top.expect change.outcome) }
     ensures below { IfOk result (λ change. StaysBelow top.expect change.outcome) }
-    ensures edits { IsTrue (P.standing pages.old).told → IfOk result (λ change. Edits (P.standing pages.old).current (P.standing pages.new).current top.page top.expect change.outcome (row_put key value.now)) }
-    ensures fresh { IsTrue (P.standing pages.old).told → IsTree top.expect.pages (P.standing pages.old).current top.expect.level top.page top.expect.low top.expect.high top.expect.root → IfOk result (λ change. change.fresh ≡ not (is_some (row_get key (tree_rows (P.standing pages.old).current top.expect.level top.page)))) }
-    ensures again { IfOk result (λ change. PutsAgain top key (length value.now) (P.standing pages.old) (P.standing pages.new) change.outcome) }
-    ensures lines { IfOk result (λ change. PutsChange top key value.now (P.standing pages.old) (P.standing pages.new) change.outcome) }
-    ensures by_lines { IfOk result (λ change. GoesByLines top key (λ root. fits_beside root key (length value.now)) (put_lines key (length value.now)) (P.standing pages.old) (P.standing pages.new) change.outcome) }
-    ensures room { IfOk result (λ change. IsSpent top.expect.level (P.standing pages.old).room (P.standing pages.new).room change.outcome) }
-    ensures takes { IsTrue (P.standing pages.old).told → IfOk result (λ change. TakesFor (P.standing pages.old).count (P.standing pages.old).current (P.standing pages.new).current top.page top.expect change.outcome) }
-    ensures sound { IsTrue (P.standing pages.old).told → (free : List ℕ) → StandsAt (P.standing pages.old).current top.page top.expect free → FitsHeader (P.standing pages.old).count ((P.standing pages.old).current 0 0) → IfErr result (StopsFor (spare_pages (P.standing pages.old).count (P.standing pages.old).current free ≤ top.expect.level) (1000000 < length (tree_rows (P.standing pages.old).current top.expect.level top.page))) }
+    ensures edits { IsTrue (P.standing pages.old).told
+        → IfOk result
+        (λ change. Edits (P.standing pages.old).current
+        (P.standing pages.new).current top.page top.expect change.outcome (row_put key value.now)) }
+    ensures under { IsTrue (P.standing pages.old).told → (free : List ℕ)
+        → StandsAt (P.standing pages.old).current top.page top.expect free
+        → IfOk result
+        (λ change. ChangesUnder (row_put key value.now) key (P.standing pages.old).current
+        (P.standing pages.new).current top.expect.level top.page top.expect.root change.outcome) }
+    ensures fresh { IsTrue (P.standing pages.old).told
+        → IsTree top.expect.pages (P.standing pages.old).current top.expect.level top.page
+        top.expect.low top.expect.high top.expect.root
+        → IfOk result
+        (λ change. change.fresh
+        ≡ not (is_some
+        (row_get key (tree_rows (P.standing pages.old).current top.expect.level top.page)))) }
+    ensures again { IfOk result
+        (λ change. PutsAgain top key (length value.now) (P.standing pages.old)
+        (P.standing pages.new) change.outcome) }
+    ensures lines { IfOk result (λ change. PutsChange top key value.now (P.standing pages.old)
+        (P.standing pages.new) change.outcome) }
+    ensures by_lines { IfOk result
+        (λ change. GoesByLines top key (λ root. fits_beside root key (length value.now))
+        (put_lines key (length value.now)) (P.standing pages.old)
+        (P.standing pages.new) change.outcome) }
+    ensures room { IfOk result (λ change. IsSpent top.expect.level (P.standing pages.old).room
+        (P.standing pages.new).room change.outcome) }
+    ensures takes { IsTrue (P.standing pages.old).told
+        → IfOk result
+        (λ change. TakesFor (P.standing pages.old).count (P.standing pages.old).current
+        (P.standing pages.new).current top.page top.expect change.outcome) }
+    ensures sound { IsTrue (P.standing pages.old).told → (free : List ℕ)
+        → StandsAt (P.standing pages.old).current top.page top.expect free
+        → FitsHeader (P.standing pages.old).count ((P.standing pages.old).current 0 0)
+        → IfErr result
+        (StopsFor (spare_pages (P.standing pages.old).count (P.standing pages.old).current free
+        ≤ top.expect.level)
+        (1000000 < length (tree_rows (P.standing pages.old).current top.expect.level top.page))) }
     ensures cause { TreeCause P.Pages pages.old pages.new work.new.page result }
     ensures fails { IfErr result (Keeps (FailsTree (P.standing pages.old).count work.new.page)) }
     ensures at_top { IfErr result (NamesFull top.page (top.expect.level ≡ 3)) }
-    ensures cuts { IsTrue (P.standing pages.old).told → (free : List ℕ) → StandsAt (P.standing pages.old).current top.page top.expect free → IfOk result (λ change. CutsFor (IsWayFull (P.standing pages.old).current top.expect.level top.page key value.now) change.outcome) }
-    ensures needed { IsTrue (P.standing pages.old).told → (free : List ℕ) → StandsAt (P.standing pages.old).current top.page top.expect free → FitsHeader (P.standing pages.old).count ((P.standing pages.old).current 0 0) → IfErr result (MustCut (P.standing pages.old).current top.expect.level top.page key value.now) }
+    ensures cuts { IsTrue (P.standing pages.old).told → (free : List ℕ)
+        → StandsAt (P.standing pages.old).current top.page top.expect free
+        → IfOk result
+        (λ change. CutsFor
+        (IsWayFull (P.standing pages.old).current top.expect.level top.page key value.now)
+        change.outcome) }
+    ensures needed { IsTrue (P.standing pages.old).told → (free : List ℕ)
+        → StandsAt (P.standing pages.old).current top.page top.expect free
+        → FitsHeader (P.standing pages.old).count ((P.standing pages.old).current 0 0)
+        → IfErr result
+        (MustCut (P.standing pages.old).current top.expect.level top.page key value.now) }
     ensures call { PagesCall P.Pages pages.old pages.new result }
-    ensures few { (P.standing pages.new).visits ≤ (P.standing pages.old).visits + 14 * top.expect.level + 10 }
+    ensures few { (P.standing pages.new).visits
+        ≤ (P.standing pages.old).visits + 14 * top.expect.level + 10 }
 {
     let mut path = ArrayVec::new();
     let leaf = descend(pages, top, key, &mut path, work)?;
@@ -228,16 +289,30 @@ pub fn delete_in<P: Pages>(
     requires within { key ≤ top.expect.high }
     requires room { 189 * top.expect.level + 33 ≤ (P.standing pages.old).room }
     ensures safe { IfOk result (IsSafe (P.standing pages.old).count top.expect) }
-    ensures edits { IsTrue (P.standing pages.old).told → IfOk result (λ outcome. Edits (P.standing pages.old).current (P.standing pages.new).current top.page top.expect outcome (row_delete key)) }
-    ensures by_lines { IfOk result (GoesByLines top key (keeps_without key) delete_lines (P.standing pages.old) (P.standing pages.new)) }
+    ensures edits { IsTrue (P.standing pages.old).told
+        → IfOk result
+        (λ outcome. Edits (P.standing pages.old).current
+        (P.standing pages.new).current top.page top.expect outcome (row_delete key)) }
+    ensures under { IsTrue (P.standing pages.old).told → (free : List ℕ)
+        → StandsAt (P.standing pages.old).current top.page top.expect free
+        → IfOk result (ChangesUnder (row_delete key) key (P.standing pages.old).current
+        (P.standing pages.new).current top.expect.level top.page top.expect.root) }
+    ensures by_lines { IfOk result
+        (GoesByLines top key (keeps_without key) delete_lines (P.standing pages.old)
+        (P.standing pages.new)) }
     ensures uncut { IfOk result (λ outcome. (k r : ℕ) → outcome ≢ Outcome.Cut k r) }
-    ensures room { IfOk result (IsSpent top.expect.level (P.standing pages.old).room (P.standing pages.new).room) }
-    ensures sound { IsTrue (P.standing pages.old).told → (free : List ℕ) → StandsAt (P.standing pages.old).current top.page top.expect free → FitsHeader (P.standing pages.old).count ((P.standing pages.old).current 0 0) → IfErr result IsFault }
+    ensures room { IfOk result
+        (IsSpent top.expect.level (P.standing pages.old).room (P.standing pages.new).room) }
+    ensures sound { IsTrue (P.standing pages.old).told → (free : List ℕ)
+        → StandsAt (P.standing pages.old).current top.page top.expect free
+        → FitsHeader (P.standing pages.old).count ((P.standing pages.old).current 0 0)
+        → IfErr result IsFault }
     ensures cause { TreeCause P.Pages pages.old pages.new work.new.page result }
     ensures fails { IfErr result (Keeps (FailsTree (P.standing pages.old).count work.new.page)) }
     ensures not_full { IfErr result NotFull }
     ensures call { PagesCall P.Pages pages.old pages.new result }
-    ensures few { (P.standing pages.new).visits ≤ (P.standing pages.old).visits + 14 * top.expect.level + 10 }
+    ensures few { (P.standing pages.new).visits
+        ≤ (P.standing pages.old).visits + 14 * top.expect.level + 10 }
 {
     let mut path = ArrayVec::new();
     let leaf = descend(pages, top, key, &mut path, work)?;

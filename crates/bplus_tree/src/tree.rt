@@ -10,6 +10,7 @@ ghost use Rattle.line_pages.specs.Standing.{KeepsLines};
 ghost use Rattle.rows.specs.Rows.{Row, row_get, row_put, row_delete};
 ghost use Rattle.tree_search.specs.Tree.{IsRooted};
 ghost use Rattle.bplus_tree.specs.Changes.{ChangesRows};
+ghost use Rattle.bplus_tree.specs.PageChanges.{ChangesPages};
 ghost use Rattle.bplus_tree.specs.Damage.{FailsTree, IsLack, StandsIn};
 ghost use Rattle.bplus_tree.specs.Full.{NotFull, NamesRoot, MustCut};
 ghost use Rattle.page_alloc.specs.Stops.{IsFault, pages_at_hand};
@@ -49,22 +50,46 @@ fn put_row<P: Pages>(
     requires size { length value.now ≤ 480 }
     requires printable { list_all is_printable value.now ≡ true }
     requires room { 600 ≤ (P.standing pages.old).room }
-    ensures rows { IsTrue (P.standing pages.old).told → OnOk result (ChangesRows (P.standing pages.old).count (P.standing pages.old).current (P.standing pages.new).current root.old root.new (row_put key value.now)) }
-    ensures fresh { IsTrue (P.standing pages.old).told → (rows : List Row) (used : List ℕ) → IsRooted (P.standing pages.old).count (P.standing pages.old).current root.old rows used → IfOk result (λ fresh. fresh ≡ not (is_some (row_get key rows))) }
-    ensures again { IsTrue (P.standing pages.old).told → OnOk result (PutsRecord root.old key (length value.now) (P.standing pages.old) (P.standing pages.new)) }
-    ensures lines { IsTrue (P.standing pages.old).told → OnOk result (PutsLines root.old key value.now (P.standing pages.old) (P.standing pages.new)) }
-    ensures by_lines { IsTrue (P.standing pages.old).told → OnOk result (PutsBeside root.old key (length value.now) (10 * root.old.levels + 18) (P.standing pages.old) (P.standing pages.new)) }
-    ensures same_root { IsTrue (P.standing pages.old).told → OnOk result ((rows : List Row) (used : List ℕ) → IsRooted (P.standing pages.old).count (P.standing pages.old).current root.old rows used → HoldsLength key (length value.now) rows → root.new ≡ root.old) }
+    ensures rows { IsTrue (P.standing pages.old).told
+        → OnOk result (ChangesRows (P.standing pages.old).count (P.standing pages.old).current
+        (P.standing pages.new).current root.old root.new (row_put key value.now)) }
+    ensures pages { IsTrue (P.standing pages.old).told
+        → OnOk result (ChangesPages (P.standing pages.old).count key (P.standing pages.old).current
+        (P.standing pages.new).current root.old root.new (row_put key value.now)) }
+    ensures fresh { IsTrue (P.standing pages.old).told → (rows : List Row) (used : List ℕ)
+        → IsRooted (P.standing pages.old).count (P.standing pages.old).current root.old rows used
+        → IfOk result (λ fresh. fresh ≡ not (is_some (row_get key rows))) }
+    ensures again { IsTrue (P.standing pages.old).told
+        → OnOk result (PutsRecord root.old key (length value.now) (P.standing pages.old)
+        (P.standing pages.new)) }
+    ensures lines { IsTrue (P.standing pages.old).told
+        → OnOk result
+        (PutsLines root.old key value.now (P.standing pages.old) (P.standing pages.new)) }
+    ensures by_lines { IsTrue (P.standing pages.old).told
+        → OnOk result (PutsBeside root.old key (length value.now) (10 * root.old.levels + 18)
+        (P.standing pages.old) (P.standing pages.new)) }
+    ensures same_root { IsTrue (P.standing pages.old).told
+        → OnOk result ((rows : List Row) (used : List ℕ)
+        → IsRooted (P.standing pages.old).count (P.standing pages.old).current root.old rows used
+        → HoldsLength key (length value.now) rows → root.new ≡ root.old) }
     ensures room { OnOk result ((P.standing pages.old).room ≤ (P.standing pages.new).room + 600) }
     ensures some { OnOk result (1 ≤ root.new.page) }
     ensures page { OnOk result (root.new.page < (P.standing pages.old).count) }
     ensures some_levels { 1 ≤ root.new.levels }
     ensures few_levels { root.new.levels ≤ 4 }
-    ensures sound { IsTrue (P.standing pages.old).told → (rows : List Row) (used free : List ℕ) → StandsIn (P.standing pages.old).count (P.standing pages.old).current root.old rows used free → IfErr result (IsLack (pages_at_hand (P.standing pages.old).count (P.standing pages.old).current used free) (length (row_put key value.now rows)) (length rows)) }
+    ensures sound { IsTrue (P.standing pages.old).told → (rows : List Row) (used free : List ℕ)
+        → StandsIn (P.standing pages.old).count (P.standing pages.old).current root.old rows used
+        free → IfErr result
+        (IsLack (pages_at_hand (P.standing pages.old).count
+        (P.standing pages.old).current used free)
+        (length (row_put key value.now rows)) (length rows)) }
     ensures cause { TreeCause P.Pages pages.old pages.new work.new.page result }
     ensures fails { IfErr result (Keeps (FailsTree (P.standing pages.old).count work.new.page)) }
     ensures at_root { IfErr result (NamesRoot root.old) }
-    ensures needed { IsTrue (P.standing pages.old).told → (rows : List Row) (used free : List ℕ) → StandsIn (P.standing pages.old).count (P.standing pages.old).current root.old rows used free → IfErr result (MustCut (P.standing pages.old).current (root.old.levels - 1) root.old.page key value.now) }
+    ensures needed { IsTrue (P.standing pages.old).told → (rows : List Row) (used free : List ℕ)
+        → StandsIn (P.standing pages.old).count (P.standing pages.old).current root.old rows used
+        free → IfErr result
+        (MustCut (P.standing pages.old).current (root.old.levels - 1) root.old.page key value.now) }
     // what stays
     ensures call { PagesCall P.Pages pages.old pages.new result }
     ensures few { (P.standing pages.new).visits ≤ (P.standing pages.old).visits + 58 }
@@ -113,14 +138,23 @@ pub fn delete_row<P: Pages>(
     requires some_levels { 1 ≤ root.old.levels }
     requires few_levels { root.old.levels ≤ 4 }
     requires room { 600 ≤ (P.standing pages.old).room }
-    ensures rows { IsTrue (P.standing pages.old).told → OnOk result (ChangesRows (P.standing pages.old).count (P.standing pages.old).current (P.standing pages.new).current root.old root.new (row_delete key)) }
-    ensures by_lines { IsTrue (P.standing pages.old).told → OnOk result (DeletesAlone root.old key (10 * root.old.levels + 18) (P.standing pages.old) (P.standing pages.new)) }
+    ensures rows { IsTrue (P.standing pages.old).told
+        → OnOk result (ChangesRows (P.standing pages.old).count (P.standing pages.old).current
+        (P.standing pages.new).current root.old root.new (row_delete key)) }
+    ensures pages { IsTrue (P.standing pages.old).told
+        → OnOk result (ChangesPages (P.standing pages.old).count key (P.standing pages.old).current
+        (P.standing pages.new).current root.old root.new (row_delete key)) }
+    ensures by_lines { IsTrue (P.standing pages.old).told
+        → OnOk result (DeletesAlone root.old key (10 * root.old.levels + 18) (P.standing pages.old)
+        (P.standing pages.new)) }
     ensures room { OnOk result ((P.standing pages.old).room ≤ (P.standing pages.new).room + 600) }
     ensures some { OnOk result (1 ≤ root.new.page) }
     ensures page { OnOk result (root.new.page < (P.standing pages.old).count) }
     ensures some_levels { 1 ≤ root.new.levels }
     ensures few_levels { root.new.levels ≤ 4 }
-    ensures sound { IsTrue (P.standing pages.old).told → (rows : List Row) (used free : List ℕ) → StandsIn (P.standing pages.old).count (P.standing pages.old).current root.old rows used free → IfErr result IsFault }
+    ensures sound { IsTrue (P.standing pages.old).told → (rows : List Row) (used free : List ℕ)
+        → StandsIn (P.standing pages.old).count (P.standing pages.old).current root.old rows used
+        free → IfErr result IsFault }
     ensures cause { TreeCause P.Pages pages.old pages.new work.new.page result }
     ensures fails { IfErr result (Keeps (FailsTree (P.standing pages.old).count work.new.page)) }
     ensures not_full { IfErr result NotFull }
@@ -148,10 +182,14 @@ fn has_key<P: Pages>(pages: &mut P, root: &Root, key: u64, work: &mut Work) -> R
     requires page { root.now.page < (P.standing pages.old).count }
     requires some_levels { 1 ≤ root.now.levels }
     requires few_levels { root.now.levels ≤ 4 }
-    ensures found { OnRooted P.Pages pages.old root.now (λ rows used. IfOk result (λ found. found ≡ is_some (row_get key rows))) }
+    ensures found { OnRooted P.Pages pages.old root.now
+        (λ rows used. IfOk result (λ found. found ≡ is_some (row_get key rows))) }
     ensures sound { OnRooted P.Pages pages.old root.now (λ rows used. IfErr result IsFault) }
     ensures nothing { OnOk result (WritesNothing (P.standing pages.old) (P.standing pages.new)) }
-    ensures cost { OnRooted P.Pages pages.old root.now (λ rows used. OnOk result (Costs (10 * root.now.levels + 29) (P.standing pages.old) (P.standing pages.new))) }
+    ensures cost { OnRooted P.Pages pages.old root.now
+        (λ rows used.
+        OnOk result (Costs (10 * root.now.levels + 29) (P.standing pages.old)
+        (P.standing pages.new))) }
     ensures cause { TreeCause P.Pages pages.old pages.new work.new.page result }
     ensures fails { IfErr result (Keeps (FailsTree (P.standing pages.old).count work.new.page)) }
     ensures not_full { IfErr result NotFull }
@@ -177,10 +215,14 @@ fn seek<P: Pages>(
     requires page { root.now.page < (P.standing pages.old).count }
     requires some_levels { 1 ≤ root.now.levels }
     requires few_levels { root.now.levels ≤ 4 }
-    ensures value { OnRooted P.Pages pages.old root.now (λ rows used. IfOk result (λ value. value ≡ row_get key rows)) }
+    ensures value { OnRooted P.Pages pages.old root.now
+        (λ rows used. IfOk result (λ value. value ≡ row_get key rows)) }
     ensures sound { OnRooted P.Pages pages.old root.now (λ rows used. IfErr result IsFault) }
     ensures nothing { OnOk result (WritesNothing (P.standing pages.old) (P.standing pages.new)) }
-    ensures cost { OnRooted P.Pages pages.old root.now (λ rows used. OnOk result (Costs (10 * root.now.levels + 29) (P.standing pages.old) (P.standing pages.new))) }
+    ensures cost { OnRooted P.Pages pages.old root.now
+        (λ rows used.
+        OnOk result (Costs (10 * root.now.levels + 29) (P.standing pages.old)
+        (P.standing pages.new))) }
     ensures cause { TreeCause P.Pages pages.old pages.new work.new.page result }
     ensures fails { IfErr result (Keeps (FailsTree (P.standing pages.old).count work.new.page)) }
     ensures not_full { IfErr result NotFull }
@@ -209,22 +251,46 @@ pub fn put<P: Pages>(
     requires few_levels { root.old.levels ≤ 4 }
     requires room { 600 ≤ (P.standing pages.old).room }
     // the rows, and whether the key is new
-    ensures rows { IsTrue (P.standing pages.old).told → OnOk result (ChangesRows (P.standing pages.old).count (P.standing pages.old).current (P.standing pages.new).current root.old root.new (row_put key value.now)) }
+    ensures rows { IsTrue (P.standing pages.old).told
+        → OnOk result (ChangesRows (P.standing pages.old).count (P.standing pages.old).current
+        (P.standing pages.new).current root.old root.new (row_put key value.now)) }
+    ensures pages { IsTrue (P.standing pages.old).told
+        → OnOk result (ChangesPages (P.standing pages.old).count key (P.standing pages.old).current
+        (P.standing pages.new).current root.old root.new (row_put key value.now)) }
     ensures room { OnOk result ((P.standing pages.old).room ≤ (P.standing pages.new).room + 600) }
-    ensures fresh { IsTrue (P.standing pages.old).told → (rows : List Row) (used : List ℕ) → IsRooted (P.standing pages.old).count (P.standing pages.old).current root.old rows used → IfOk result (λ fresh. fresh ≡ not (is_some (row_get key rows))) }
+    ensures fresh { IsTrue (P.standing pages.old).told → (rows : List Row) (used : List ℕ)
+        → IsRooted (P.standing pages.old).count (P.standing pages.old).current root.old rows used
+        → IfOk result (λ fresh. fresh ≡ not (is_some (row_get key rows))) }
     // where the key has a value of this length, lines of its record are written alone, and the root is the same
-    ensures again { IsTrue (P.standing pages.old).told → OnOk result (PutsRecord root.old key (length value.now) (P.standing pages.old) (P.standing pages.new)) }
-    ensures same_root { IsTrue (P.standing pages.old).told → OnOk result ((rows : List Row) (used : List ℕ) → IsRooted (P.standing pages.old).count (P.standing pages.old).current root.old rows used → HoldsLength key (length value.now) rows → root.new ≡ root.old) }
+    ensures again { IsTrue (P.standing pages.old).told
+        → OnOk result (PutsRecord root.old key (length value.now) (P.standing pages.old)
+        (P.standing pages.new)) }
+    ensures same_root { IsTrue (P.standing pages.old).told
+        → OnOk result ((rows : List Row) (used : List ℕ)
+        → IsRooted (P.standing pages.old).count (P.standing pages.old).current root.old rows used
+        → HoldsLength key (length value.now) rows → root.new ≡ root.old) }
     // where the rows of its leaf fit it with the value put, the lines of the leaf that change are written alone
-    ensures lines { IsTrue (P.standing pages.old).told → OnOk result (PutsLines root.old key value.now (P.standing pages.old) (P.standing pages.new)) }
+    ensures lines { IsTrue (P.standing pages.old).told
+        → OnOk result
+        (PutsLines root.old key value.now (P.standing pages.old) (P.standing pages.new)) }
     // where it has its place beside the other records of its leaf, so many lines are touched
-    ensures by_lines { IsTrue (P.standing pages.old).told → OnOk result (PutsBeside root.old key (length value.now) (10 * root.old.levels + 18) (P.standing pages.old) (P.standing pages.new)) }
+    ensures by_lines { IsTrue (P.standing pages.old).told
+        → OnOk result (PutsBeside root.old key (length value.now) (10 * root.old.levels + 18)
+        (P.standing pages.old) (P.standing pages.new)) }
     // why it stops
-    ensures sound { IsTrue (P.standing pages.old).told → (rows : List Row) (used free : List ℕ) → StandsIn (P.standing pages.old).count (P.standing pages.old).current root.old rows used free → IfErr result (IsLack (pages_at_hand (P.standing pages.old).count (P.standing pages.old).current used free) (length (row_put key value.now rows)) (length rows)) }
+    ensures sound { IsTrue (P.standing pages.old).told → (rows : List Row) (used free : List ℕ)
+        → StandsIn (P.standing pages.old).count (P.standing pages.old).current root.old rows used
+        free → IfErr result
+        (IsLack (pages_at_hand (P.standing pages.old).count
+        (P.standing pages.old).current used free)
+        (length (row_put key value.now rows)) (length rows)) }
     ensures cause { TreeCause P.Pages pages.old pages.new work.new.page result }
     ensures fails { IfErr result (Keeps (FailsTree (P.standing pages.old).count work.new.page)) }
     ensures at_root { IfErr result (NamesRoot root.old) }
-    ensures needed { IsTrue (P.standing pages.old).told → (rows : List Row) (used free : List ℕ) → StandsIn (P.standing pages.old).count (P.standing pages.old).current root.old rows used free → IfErr result (MustCut (P.standing pages.old).current (root.old.levels - 1) root.old.page key value.now) }
+    ensures needed { IsTrue (P.standing pages.old).told → (rows : List Row) (used free : List ℕ)
+        → StandsIn (P.standing pages.old).count (P.standing pages.old).current root.old rows used
+        free → IfErr result
+        (MustCut (P.standing pages.old).current (root.old.levels - 1) root.old.page key value.now) }
     // the root, and what stays
     ensures some { OnOk result (1 ≤ root.new.page) }
     ensures page { OnOk result (root.new.page < (P.standing pages.old).count) }
@@ -250,14 +316,25 @@ pub fn delete<P: Pages>(
     requires few_levels { root.old.levels ≤ 4 }
     requires room { 600 ≤ (P.standing pages.old).room }
     // the rows, and whether one was removed
-    ensures rows { IsTrue (P.standing pages.old).told → OnOk result (ChangesRows (P.standing pages.old).count (P.standing pages.old).current (P.standing pages.new).current root.old root.new (row_delete key)) }
+    ensures rows { IsTrue (P.standing pages.old).told
+        → OnOk result (ChangesRows (P.standing pages.old).count (P.standing pages.old).current
+        (P.standing pages.new).current root.old root.new (row_delete key)) }
+    ensures pages { IsTrue (P.standing pages.old).told
+        → OnOk result (ChangesPages (P.standing pages.old).count key (P.standing pages.old).current
+        (P.standing pages.new).current root.old root.new (row_delete key)) }
     ensures room { OnOk result ((P.standing pages.old).room ≤ (P.standing pages.new).room + 600) }
-    ensures found { IsTrue (P.standing pages.old).told → (rows : List Row) (used : List ℕ) → IsRooted (P.standing pages.old).count (P.standing pages.old).current root.old rows used → IfOk result (λ found. found ≡ is_some (row_get key rows)) }
+    ensures found { IsTrue (P.standing pages.old).told → (rows : List Row) (used : List ℕ)
+        → IsRooted (P.standing pages.old).count (P.standing pages.old).current root.old rows used
+        → IfOk result (λ found. found ≡ is_some (row_get key rows)) }
     // where the leaf of the key has as many bytes as it has to afterwards, so many lines are touched, and those alone are written
     // that differ in that leaf
-    ensures by_lines { IsTrue (P.standing pages.old).told → OnOk result (DeletesAlone root.old key (20 * root.old.levels + 47) (P.standing pages.old) (P.standing pages.new)) }
+    ensures by_lines { IsTrue (P.standing pages.old).told
+        → OnOk result (DeletesAlone root.old key (20 * root.old.levels + 47) (P.standing pages.old)
+        (P.standing pages.new)) }
     // why it stops
-    ensures sound { IsTrue (P.standing pages.old).told → (rows : List Row) (used free : List ℕ) → StandsIn (P.standing pages.old).count (P.standing pages.old).current root.old rows used free → IfErr result IsFault }
+    ensures sound { IsTrue (P.standing pages.old).told → (rows : List Row) (used free : List ℕ)
+        → StandsIn (P.standing pages.old).count (P.standing pages.old).current root.old rows used
+        free → IfErr result IsFault }
     ensures cause { TreeCause P.Pages pages.old pages.new work.new.page result }
     ensures fails { IfErr result (Keeps (FailsTree (P.standing pages.old).count work.new.page)) }
     ensures not_full { IfErr result NotFull }

@@ -273,6 +273,17 @@ module _ {Aim : Type 0} {Held : Aim → State → Type 0} where
           (found.0, found.2, call.moments told aim (fresh (current (now a))) (fresh_as (now a)) before found.0 found.1);
     }
 
+-- less is said of the moments on the way
+pub leads_held : {Aim T : Type 0} {Held Less A B : Aim → State → Type 0} {a b : Standing} {r : Result T Stop} → ((aim : Aim) (s : State) → Held aim s → Less aim s) → Leads Held A B a b r → Leads Less A B a b r
+leads_held less call = record {
+  goes = call.goes;
+  cause = call.cause;
+  calls = call.calls;
+  makes = call.makes;
+  facts = call.facts;
+  moments = λ told aim s reads before mid at. less aim mid (call.moments told aim s reads before mid at);
+}
+
 pub leads_lift : {Aim Goal T : Type 0} {Held A B : Aim → State → Type 0} {Above Before After : Goal → State → Type 0} {a b : Standing} {r : Result T Stop}
     → ((goal : Goal) (s : State) → Before goal s → Lifts Held A B Above After goal s) → Leads Held A B a b r → Leads Above Before After a b r
 leads_lift {r = r} lift call = record {

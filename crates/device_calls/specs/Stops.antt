@@ -15,3 +15,7 @@ pub record StopCause {T : Type 0} (a b : Standing) (result : Result T Stop) : Ty
   pub failed : IfErr result (IsFault a b)
   pub nvm : OnOk result (b.nvm_faults ≡ a.nvm_faults)
   pub ssd : OnOk result (b.ssd_faults ≡ a.ssd_faults)
+
+-- it stops with this alone
+abbrev pub StopsWith : {T : Type 0} → Stop → Result T Stop → Type 0
+StopsWith stop result = IfErr result (λ why. why ≡ stop)

@@ -4,6 +4,8 @@ ghost use Rattle.devices.specs.State.{line_at};
 ghost use Rattle.devices.specs.State.Call.{store_word, store_line, flush, fence, write_block, sync};
 ghost use Rattle.devices.specs.World.{Counts, now};
 ghost use Rattle.device_calls.specs.Leads.{Made, Looked};
+ghost use Rattle.device_calls.specs.Stops.{StopsWith};
+ghost use Rattle.line_pages.specs.declared.stop.Stop.TheVariants.{Nvm, Ssd};
 
 use devices::{Devices, Failed};
 use line_pages::Stop;
@@ -14,6 +16,7 @@ use ssd_model::PageBuf;
 pub fn load<D: Devices>(dev: &mut D, line: u64) -> Result<Line, Stop>
     requires { line < (D.standing dev.old).lines }
     ensures looked { Looked (D.standing dev.old) (D.standing dev.new) result }
+    ensures stops { StopsWith Nvm result }
     ensures reads { (D.standing dev.new).block_reads ≡ (D.standing dev.old).block_reads }
     ensures value { IsTrue (D.standing dev.old).told
         → IfOk result (λ found. found ≡ line_at (now (D.standing dev.old)) line) }
@@ -28,6 +31,7 @@ pub fn load<D: Devices>(dev: &mut D, line: u64) -> Result<Line, Stop>
 pub fn read_block<D: Devices>(dev: &mut D, block: u64, into: &mut PageBuf) -> Result<(), Stop>
     requires { block < (D.standing dev.old).blocks }
     ensures looked { Looked (D.standing dev.old) (D.standing dev.new) result }
+    ensures stops { StopsWith Ssd result }
     ensures reads { Counts (D.standing dev.old) (D.standing dev.new) }
     ensures value { IsTrue (D.standing dev.old).told
         → OnOk result (into.new ≡ ((now (D.standing dev.old)).ssd block).bytes) }

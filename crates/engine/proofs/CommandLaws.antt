@@ -24,7 +24,9 @@ use Rattle.engine.specs.declared.engine.Engine.{Engine}
 use Rattle.engine.specs.Holds.{AreLimits, HoldsTables}
 use Rattle.engine.specs.Engine.{engine_sizes, engine_lines, has_open, writes_done, most_writes, log_end, StandsFor, Shows, IsTransaction}
 use Rattle.line_pages.specs.Standing.{IsFault}
-use Rattle.engine.specs.Steps.{Does}
+use Rattle.engine.specs.declared.scan.Step.{Step}
+use Rattle.engine.specs.declared.scan.Step.TheVariants.{Said}
+use Rattle.engine.specs.Steps.{Does, step_replies}
 use Rattle.engine.proofs.HoldsLaws.{holds_same, holds_with}
 use Rattle.engine.proofs.DoesLaws.{does_kept}
 
@@ -209,6 +211,6 @@ pub cause_err : {A T U : Type 0} (Damage : Evidence → Type 0) (old new : Shown
     → HasCause {T = T} Damage old new (Err why) → HasCause {T = U} Damage old new r
 cause_err {A} {T} {U} Damage old new r why is it = subst (λ (x : Result U Stop). HasCause {T = U} Damage old new x) (sym (handed_on r why is)) (record { failed = it.failed; kept = tt })
 
-pub replies_by : (r : Result Reply Stop) (x : Reply) (all : List Reply) → all ≡ x ∷ [] → IfOk r (λ y. y ≡ x) → IfOk r (λ y. all ≡ y ∷ [])
-replies_by (Ok y) x all is same = is ∙ ap (λ (z : Reply). z ∷ []) (sym same)
-replies_by (Err e) x all is same = tt
+pub replies_by : (T : List Table) (r : Result Step Stop) (x : Reply) (all : List Reply) → all ≡ x ∷ [] → IfOk r (λ y. y ≡ Said x) → IfOk r (λ y. all ≡ step_replies y T)
+replies_by T (Ok y) x all is same = is ∙ ap (λ (z : Step). step_replies z T) (sym same)
+replies_by T (Err e) x all is same = tt

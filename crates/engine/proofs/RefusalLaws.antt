@@ -15,7 +15,6 @@ use Rattle.script.specs.declared.command.Reply.TheVariants.{Fine, Found, Absent,
 use Rattle.engine.specs.declared.engine.Engine.{Engine}
 use Rattle.engine.specs.declared.scan.Step.{Step}
 use Rattle.engine.specs.declared.scan.Step.TheVariants.{Silent, Said, Scanning}
-use Rattle.engine.specs.Answers.{said_of}
 use Rattle.engine.specs.Refused.{Stays, StaysIfRefused, LineStaysIfRefused}
 use Rattle.engine.proofs.CommandLaws.{with_book}
 
@@ -56,13 +55,11 @@ module _ (old : Engine) (a : Device) (new : Engine) (b : Device) where
   refused_any Aborted it = tt
   refused_any (Refused why) it = it
 
-  pub refused_all : (r : Result Reply Stop) → OnOk r (Stays old a new b) → IfOk r (StaysIfRefused old a new b)
-  refused_all (Ok v) it = refused_any v it
+  pub refused_all : (r : Result Step Stop) → OnOk r (Stays old a new b) → IfOk r (LineStaysIfRefused old a new b)
+  refused_all (Ok Silent) it = tt
+  refused_all (Ok (Said v)) it = refused_any v it
+  refused_all (Ok (Scanning scan)) it = tt
   refused_all (Err why) it = tt
-
-  pub refused_said : (r : Result Reply Stop) → IfOk r (StaysIfRefused old a new b) → IfOk (said_of r) (LineStaysIfRefused old a new b)
-  refused_said (Ok v) it = it
-  refused_said (Err why) it = tt
 
 -- ---- behind the end of the open access
 

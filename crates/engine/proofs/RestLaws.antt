@@ -25,8 +25,6 @@ use Rattle.flat_transactions.proofs.OpenStoreLaws.{pages_keep}
 use Rattle.script.specs.Grammar.{command_in, command_of}
 use Rattle.script.specs.declared.command.Command.{Command}
 use Rattle.engine.specs.declared.engine.Engine.{Engine}
-use Rattle.script.specs.declared.command.Reply.{Reply}
-use Rattle.engine.specs.Answers.{said_of}
 use Rattle.engine.specs.Causes.{IsNameDamage, IsRowDamage}
 use Rattle.engine.specs.Commands.{shown}
 use Rattle.engine.specs.Engine.{engine_sizes, engine_lines, evidence_bytes}
@@ -116,10 +114,6 @@ reads_err old a new b r why is it = record {
   stays = λ told lines rests. on_err _ r is.0;
   shows = λ told lines rests. on_why (Keeps (IsPageOf lines (evidence_bytes new))) r why is (it.shows told lines rests);
 }
-
-pub reads_said : (old : Engine) (a : Device) (new : Engine) (b : Device) (r : Result Reply Stop) → Reads old a new b r → Reads old a new b (said_of r)
-reads_said old a new b (Ok v) it = record { stays = it.stays; shows = it.shows }
-reads_said old a new b (Err why) it = record { stays = it.stays; shows = it.shows }
 
 -- ---- calls that open and end transactions
 

@@ -18,7 +18,6 @@ use Rattle.script.specs.Machine.{Bounds, State, Open, current, step, transaction
 use Rattle.script.specs.declared.command.Command.{Command}
 use Rattle.script.specs.declared.command.Command.TheVariants as command
 use Rattle.script.specs.declared.command.Reason.TheVariants as reason
-use Rattle.script.specs.declared.command.Reply.{Reply}
 use Rattle.script.specs.declared.command.Reply.TheVariants as reply
 use Rattle.engine.specs.declared.engine.Engine.{Engine}
 use Rattle.engine.specs.declared.scan.Step.{Step}
@@ -28,13 +27,13 @@ use Rattle.engine.specs.Engine.{engine_sizes, has_open, evidence_bytes, StandsFo
 use Rattle.line_pages.specs.Standing.{IsFault}
 use Rattle.engine.specs.Commands.{shown}
 use Rattle.engine.specs.Causes.{IsDamage, IsUndoDamage, Stops, StopsUndoing}
-use Rattle.engine.specs.Steps.{Does, Replies, after_command, after_line, step_replies, IsBegun}
-use Rattle.engine.specs.Answers.{said_of, Answers, AnswersLine, Obeys, closed}
+use Rattle.engine.specs.Steps.{Does, after_command, after_line, step_replies, IsBegun}
+use Rattle.engine.specs.Answers.{Answers, AnswersLine, Obeys, closed}
 use Rattle.engine.specs.Resting.{is_read, AreReads, Reads}
-use Rattle.engine.specs.Refused.{StaysIfRefused, LineStaysIfRefused}
+use Rattle.engine.specs.Refused.{LineStaysIfRefused}
 use Rattle.engine.proofs.CauseLaws.{causes_weaker}
-use Rattle.engine.proofs.RestLaws.{reads_still, reads_said, reads_after_rest, read_some}
-use Rattle.engine.proofs.RefusalLaws.{stays_still, refused_said, refused_after_rest}
+use Rattle.engine.proofs.RestLaws.{reads_still, reads_after_rest, read_some}
+use Rattle.engine.proofs.RefusalLaws.{stays_still, refused_after_rest}
 use Rattle.engine.proofs.TransactionLaws.{does_still, none_open, some_open, step_abort}
 use Rattle.engine.proofs.DoesLaws.{does_same}
 
@@ -42,40 +41,23 @@ use Rattle.engine.proofs.DoesLaws.{does_same}
 pub obeys_at : (c d : Command) (old : Engine) (a : Standing) (new : Engine) (b : Standing) (r : Result Step Stop) → c ≡ d → Obeys (Some d) old a new b r → Obeys (Some c) old a new b r
 obeys_at c d old a new b r same it = subst (λ (x : Command). Obeys (Some x) old a new b r) (sym same) it
 
-does_said : (after : State → State) (old : Engine) (a : Standing) (new : Engine) (b : Standing) (r : Result Reply Stop) → Does after old a new b r → Does after old a new b (said_of r)
-does_said after old a new b (Ok v) it = record { shows = it.shows; sound = it.sound; moments = it.moments; steady = it.steady; ready = it.ready; sizes = it.sizes; reach_rises = it.reach_rises; goes = it.goes }
-does_said after old a new b (Err why) it = record { shows = it.shows; sound = it.sound; moments = it.moments; steady = it.steady; ready = it.ready; sizes = it.sizes; reach_rises = it.reach_rises; goes = it.goes }
-
-said_replies : (old : Engine) (a : Standing) (c : Option Command) (r : Result Reply Stop) → Replies old a c r → Answers old a c (said_of r)
-said_replies old a c (Ok v) it = it
-said_replies old a c (Err why) it = λ told s shows. tt
-
-said_begun : (r : Result Reply Stop) → IfOk (said_of r) IsBegun
-said_begun (Ok v) = tt
-said_begun (Err why) = tt
-
-said_cause : (old : Engine) (a : Standing) (new : Engine) (b : Standing) (r : Result Reply Stop) → Stops old a new b r → Stops old a new b (said_of r)
-said_cause old a new b (Ok v) it = record { failed = it.failed; kept = it.kept }
-said_cause old a new b (Err why) it = record { failed = it.failed; kept = it.kept }
-
 -- a command that writes
 pub unread : {A : Type 0} → false ≡ true → A
 unread clash = absurd (cc)
 
--- A command that gives one reply.
-pub obeys_said : (P : Evidence → Type 0) (c d : Command) (old : Engine) (a : Standing) (new : Engine) (b : Standing) (r : Result Reply Stop) (x : Result Step Stop) → c ≡ d → x ≡ said_of r
-    → Does (after_command old (Some d)) old a new b r → Replies old a (Some d) r → ((e : Evidence) → P e → IsDamage old a new b (evidence_bytes new) e) → HasCause P (shown old a) (shown new b) r → (IsTrue (is_read (Some d)) → Reads old a new b r) → IfOk r (StaysIfRefused old a new b) → Obeys (Some c) old a new b x
-obeys_said P c d old a new b r x same is does replies weaker cause reads refused =
-    obeys_at c d old a new b x same
-    (subst (λ (y : Result Step Stop). Obeys (Some d) old a new b y) (sym is)
+-- A command by what its own call promises.
+pub obeys_by : (P : Evidence → Type 0) (c d : Command) (old : Engine) (a : Standing) (new : Engine) (b : Standing) (r : Result Step Stop) → c ≡ d
+    → Does (after_command old (Some d)) old a new b r → Answers old a (Some d) r → IfOk r IsBegun → IfOk r (LineStaysIfRefused old a new b) → ((e : Evidence) → P e → IsDamage old a new b (evidence_bytes new) e) → HasCause P (shown old a) (shown new b) r → (IsTrue (is_read (Some d)) → Reads old a new b r) → Obeys (Some c) old a new b r
+obeys_by P c d old a new b r same does replies begun refused weaker cause reads =
+    obeys_at c d old a new b r same
     (record {
-      does = does_said (after_command old (Some d)) old a new b r does;
-      replies = said_replies old a (Some d) r replies;
-      begun = said_begun r;
-      refused = refused_said old a new b r refused;
-      cause = said_cause old a new b r (causes_weaker P (IsDamage old a new b (evidence_bytes new)) (shown old a) (shown new b) r weaker cause);
-      reads = λ read. reads_said old a new b r (reads read);
-    }))
+      does = does;
+      replies = replies;
+      begun = begun;
+      refused = refused;
+      cause = causes_weaker P (IsDamage old a new b (evidence_bytes new)) (shown old a) (shown new b) r weaker cause;
+      reads = reads;
+    })
 
 -- ---- whether a transaction is open
 

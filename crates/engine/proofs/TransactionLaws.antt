@@ -20,7 +20,9 @@ use Rattle.engine.specs.declared.engine.Engine.{Engine}
 use Rattle.engine.specs.Holds.{HoldsTables, bounds_in}
 use Rattle.engine.specs.Engine.{IsSteadyFor, engine_sizes, engine_lines, has_open, writes_done, most_writes, log_end, StandsFor, IsTransaction, Shows}
 use Rattle.line_pages.specs.Standing.{IsFault}
-use Rattle.engine.specs.Steps.{Does, Replies, after_command}
+use Rattle.engine.specs.declared.scan.Step.TheVariants.{Said}
+use Rattle.engine.specs.Steps.{Does, after_command}
+use Rattle.engine.specs.Answers.{Answers}
 use Rattle.engine.proofs.HoldsLaws.{holds_same}
 use Rattle.engine.proofs.DoesLaws.{does_same, does_kept, does_chosen}
 
@@ -116,9 +118,9 @@ module _ (old : Engine) (a : Standing) (stands : StandsFor old a) (book : Book) 
     was_closed s is = none_open old.book s.transaction is.transaction closed
 
     pub begin_does : (lines : IsTrue a.told → KeepsLines old.book a book b) → Begins old.book book → IsReady book b → (IsSteady old.book a → IsSteady book b)
-        → Does (after_command old (Some command.Begin)) old a with_book b (Ok reply.Fine)
+        → Does (after_command old (Some command.Begin)) old a with_book b (Ok (Said reply.Fine))
     begin_does lines begins ready steady =
-        does_kept (after_command old (Some command.Begin)) old a with_book b (Ok reply.Fine) stands (call_sizes old.book a book b call) call.goes call.during begins.reach_rises steady
+        does_kept (after_command old (Some command.Begin)) old a with_book b (Ok (Said reply.Fine)) stands (call_sizes old.book a book b call) call.goes call.during begins.reach_rises steady
         (stands_by old with_book a b stands (call_sizes old.book a book b call) refl refl call.goes ready (λ is. subst (λ n. n ≤ old.writes) (sym begins.accepted) (omega arith)) (λ is more. subst (λ n. 640 ≤ n) (sym begins.room) (omega arith))
         (subst (λ n. old.commits ≤ n) (sym begins.tail) stands.counted)) (λ told s is. tt)
         (λ told s is.
@@ -126,7 +128,7 @@ module _ (old : Engine) (a : Standing) (stands : StandsFor old a) (book : Book) 
         (shows_by old with_book b (accepted s command.Begin).0 (committed_lines a) (engine_lines old a) (call_sizes old.book a book b call) (lines told).committed (lines told).current is.committed
         (subst (λ (T : List Table). HoldsTables (engine_sizes old) (engine_lines old a) T) (current_closed s (was_closed s is)) is.seen) (begins.is_open, sym begins.accepted) is.commits))
 
-    pub begin_replies : Replies old a (Some command.Begin) (Ok reply.Fine)
+    pub begin_replies : Answers old a (Some command.Begin) (Ok (Said reply.Fine))
     begin_replies = λ told s is. ap (λ x. x.1) (step_begin (bounds_in (engine_sizes old)) s (was_closed s is))
 
   module _ (open_now : has_open old ≡ true) where
@@ -144,16 +146,16 @@ module _ (old : Engine) (a : Standing) (stands : StandsFor old a) (book : Book) 
     closed_facts closed is = let bad : false ≡ true = sym closed ∙ is in absurd (cc)
 
     pub abort_does : StoreCall (IsCommitted a) old.book a book b → (lines : IsTrue a.told → AbortsLines old.book a book b) → Ends old.book book → IsReady book b → (IsSteady old.book a → IsSteady book b)
-        → Does (after_command old (Some command.Abort)) old a with_book b (Ok reply.Aborted)
+        → Does (after_command old (Some command.Abort)) old a with_book b (Ok (Said reply.Aborted))
     abort_does call lines ends ready steady =
-        does_kept (after_command old (Some command.Abort)) old a with_book b (Ok reply.Aborted) stands (call_sizes old.book a book b call) call.goes call.during ends.reach_rises steady
+        does_kept (after_command old (Some command.Abort)) old a with_book b (Ok (Said reply.Aborted)) stands (call_sizes old.book a book b call) call.goes call.during ends.reach_rises steady
         (stands_by old with_book a b stands (call_sizes old.book a book b call) refl refl call.goes ready (λ is. closed_facts ends.is_open is) (λ is more. closed_facts ends.is_open is)
         (let low : old.commits ≤ log_end old = stands.counted in let moved : (account book).tail ≡ log_end old + 1 = ends.tail in omega (arith, low, moved))) (λ told s is. tt)
         (λ told s is.
         subst (λ (t : State). Shows with_book b t) (sym (ap (λ x. x.0) (abort_step_is s is)))
         (shows_by old with_book b (accepted s command.Abort).0 (committed_lines a) (committed_lines a) (call_sizes old.book a book b call) (lines told).committed (lines told).current is.committed is.committed ends.is_open is.commits))
 
-    pub abort_replies : Replies old a (Some command.Abort) (Ok reply.Aborted)
+    pub abort_replies : Answers old a (Some command.Abort) (Ok (Said reply.Aborted))
     abort_replies = λ told s is. ap (λ x. x.1) (abort_step_is s is)
 
     -- one commit more
@@ -161,9 +163,9 @@ module _ (old : Engine) (a : Standing) (stands : StandsFor old a) (book : Book) 
     counted = record old { book = book; commits = old.commits + 1 }
 
     pub commit_does : StoreCall (IsOldOrNew old.book a) old.book a book b → (lines : IsTrue a.told → CommitsLines old.book a book b) → Ends old.book book → IsReady book b → (IsSteady old.book a → IsSteady book b)
-        → Does (after_command old (Some command.Commit)) old a counted b (Ok (reply.Committed (old.commits + 1)))
+        → Does (after_command old (Some command.Commit)) old a counted b (Ok (Said (reply.Committed (old.commits + 1))))
     commit_does call lines ends ready steady =
-        does_chosen (after_command old (Some command.Commit)) old a counted b (Ok (reply.Committed (old.commits + 1))) stands (call_sizes old.book a book b call) call.goes call.during ends.reach_rises steady
+        does_chosen (after_command old (Some command.Commit)) old a counted b (Ok (Said (reply.Committed (old.commits + 1)))) stands (call_sizes old.book a book b call) call.goes call.during ends.reach_rises steady
         (stands_by old counted a b stands (call_sizes old.book a book b call) refl refl call.goes ready (λ is. closed_facts ends.is_open is) (λ is more. closed_facts ends.is_open is)
         (let low : old.commits ≤ log_end old = stands.counted in let moved : (account book).tail ≡ log_end old + 1 = ends.tail in omega (arith, low, moved))) (λ told s is. tt)
         (λ told s is.
@@ -179,7 +181,7 @@ module _ (old : Engine) (a : Standing) (stands : StandsFor old a) (book : Book) 
         does_chosen (after_command old (Some command.Commit)) old a with_book b (Err found) stands (call_sizes old.book a book b call) call.goes call.during tt (λ steady. tt) tt (λ told s shows. subst IsFault (sym is.1) fault) (λ told s shows. tt)
         (λ s is. ap (λ x. x.0.tables) (commit_step_is s is))
 
-    pub commit_replies : Replies old a (Some command.Commit) (Ok (reply.Committed (old.commits + 1)))
+    pub commit_replies : Answers old a (Some command.Commit) (Ok (Said (reply.Committed (old.commits + 1))))
     commit_replies = λ told s is. ap (λ x. x.1) (commit_step_is s is) ∙ ap (λ n. reply.Committed (n + 1) ∷ []) (sym is.commits)
 
   module _ (closed : has_open old ≡ false) where
@@ -187,9 +189,9 @@ module _ (old : Engine) (a : Standing) (stands : StandsFor old a) (book : Book) 
     stays_closed s is = none_open old.book s.transaction is.transaction closed
 
     pub checkpoint_does : StoreCall (IsCommitted a) old.book a book b → (lines : IsTrue a.told → KeepsLines old.book a book b) → Checkpoints old.book book → IsReady book b → (IsSteady old.book a → IsSteady book b)
-        → Does (after_command old (Some command.Checkpoint)) old a with_book b (Ok reply.Fine)
+        → Does (after_command old (Some command.Checkpoint)) old a with_book b (Ok (Said reply.Fine))
     checkpoint_does call lines made ready steady =
-        does_kept (after_command old (Some command.Checkpoint)) old a with_book b (Ok reply.Fine) stands (call_sizes old.book a book b call) call.goes call.during
+        does_kept (after_command old (Some command.Checkpoint)) old a with_book b (Ok (Said reply.Fine)) stands (call_sizes old.book a book b call) call.goes call.during
         (let empty : (account book).room ≡ 0 = made.room in let same : (account book).tail ≡ log_end old = made.tail in omega (arith, empty, same)) steady
         (stands_by old with_book a b stands (call_sizes old.book a book b call) refl refl call.goes ready (λ is. let bad : false ≡ true = sym made.is_open ∙ is in absurd (cc)) (λ is more. let bad : false ≡ true = sym made.is_open ∙ is in absurd (cc))
         (subst (λ n. old.commits ≤ n) (sym made.tail) stands.counted)) (λ told s is. tt)
@@ -198,7 +200,7 @@ module _ (old : Engine) (a : Standing) (stands : StandsFor old a) (book : Book) 
         (shows_by old with_book b s (committed_lines a) (engine_lines old a) (call_sizes old.book a book b call) (lines told).committed (lines told).current is.committed is.seen
         (closed_transaction book s.transaction (stays_closed s is) made.is_open) is.commits))
 
-    pub checkpoint_replies : Replies old a (Some command.Checkpoint) (Ok reply.Fine)
+    pub checkpoint_replies : Answers old a (Some command.Checkpoint) (Ok (Said reply.Fine))
     checkpoint_replies = λ told s is. ap (λ x. x.1) (step_checkpoint (bounds_in (engine_sizes old)) s (stays_closed s is))
 
 -- a call that changes no line and no transaction

@@ -6,21 +6,14 @@ use Rattle.texts.specs.Runs as run
 use Rattle.script.specs.Machine.{State, current}
 use Rattle.script.specs.Script.{machine}
 use Rattle.script.specs.declared.command.Command.{Command}
-use Rattle.script.specs.declared.command.Reply.{Reply}
 use Rattle.engine.specs.declared.engine.Engine.{Engine}
 use Rattle.engine.specs.declared.scan.Step.{Step}
-use Rattle.engine.specs.declared.scan.Step.TheVariants.{Said}
 use Rattle.engine.specs.Holds.{bounds_in}
 use Rattle.engine.specs.Engine.{engine_sizes, Shows}
 use Rattle.engine.specs.Steps.{Does, IsBegun, step_replies, after_command}
 use Rattle.engine.specs.Causes.{Stops}
 use Rattle.engine.specs.Resting.{is_read, Reads}
 use Rattle.engine.specs.Refused.{LineStaysIfRefused}
-
--- one reply, as what a line leads to
-abbrev pub said_of : Result Reply Stop → Result Step Stop
-said_of (Ok r) = Ok (Said r)
-said_of (Err why) = Err why
 
 -- what a command leads to gives the replies of the plain machine
 abbrev pub Answers : Engine → Standing → Option Command → Result Step Stop → Type 0

@@ -66,8 +66,3 @@ after_command engine command s = ((machine (bounds_in (engine_sizes engine))).st
 
 abbrev pub after_line : Engine → List (Option Command) → State → State
 after_line engine commands s = run.state_after (machine (bounds_in (engine_sizes engine))) s commands
-
--- the one reply to a command is that of the plain machine
-abbrev pub Replies : Engine → Standing → Option Command → Result Reply Stop → Type 0
-Replies engine a command result =
-    IsTrue a.told → (s : State) → Shows engine a s → IfOk result (λ r. ((machine (bounds_in (engine_sizes engine))).step s command).1 ≡ r ∷ [])

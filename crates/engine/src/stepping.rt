@@ -25,18 +25,6 @@ fn is_misplaced(command: &Command, is_open: bool) -> bool
     }
 }
 
-ghost use Rattle.engine.specs.Answers.{said_of};
-
-/// One reply, as what a line leads to.
-fn said(reply: Result<Reply, Stop>) -> Result<Step, Stop>
-    ensures { result ≡ said_of reply }
-{
-    match reply {
-        Ok(reply) => Ok(Step::Said(reply)),
-        Err(stop) => Err(stop),
-    }
-}
-
 impl Engine {
     ghost use Rattle.engine.specs.Engine.{StandsFor, has_open, log_end, evidence_bytes};
     ghost use Rattle.engine.specs.Causes.{Stops, StopsUndoing};
@@ -93,17 +81,17 @@ impl Engine {
         ensures { Obeys (Some command.now) self.old (W.Devices.standing world.old) self.new (W.Devices.standing world.new) result }
     {
         match command {
-            Command::Create(name) => said(self.create(world, name)),
-            Command::Begin => said(self.begin(world)),
-            Command::Put(name, key, value) => said(self.put(world, name, *key, value)),
-            Command::Del(name, key) => said(self.del(world, name, *key)),
-            Command::Get(name, key) => said(self.get(world, name, *key)),
+            Command::Create(name) => self.create(world, name),
+            Command::Begin => self.begin(world),
+            Command::Put(name, key, value) => self.put(world, name, *key, value),
+            Command::Del(name, key) => self.del(world, name, *key),
+            Command::Get(name, key) => self.get(world, name, *key),
             Command::Scan(name, from, to) => self.scan(world, name, *from, *to),
-            Command::Commit => said(self.commit(world)),
-            Command::Abort => said(self.abort(world)),
-            Command::Checkpoint => said(self.checkpoint(world)),
-            Command::Drain => said(self.drain(world)),
-            Command::Clean(frames) => said(self.clean(world, *frames)),
+            Command::Commit => self.commit(world),
+            Command::Abort => self.abort(world),
+            Command::Checkpoint => self.checkpoint(world),
+            Command::Drain => self.drain(world),
+            Command::Clean(frames) => self.clean(world, *frames),
         }
     }
 

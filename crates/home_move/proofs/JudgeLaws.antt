@@ -5,10 +5,10 @@ use Rattle.std.proofs.lemmas.List.{get_or-set_same, get_or-set_other}
 use Rattle.devices.specs.State.{State, current}
 use Rattle.devices.specs.World.{Standing, now}
 use Rattle.line_pages.specs.declared.stop.Stop.{Stop}
-use Rattle.line_pages.specs.declared.stop.Stop.TheVariants.{Nvm, Ssd, Damaged}
+use Rattle.line_pages.specs.declared.stop.Stop.TheVariants.{Nvm}
 use Rattle.std.specs.Prelude.{IfErr}
 use Rattle.std.specs.Result.{IsErrAnd}
-use Rattle.device_calls.specs.Stops.{IsFault, StopCause}
+use Rattle.device_calls.specs.Stops.{IsFault, StopCause, StopsWith}
 use Rattle.line_pages.specs.Pairs.{Pairs, with_pair, no_pairs}
 use Rattle.damage.specs.declared.evidence.Evidence.{Evidence}
 use Rattle.damage.specs.declared.evidence.Evidence.TheVariants as evidence
@@ -17,6 +17,7 @@ use Rattle.device_calls.proofs.LeadsLaws.{looked_none, looked_then, looked_ok, l
 use Rattle.store_model.specs.Recovered.{entry_at, any_below, table_check}
 use Rattle.store_model.specs.Checked.{TablePasses}
 use Rattle.home_laws.proofs.TableLaws.{table_passes, table_check-none}
+use Rattle.home_move.proofs.WriteLaws.{at_exit}
 use Rattle.home_move.specs.Table.{AreEntries, AreBelow, HasWord, SeenSo, EntriesSo, NamesTwice, IsTableEvidence, IsTableStop, TableCause}
 
 -- ---- the first check that fails
@@ -165,20 +166,18 @@ entries_more {a = a} {b = b} n words found so less looked reads value = record {
 
 -- ---- why it stops
 
-stop_of : (a b : Standing) (why : Stop) → IsFault a b why → IsTableStop a b why
-stop_of a b Nvm h = h
-stop_of a b Ssd h = h
-stop_of a b (Damaged kept) h = absurd h
+stop_of : (a b : Standing) (why : Stop) → IsFault a b why → why ≡ Nvm → IsTableStop a b why
+stop_of a b why fault nvm = subst (IsTableStop a b) (sym nvm) (subst (λ (y : Stop). IsFault a b y) nvm fault)
 
-failed_of : {T : Type 0} (a b : Standing) (r : Result T Stop) → IfErr r (IsFault a b) → IfErr r (IsTableStop a b)
-failed_of a b (Ok v) h = tt
-failed_of a b (Err why) h = stop_of a b why h
+failed_of : {T : Type 0} (a b : Standing) (r : Result T Stop) → IfErr r (IsFault a b) → StopsWith Nvm r → IfErr r (IsTableStop a b)
+failed_of a b (Ok v) fault nvm = tt
+failed_of a b (Err why) fault nvm = stop_of a b why fault nvm
 
-pub table_cause : {T : Type 0} {a b : Standing} {r : Result T Stop} → StopCause a b r → TableCause a b r
-table_cause {a = a} {b = b} {r = r} cause = record { failed = failed_of a b r cause.failed; nvm = cause.nvm; ssd = cause.ssd }
+table_cause : {T : Type 0} {a b : Standing} {r : Result T Stop} → StopCause a b r → StopsWith Nvm r → TableCause a b r
+table_cause {a = a} {b = b} {r = r} cause nvm = record { failed = failed_of a b r cause.failed nvm; nvm = cause.nvm; ssd = cause.ssd }
 
-pub exit_cause : {T U : Type 0} {why : Stop} {a b : Standing} (r : Result T Stop) → IsErrAnd r (λ y. y ≡ why) → Looked {T = U} a b (Err why) → TableCause a b r
-exit_cause r is looked = table_cause (looked_exit r is looked).cause
+pub exit_cause : {T U : Type 0} {why : Stop} {a b : Standing} (r : Result T Stop) → IsErrAnd r (λ y. y ≡ why) → Looked {T = U} a b (Err why) → why ≡ Nvm → TableCause a b r
+exit_cause {T = T} r is looked nvm = table_cause (looked_exit r is looked).cause (at_exit (StopsWith Nvm) r is nvm)
 
 -- ---- the table of the devices
 

@@ -1,5 +1,5 @@
 -- A change of a page's place keeps what a store keeps: the facts, what recovery gives, and all else.
-use Rattle.std.proofs.Common.{◌≡◌, ◌≢◌, ◌⊎◌, ℕ, ◌+◌, ◌-◌, ◌<◌, ◌≤◌, List, [], get_or, refl, sym, ap, ◌∙◌, subst, true, inl, inr, arith, eqb, ltb, IsTrue, Option, Some, None, Result, Ok, Err}
+use Rattle.std.proofs.Common.{◌≡◌, ◌≢◌, ◌⊎◌, ℕ, ◌+◌, ◌-◌, ◌<◌, ◌≤◌, List, [], get_or, refl, sym, ap, ◌∙◌, subst, true, inl, inr, arith, IsTrue, Option, Some, None, Result, Ok, Err}
 use Rattle.std.specs.Prelude.{OnOk}
 use Rattle.nvm_model.specs.declared.line.Line.{Line}
 use Rattle.nvm_model.proofs.ImageLaws.{line_of-word}
@@ -15,7 +15,7 @@ use Rattle.store_model.specs.StoreFacts.{Gate, Bookkeeping, IsWord, StoreFacts}
 use Rattle.store_model.specs.Append.{RecoversTo}
 use Rattle.store_model.specs.Install.{entry_calls, install_calls, release_calls, store_calls, CanInstall, CanStore}
 use Rattle.store_model.specs.Seen.{CanClear, CanGiveUp, changing_to}
-use Rattle.store_model.specs.Shown.{Placed, HomesFlushed}
+use Rattle.store_model.specs.Shown.{Placed}
 use Rattle.home_laws.proofs.FactsLaws.{current_leaves, facts_recover}
 use Rattle.home_laws.proofs.SeenLaws.{facts_super, facts_changing}
 use Rattle.home_laws.proofs.InstallFacts.{install_facts, install_done}
@@ -29,12 +29,17 @@ use Rattle.home_laws.proofs.PutLaws.{log_line-same, super_same, named_low, lines
 use Rattle.home_laws.proofs.RecoveredLaws.{from-same}
 use Rattle.home_laws.proofs.LayoutLaws.{frame_apart}
 use Rattle.devices.proofs.GrowthLaws.{Amid_end}
-use Rattle.std.proofs.lemmas.Bool.{eq-eqb, ne_eqb, lt-ltb, cond-true, cond-false}
+use Rattle.devices.specs.Growth.{no_write}
+use Rattle.devices.proofs.StateLaws.{line_stored_same, flushed_same}
+use Rattle.devices.proofs.DurableLaws.{line_stores}
 use Rattle.nvm_model.specs.Word.{Word, marked}
 use Rattle.home_laws.proofs.ReadyLaws.{give_up_ready, home_framed}
 use Rattle.home_move.specs.Frames.{page_lines, HoldsFrame}
-use Rattle.home_move.specs.Moves.{Releases, release_makes, KeepsPlaced, InstallKeeps, ReleaseKeeps, ClearKeeps, LinePlaced, StoreKeeps}
-use Rattle.home_move.proofs.FlushLaws.{install_flushed, release_flushed, clear_keeps_flushed}
+use Rattle.home_move.specs.Moves.{Releases, release_makes, KeepsPlaced, InstallKeeps, ReleaseKeeps, ClearKeeps, ShowsSame, LineStays, LinePlaced, StoreKeeps}
+use Rattle.home_move.specs.Homes.{AreFlushed}
+use Rattle.home_move.proofs.FlushLaws.{install_flushed, release_flushed, clear_flushed}
+use Rattle.home_move.proofs.ShowLaws.{ReadsOn, amid_on, install_shows, release_shows, clear_shows, shows_itself}
+use Rattle.line_pages.specs.Pairs.{Pairs}
 use Rattle.home_move.proofs.FrameLaws.{page_lines-at}
 
 -- what the state recovers to is committed, whatever the tail
@@ -79,7 +84,8 @@ recovers_still b c s t old still facts same_format same_sizes same before recove
 pub record Places (b : Bookkeeping) (k was is page : ℕ) (words : ℕ → ℕ → ℕ) (calls : List Call) (s : State) : Type 0 where
   pub moments : (mid : State) → Amid s calls mid → StoreFacts (changing_to b (Gate.frame k) was is b.committed) mid
   pub done : StoreFacts b (after_all calls s)
-  pub flushed : HomesFlushed b s → HomesFlushed b (after_all calls s)
+  pub flushed : (known : Pairs) → AreFlushed b.sizes known s → AreFlushed b.sizes known (after_all calls s)
+  pub shown : (mid : State) → Amid s calls mid → ShowsSame b.sizes s mid ⊎ Placed b.sizes s mid k is page words
   pub placed : Placed b.sizes s (after_all calls s) k is page words
 
 OnOk_map : {T E : Type 0} {P Q : Type 0} (r : Result T E) → (P → Q) → OnOk r P → OnOk r Q
@@ -94,6 +100,7 @@ keeps_placed {a = a} {d = d} {r = r} b k was is page words calls makes told fact
   recovers = λ before recovers. Moments-map (λ mid amid.
       recovers_still b (changing_to (committed_now b (now a)) (Gate.frame k) was is (λ n. b.committed (super_of (current (now a))).tail)) (now a) mid facts still (recovering.moments mid amid) refl refl
       (λ n p l w. refl) before recovers) (makes.part told);
+  shown = Moments-map places.shown (makes.part told);
   facts = OnOk_map r (λ same. subst (λ (s : State). StoreFacts b s) (sym same) places.done) (makes.whole told);
   placed = OnOk_map r (λ same. subst (λ (s : State). Placed b.sizes (now a) s k is page words) (sym same) places.placed) (makes.whole told);
 }
@@ -120,8 +127,12 @@ install_places b s facts still k page bytes can = record {
   moments = install_facts b s facts still k page (page_lines bytes) can;
   done = install_done b s facts still k page (page_lines bytes) can;
   flushed = install_flushed b s facts still k page (page_lines bytes) can;
-  placed = placed_words b.sizes s _ k (page + 1) page _ (block_word bytes) (λ l w word. page_words bytes l w word.line word.word) (install_placed b s facts still k page (page_lines bytes) can);
+  shown = install_shows b s facts still k page (page_lines bytes) can (block_word bytes) placed;
+  placed = placed;
 }
+  where
+    placed : Placed b.sizes s (after_all (install_calls b.sizes k page (page_lines bytes)) s) k (page + 1) page (block_word bytes)
+    placed = placed_words b.sizes s _ k (page + 1) page _ (block_word bytes) (λ l w word. page_words bytes l w word.line word.word) (install_placed b s facts still k page (page_lines bytes) can)
 
 pub install_keeps : {T : Type 0} {a d : Standing} {r : Result T Stop} (g : Sizes) (k page : ℕ) (bytes : List ℕ) → Made (install_calls g k page (page_lines bytes)) a d r → InstallKeeps g k page bytes a d r
 install_keeps {a = a} {d = d} {r = r} g k page bytes made told b sized facts still can =
@@ -140,11 +151,14 @@ pub release_places : (b : Bookkeeping) (s : State) → StoreFacts b s → b.chan
     → Places b k (page + 1) 0 page (home (current s) page) (release_calls b.sizes k page bytes) s
 release_places b s facts still k page bytes framed named holds =
     let can : CanGiveUp b s k page bytes = give_up_ready b s facts still k page bytes framed named (λ l w word h. frame_words b s facts k page bytes framed named holds l w word.line word.word) in
+    let placed : Placed b.sizes s (after_all (release_calls b.sizes k page bytes) s) k 0 page (home (current s) page) =
+    placed_words b.sizes s _ k 0 page (block_word bytes) (home (current s) page) (λ l w word. frame_words b s facts k page bytes framed named holds l w word.line word.word) (release_placed b s facts still k page bytes can) in
     record {
       moments = give_up_facts b s facts still k page bytes can;
       done = give_up_done b s facts still k page bytes can;
       flushed = release_flushed b s facts still k page bytes can;
-      placed = placed_words b.sizes s _ k 0 page (block_word bytes) (home (current s) page) (λ l w word. frame_words b s facts k page bytes framed named holds l w word.line word.word) (release_placed b s facts still k page bytes can);
+      shown = release_shows b s facts still k page bytes can (home (current s) page) placed;
+      placed = placed;
     }
 
 never_ok : {T E : Type 0} (r : Result T E) → OnOk r ⊥ → (P : Type 0) → OnOk r P
@@ -158,6 +172,7 @@ unread_keeps {a = a} {d = d} b k was is page words makes failed told facts still
   moments = Moments-map (λ mid same. subst (λ (s : State). StoreFacts (changing_to b (Gate.frame k) was is b.committed) s) (sym same)
       (facts_changing b (now a) facts still (Gate.frame k) framed was is named b.committed (λ p l w. refl))) (makes.part told);
   recovers = λ before recovers. Moments-map (λ mid same. subst (λ (s : State). RecoversTo b.format s before) (sym same) recovers) (makes.part told);
+  shown = Moments-map (λ mid same. inl (subst (λ (s : State). ShowsSame b.sizes (now a) s) (sym same) (shows_itself b.sizes (now a)))) (makes.part told);
   facts = failed _;
   placed = failed _;
 }
@@ -185,7 +200,8 @@ clear_places : (b : Bookkeeping) (s : State) → StoreFacts b s → b.changing �
 clear_places b s facts still k page can = record {
   moments = release_clean_facts b s facts still k page can;
   done = release_clean_done b s facts still k page can;
-  flushed = clear_keeps_flushed b s facts still k page can;
+  flushed = clear_flushed b s facts still k page can;
+  shown = clear_shows b.sizes s k page _ (clear_placed b s facts still k page can);
   placed = clear_placed b s facts still k page can;
 }
 
@@ -199,25 +215,11 @@ clear_keeps {a = a} {d = d} {r = r} g k page made told b sized facts still can =
 
 -- ---- a line that is stored in place
 
-module _ (b : Bookkeeping) (s : State) (facts : StoreFacts b s) (k page line : ℕ) (value : Line) (can : CanStore b.format s k page line value) where
+-- a state that reads as before outside of a line of a frame that has the page
+module _ (b : Bookkeeping) (s : State) (facts : StoreFacts b s) (k page line : ℕ) (value : Line) (can : CanStore b.format s k page line value) (t : State)
+    (elsewhere : (l w : ℕ) → l ≢ frame_line (super_of (current s)).sizes k line → (current t).nvm l w ≡ (current s).nvm l w) (blocks : (n : ℕ) → (current t).ssd n ≡ (current s).ssd n) where
   abbrev g : Sizes
   g = (super_of (current s)).sizes
-
-  abbrev t : State
-  t = after_all (store_calls g k line value) s
-
-  same_sizes : g ≡ b.sizes
-  same_sizes = facts.sizes (current s) (current_leaves s)
-
-  elsewhere : (l w : ℕ) → l ≢ frame_line g k line → (current t).nvm l w ≡ (current s).nvm l w
-  elsewhere l w other =
-      ap (λ (x : Word). x.newest) (cond-false (eqb l (frame_line g k line)) _ ((line_stored (frame_line g k line) value s).nvm l w) (ne_eqb l (frame_line g k line) other)
-      ∙ cond-false (eqb l (frame_line g k line)) _ (s.nvm l w) (ne_eqb l (frame_line g k line) other))
-
-  stored_here : (w : ℕ) → w < 8 → (current t).nvm (frame_line g k line) w ≡ word_in value w
-  stored_here w hw = ap (λ (x : Word). x.newest) (cond-true (eqb (frame_line g k line) (frame_line g k line)) _ ((line_stored (frame_line g k line) value s).nvm (frame_line g k line) w) (eq-eqb (frame_line g k line) (frame_line g k line) refl))
-      ∙ ap (λ (x : Word). (marked x).newest) (cond-true (eqb (frame_line g k line) (frame_line g k line)) _ (s.nvm (frame_line g k line) w) (eq-eqb (frame_line g k line) (frame_line g k line) refl)
-      ∙ cond-true (ltb w 8) _ (s.nvm (frame_line g k line) w) (lt-ltb w 8 hw))
 
   stored_super : super_of (current t) ≡ super_of (current s)
   stored_super = super_same (current t) (current s) (λ l w named. elsewhere l w (λ at. let four : l < 4 = named_low l w named in omega arith))
@@ -230,30 +232,61 @@ module _ (b : Bookkeeping) (s : State) (facts : StoreFacts b s) (k page line : �
       let positive : 0 < g.log_blocks = (can.can).ring in
       ap (λ (x : Super). lines_by x (current t)) stored_super
       ∙ from-same _ _ (super_of (current s)).start ((super_of (current s)).tail - (super_of (current s)).start) (λ o above below. log_line-same g (super_of (current s)).drained (current t) (current s) o
-      (λ drained w hw. elsewhere (ring_line g o) w (λ at. omega arith)) (λ n. refl))
+      (λ drained w hw. elsewhere (ring_line g o) w (λ at. omega arith)) blocks)
 
   stored_other : (p l w : ℕ) → (p ≢ page) ⊎ (l ≢ line) → IsWord g p l w → home (current t) p l w ≡ home (current s) p l w
   stored_other p l w apart word = home_kept g (current t) (current s) (ap (λ (x : Super). x.sizes) stored_super) refl stored_entry p l w
       (λ n h named. elsewhere (frame_line g n l) w (λ at. away n named (frame_apart g n k l line word.line can.in_page at)))
-      (λ none. refl)
+      (λ none. blocks (page_block g p))
     where
       away : (n : ℕ) → entry_at (current s) n ≡ p + 1 → (n ≡ k) × (l ≡ line) → ⊥
       away n named same =
           let at_k : entry_at (current s) n ≡ page + 1 = ap (entry_at (current s)) same.0 ∙ can.named in
           elim apart [ inl page_apart ↦ page_apart (omega arith) | inr line_apart ↦ line_apart same.1 ]
 
-  pub stored_line : LinePlaced b.sizes s (after_all (store_calls b.sizes k line value) s) page line value
-  stored_line = subst (λ (x : Sizes). LinePlaced x s (after_all (store_calls x k line value) s) page line value) same_sizes (record {
-    super_words = stored_super;
-    log = stored_log;
-    entries = stored_entry;
-    here = λ w hw.
-        let after : StoreFacts b t = store_facts b s facts k page line value can b.current (λ i left p l w word h. refl) t (Amid_end (store_calls g k line value) s) in
-        let framed : k ≤ b.sizes.frames = subst (λ (x : Sizes). k ≤ x.frames) same_sizes can.frame in
-        home_framed b t after k page line w framed (stored_entry k can.frame ∙ can.named)
-        ∙ ap (λ (x : Sizes). (current t).nvm (frame_line x k line) w) (sym same_sizes) ∙ stored_here w hw;
-    others = stored_other;
-  })
+  line_stays : LineStays b.sizes s t page line
+  line_stays = subst (λ (x : Sizes). LineStays x s t page line) (facts.sizes (current s) (current_leaves s))
+      (record { super_words = stored_super; log = stored_log; entries = stored_entry; others = stored_other })
+
+-- so it is at each moment of a store in place
+pub store_stays : (b : Bookkeeping) (s : State) (facts : StoreFacts b s) (k page line : ℕ) (value : Line) (can : CanStore b.format s k page line value)
+    → (mid : State) → Amid s (store_calls b.sizes k line value) mid → LineStays b.sizes s mid page line
+store_stays b s facts k page line value can mid amid =
+    let sized : (super_of (current s)).sizes ≡ b.sizes = facts.sizes (current s) (current_leaves s) in
+    let on : ReadsOn (line_stores (frame_line b.sizes k line) value) no_write s mid =
+    amid_on (line_stores (frame_line b.sizes k line) value) no_write (store_calls b.sizes k line value) s mid ((λ w hw. (refl, hw, refl)), (tt, tt)) amid in
+    line_stays b s facts k page line value can mid (λ l w apart. on.words l w (λ v st. apart (st.0 ∙ ap (λ (x : Sizes). frame_line x k line) (sym sized)))) (λ n. on.bytes n (λ written. written))
+
+-- and in the end the line is this one
+pub stored_line : (b : Bookkeeping) (s : State) (facts : StoreFacts b s) (k page line : ℕ) (value : Line) (can : CanStore b.format s k page line value)
+    → LinePlaced b.sizes s (after_all (store_calls b.sizes k line value) s) page line value
+stored_line b s facts k page line value can = record {
+  super_words = stays.super_words;
+  log = stays.log;
+  entries = stays.entries;
+  here = λ w hw. home_framed b t after k page line w framed (stays.entries k framed ∙ can.named) ∙ stored_here w hw;
+  others = stays.others;
+}
+  where
+    t : State
+    t = after_all (store_calls b.sizes k line value) s
+
+    sized : (super_of (current s)).sizes ≡ b.sizes
+    sized = facts.sizes (current s) (current_leaves s)
+
+    framed : k ≤ b.sizes.frames
+    framed = subst (λ (x : Sizes). k ≤ x.frames) sized can.frame
+
+    stays : LineStays b.sizes s t page line
+    stays = store_stays b s facts k page line value can t (Amid_end (store_calls b.sizes k line value) s)
+
+    after : StoreFacts b t
+    after = subst (λ (x : Sizes). StoreFacts b (after_all (store_calls x k line value) s)) sized
+        (store_facts b s facts k page line value can b.current (λ i left p l w word h. refl) _ (Amid_end (store_calls (super_of (current s)).sizes k line value) s))
+
+    stored_here : (w : ℕ) → w < 8 → (current t).nvm (frame_line b.sizes k line) w ≡ word_in value w
+    stored_here w hw = ap (λ (x : Word). x.newest) (flushed_same (frame_line b.sizes k line) (line_stored (frame_line b.sizes k line) value s) w)
+        ∙ ap (λ (x : Word). (marked x).newest) (line_stored_same (frame_line b.sizes k line) value s w hw)
 
 pub store_keeps : {T : Type 0} {a d : Standing} {r : Result T Stop} (g : Sizes) (k page line : ℕ) (value : Line) → Made (store_calls g k line value) a d r → StoreKeeps g k page line value a d r
 store_keeps {a = a} {d = d} {r = r} g k page line value made told b sized facts still can =
@@ -263,5 +296,6 @@ store_keeps {a = a} {d = d} {r = r} g k page line value made told b sized facts 
     record {
       moments = λ words unwritten. Moments-map (λ mid amid. store_facts b (now a) facts k page line value can words unwritten mid amid) (makes.part told);
       recovers = λ before recovers. Moments-map (λ mid amid. RecoverLaws.store_keeps b.format (now a) k page line value can before recovers mid amid) (makes.part told);
+      stays = Moments-map (store_stays b (now a) facts k page line value can) (makes_b.part told);
       placed = OnOk_map r (λ same. subst (λ (s : State). LinePlaced b.sizes (now a) s page line value) (sym same) (stored_line b (now a) facts k page line value can)) (makes_b.whole told);
     }

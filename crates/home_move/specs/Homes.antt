@@ -1,18 +1,18 @@
 -- What a run of writes to homes knows and keeps: where the words of each page are, and what recovery gives.
 use Rattle.std.specs.Int.{bit_at}
-use Rattle.std.specs.Prelude.{◌≡◌, ◌≢◌, ℕ, true, false, ◌+◌, ◌<◌, List, [], Option, Some, None}
+use Rattle.std.specs.Prelude.{◌≡◌, ◌≢◌, ℕ, true, false, ◌+◌, ◌<◌, ◌≤◌, List, [], ◌∷◌, ◌++◌, Option, Some, None, IsTrue}
 use Rattle.nvm_model.specs.declared.line.Line.{Line}
 use Rattle.devices.specs.State.{State, current}
-use Rattle.store_model.specs.Layout.{Sizes}
-use Rattle.store_model.specs.Log.{Words, Change, Log, no_log, grouped, is_logged}
+use Rattle.line_pages.specs.Pairs.{Pairs, no_pairs, with_pair}
+use Rattle.store_model.specs.Layout.{Sizes, pages, frame_line, page_block}
+use Rattle.store_model.specs.Log.{Words, Change, Group, Log, no_log, grouped, is_logged, changes}
 use Rattle.store_model.specs.Format.{Format, entries, word_in}
 use Rattle.store_model.specs.Recovered.{Super, super_of, entry_at, home, log_lines}
 use Rattle.store_model.specs.StoreFacts.{Changing, Bookkeeping, IsWord, StoreFacts}
 use Rattle.store_model.specs.Copies.{with_line}
-use Rattle.store_model.specs.Shown.{HomesFlushed}
 
 -- The plain data of such a run: the superblock and the log, the entries of the frames that keep pages, the words of all
--- homes, and the words that recovery gives.
+-- homes, the lines whose homes are known to be flushed or settled, and the words that recovery gives.
 pub record Aim : Type 0 where
   pub format : Format
   pub sizes : Sizes
@@ -20,6 +20,7 @@ pub record Aim : Type 0 where
   pub log : List Line
   pub entry : ℕ → ℕ
   pub words : Words
+  pub known : Pairs
   pub kept : Words
 
 -- what a store keeps then: no copy, nothing pending
@@ -35,18 +36,35 @@ keeping aim = record {
 }
 
 -- At a moment of the run the facts hold, with some gate being changed or none: each image is a store that recovers to the
--- kept words.
+-- kept words. The superblock, the log and the entries of the frames that keep pages are those of the aim.
 pub record Keeps (aim : Aim) (s : State) : Type 0 where
   pub changing : Option Changing
   pub facts : StoreFacts (record (keeping aim) { changing = changing }) s
+  pub super_words : super_of (current s) ≡ aim.gates
+  pub log : log_lines (current s) ≡ aim.log
+  pub entries : (k : ℕ) → k < aim.sizes.frames → entry_at (current s) k ≡ aim.entry k
+
+-- And the homes have the words of the aim, but for these lines.
+pub record KeepsBut (but : Pairs) (aim : Aim) (s : State) : Type 0 where
+  pub keeps : Keeps aim s
+  pub words : (p l w : ℕ) → IsWord aim.sizes p l w → but p l ≡ false → home (current s) p l w ≡ aim.words p l w
+
+-- this line alone
+abbrev pub only_pair : ℕ → ℕ → Pairs
+only_pair page line = with_pair page line no_pairs
 
 -- the entry of the frame through which pages pass
 abbrev pub entry_of : Option ℕ → ℕ
 entry_of None = 0
 entry_of (Some page) = page + 1
 
+-- A fence makes the homes of these lines durable: each word is flushed where a frame has the page, and else its block is settled.
+pub record AreFlushed (g : Sizes) (known : Pairs) (s : State) : Type 0 where
+  pub frames : (k p l w : ℕ) → k ≤ g.frames → entry_at (current s) k ≡ p + 1 → known p l ≡ true → l < 64 → w < 8 → (s.nvm (frame_line g k l) w).kept ≡ 0
+  pub blocks : (p l : ℕ) → p < pages g → known p l ≡ true → l < 64 → ((k : ℕ) → k ≤ g.frames → entry_at (current s) k ≢ p + 1) → IsTrue (s.ssd (page_block g p)).settled
+
 -- Between two writes: the superblock and the log are those of the aim, this page is in the frame through which pages pass,
--- the homes have the words of the aim, and a fence makes all of them durable.
+-- the homes have the words of the aim, and a fence makes those of the known lines durable.
 pub record Homes (g : Sizes) (passing : Option ℕ) (aim : Aim) (s : State) : Type 0 where
   pub sizes : aim.sizes ≡ g
   pub facts : StoreFacts (keeping aim) s
@@ -55,7 +73,7 @@ pub record Homes (g : Sizes) (passing : Option ℕ) (aim : Aim) (s : State) : Ty
   pub entries : (k : ℕ) → k < g.frames → entry_at (current s) k ≡ aim.entry k
   pub passes : entry_at (current s) g.frames ≡ entry_of passing
   pub words : (p l w : ℕ) → IsWord g p l w → home (current s) p l w ≡ aim.words p l w
-  pub flushed : HomesFlushed (keeping aim) s
+  pub flushed : AreFlushed g aim.known s
 
 -- the page has this frame, or none of those that keep pages
 abbrev pub IsKeptIn : Sizes → ℕ → Option ℕ → Aim → Type 0
@@ -71,13 +89,13 @@ pub record CanWrite (g : Sizes) (page line : ℕ) (kept_in : Option ℕ) (value 
   pub place : IsKeptIn g page kept_in aim
   pub logged : IsLoggedLine page line value aim
 
--- one line is this one
+-- one line is this one, and is flushed
 abbrev pub aim_with : ℕ → ℕ → Line → Aim → Aim
-aim_with page line value aim = record aim { words = with_line aim.words page line value }
+aim_with page line value aim = record aim { words = with_line aim.words page line value; known = with_pair page line aim.known }
 
--- the words of all homes are changed so
-abbrev pub over : (Words → Words) → Aim → Aim
-over change aim = record aim { words = change aim.words }
+-- the words of all homes are changed so, and these lines are known besides
+abbrev pub over : (Words → Words) → (Pairs → Pairs) → Aim → Aim
+over change more aim = record aim { words = change aim.words; known = more aim.known }
 
 -- the log that is replayed
 abbrev pub log_in : Aim → Log
@@ -91,3 +109,29 @@ pub record CanReplay (g : Sizes) (page line : ℕ) (kept_in : Option ℕ) (aim :
 -- the record names each word of its line
 pub record NamesWholeLine (change : Change) : Type 0 where
   pub each : (w : ℕ) → w < 8 → bit_at change.mask w ≡ 1
+
+-- these lines and those of the records
+abbrev pub knowing : List Change → Pairs → Pairs
+knowing [] known = known
+knowing (change ∷ changes) known = with_pair change.page change.line (knowing changes known)
+
+-- all records of a log
+abbrev pub records_of : List Group → List Change
+records_of [] = []
+records_of (group ∷ groups) = changes group.items ++ records_of groups
+
+abbrev pub all_records : Log → List Change
+all_records log = records_of log.closed ++ changes log.open_items
+
+-- All lines that the log names are known.
+abbrev pub KnowsLogged : Aim → Type 0
+KnowsLogged aim = (p l w : ℕ) → IsWord aim.sizes p l w → is_logged (log_in aim) p l w ≡ true → aim.known p l ≡ true
+
+-- What a recovery leaves: the facts hold, the log is empty, and each home is the word that recovery gave; the frame table is as it was.
+pub record IsRecovered (g : Sizes) (passing : Option ℕ) (aim : Aim) (s : State) : Type 0 where
+  pub facts : StoreFacts (keeping aim) s
+  pub super_words : super_of (current s) ≡ record aim.gates { start = aim.gates.tail }
+  pub log : log_lines (current s) ≡ []
+  pub entries : (k : ℕ) → k < g.frames → entry_at (current s) k ≡ aim.entry k
+  pub passes : entry_at (current s) g.frames ≡ entry_of passing
+  pub homes : (p l w : ℕ) → IsWord g p l w → home (current s) p l w ≡ aim.kept p l w

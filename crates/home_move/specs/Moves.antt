@@ -29,12 +29,20 @@ pub record Releases {T : Type 0} (g : Sizes) (k page : ℕ) (write : Bool) (old 
   pub holds : IsTrue old.told → (bytes : List ℕ) → loaded ≡ Some bytes → HoldsFrame g k bytes (now old)
   pub whole : OnOk result (IsTrue write → loaded ≢ None)
 
+-- Loads and reads give what they gave of the superblock, the log, the frame table and all homes.
+pub record ShowsSame (g : Sizes) (old new : State) : Type 0 where
+  pub super_words : super_of (current new) ≡ super_of (current old)
+  pub log : log_lines (current new) ≡ log_lines (current old)
+  pub entries : (n : ℕ) → n ≤ g.frames → entry_at (current new) n ≡ entry_at (current old) n
+  pub homes : (p l w : ℕ) → IsWord g p l w → home (current new) p l w ≡ home (current old) p l w
+
 -- At each moment of a call the facts hold with the entry of a frame being changed, and each image recovers to the words that
--- the images before it recover to; where it answers ok the facts hold with no gate being changed, the frame has the new
--- entry, the page has these words, and all else is as it was.
+-- the images before it recover to; all is shown as before, or the frame has the new entry, the page these words, and all else
+-- is as it was. Where it answers ok the facts hold with no gate being changed, and the latter is so.
 pub record KeepsPlaced {T : Type 0} (b : Bookkeeping) (k was is page : ℕ) (words : ℕ → ℕ → ℕ) (old new : Standing) (result : Result T Stop) : Type 0 where
   pub moments : Moments old new (StoreFacts (changing_to b (Gate.frame k) was is b.committed))
   pub recovers : (before : Words) → RecoversTo b.format (now old) before → Moments old new (λ s. RecoversTo b.format s before)
+  pub shown : Moments old new (λ s. ShowsSame b.sizes (now old) s ⊎ Placed b.sizes (now old) s k is page words)
   pub facts : OnOk result (StoreFacts b (now new))
   pub placed : OnOk result (Placed b.sizes (now old) (now new) k is page words)
 
@@ -56,7 +64,14 @@ ClearKeeps g k page old new result =
     IsTrue old.told → (b : Bookkeeping) → b.sizes ≡ g → StoreFacts b (now old) → b.changing ≡ None → CanClear b (now old) k page
     → KeepsPlaced b k (page + 1) 0 page (block_word ((now old).ssd (page_block g page)).bytes) old new result
 
--- One line of a page is this one; the superblock, the log, the frame table and every other line are as they were.
+-- The superblock, the log, the frame table and every line but this one are as they were.
+pub record LineStays (g : Sizes) (old new : State) (page line : ℕ) : Type 0 where
+  pub super_words : super_of (current new) ≡ super_of (current old)
+  pub log : log_lines (current new) ≡ log_lines (current old)
+  pub entries : (n : ℕ) → n ≤ g.frames → entry_at (current new) n ≡ entry_at (current old) n
+  pub others : (p l w : ℕ) → (p ≢ page) ⊎ (l ≢ line) → IsWord g p l w → home (current new) p l w ≡ home (current old) p l w
+
+-- So they are, and this line of a page is this one.
 pub record LinePlaced (g : Sizes) (old new : State) (page line : ℕ) (value : Line) : Type 0 where
   pub super_words : super_of (current new) ≡ super_of (current old)
   pub log : log_lines (current new) ≡ log_lines (current old)
@@ -68,11 +83,12 @@ pub record LinePlaced (g : Sizes) (old new : State) (page line : ℕ) (value : L
 abbrev pub AgreesUnwritten : Bookkeeping → State → Words → Type 0
 AgreesUnwritten b s words = (i : Image) → Leaves s i → (p l w : ℕ) → IsWord b.sizes p l w → is_written b i p l w ≡ false → b.current p l w ≡ words p l w
 
--- At each moment of a store in place the facts hold, with any current words that agree where nothing was written, and each
--- image recovers to what those before it recover to; where it answers ok the line is this one.
+-- At each moment of a store in place the facts hold, with any current words that agree where nothing was written, each image
+-- recovers to what those before it recover to, and all but the line is as it was; where it answers ok the line is this one.
 pub record KeepsLine {T : Type 0} (b : Bookkeeping) (page line : ℕ) (value : Line) (old new : Standing) (result : Result T Stop) : Type 0 where
   pub moments : (words : Words) → AgreesUnwritten b (now old) words → Moments old new (StoreFacts (record b { current = words }))
   pub recovers : (before : Words) → RecoversTo b.format (now old) before → Moments old new (λ s. RecoversTo b.format s before)
+  pub stays : Moments old new (λ s. LineStays b.sizes (now old) s page line)
   pub placed : OnOk result (LinePlaced b.sizes (now old) (now new) page line value)
 
 -- So a store in place keeps, where it can be made.

@@ -1,7 +1,9 @@
 -- The frame through which pages pass.
-use Rattle.std.specs.Prelude.{◌≡◌, ◌≢◌, ◌⊎◌, ℕ, ◌<◌, ◌≤◌, Option, Some, None, IfSome, Result, OnOk}
+use Rattle.std.specs.Prelude.{◌≡◌, ◌≢◌, ◌⊎◌, ℕ, ◌+◌, ◌<◌, ◌≤◌, ◌==◌, if◌then◌else◌, List, [], ◌∷◌, Option, Some, None, IfSome, Result, OnOk}
 use Rattle.nvm_model.specs.declared.line.Line.{Line}
-use Rattle.devices.specs.World.{Standing, Counts}
+use Rattle.devices.specs.State.{Call}
+use Rattle.devices.specs.State.Call.{store_word, store_line, flush, fence, write_block, sync}
+use Rattle.devices.specs.World.{Standing, Counts, MakesAll}
 use Rattle.line_pages.specs.declared.stop.Stop.{Stop}
 use Rattle.device_calls.specs.Leads.{Made}
 use Rattle.store_model.specs.Layout.{Sizes, pages, nvm_lines, ssd_blocks}
@@ -34,3 +36,40 @@ pub record StoresAlone {T : Type 0} (g : Sizes) (home : Option ℕ) (page : ℕ)
 -- Where the page comes in one block is read.
 abbrev pub ReadsWhereItComes : {T : Type 0} → Option ℕ → ℕ → Option ℕ → Standing → Standing → Result T Stop → Type 0
 ReadsWhereItComes home page there old new result = home ≡ None → there ≢ Some page → OnOk result (Counts old new)
+
+-- how many of these calls write a block, and how many settle the blocks
+abbrev pub block_writes : List Call → ℕ
+block_writes [] = 0
+block_writes (store_word line word value ∷ calls) = block_writes calls
+block_writes (store_line line value ∷ calls) = block_writes calls
+block_writes (flush line ∷ calls) = block_writes calls
+block_writes (fence ∷ calls) = block_writes calls
+block_writes (write_block block bytes ∷ calls) = 1 + block_writes calls
+block_writes (sync ∷ calls) = block_writes calls
+
+abbrev pub block_syncs : List Call → ℕ
+block_syncs [] = 0
+block_syncs (store_word line word value ∷ calls) = block_syncs calls
+block_syncs (store_line line value ∷ calls) = block_syncs calls
+block_syncs (flush line ∷ calls) = block_syncs calls
+block_syncs (fence ∷ calls) = block_syncs calls
+block_syncs (write_block block bytes ∷ calls) = block_syncs calls
+block_syncs (sync ∷ calls) = 1 + block_syncs calls
+
+-- The device calls, made up to the first that failed, write so many blocks and settle them as often.
+pub record WritesBlocks {T : Type 0} (n : ℕ) (old new : Standing) (result : Result T Stop) : Type 0 where
+  pub calls : List Call
+  pub makes : MakesAll calls old new result
+  pub writes : block_writes calls ≡ n
+  pub syncs : block_syncs calls ≡ n
+
+-- how many pages leave the frame as a passage ends, and as a line of a page is written: one where another page is there and
+-- this one has to come
+abbrev pub leaving : Option ℕ → ℕ
+leaving None = 0
+leaving (Some there) = 1
+
+abbrev pub leaving_for : Option ℕ → ℕ → Option ℕ → ℕ
+leaving_for (Some frame) page there = 0
+leaving_for None page None = 0
+leaving_for None page (Some there) = if there == page then 0 else 1

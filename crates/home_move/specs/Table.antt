@@ -43,13 +43,13 @@ IsJudged p n entry (Err kept) = IsTableEvidence p n entry kept
 abbrev pub IsTableAnswer : {T : Type 0} → ℕ → ℕ → (ℕ → ℕ) → Result T Stop → Type 0
 IsTableAnswer p n entry (Ok v) = table_check p n entry ≡ None
 IsTableAnswer p n entry (Err Nvm) = Unit {0}
-IsTableAnswer p n entry (Err Ssd) = Unit {0}
+IsTableAnswer p n entry (Err Ssd) = ⊥
 IsTableAnswer p n entry (Err (Damaged kept)) = IsTableEvidence p n entry kept
 
--- `Nvm` and `Ssd` come only where that count rose, and damage where no fault was counted.
+-- `Nvm` comes only where that count rose, `Ssd` never, and damage where no fault was counted.
 abbrev pub IsTableStop : Standing → Standing → Stop → Type 0
 IsTableStop a b Nvm = Rose a.nvm_faults b.nvm_faults
-IsTableStop a b Ssd = Rose a.ssd_faults b.ssd_faults
+IsTableStop a b Ssd = ⊥
 IsTableStop a b (Damaged kept) = (b.nvm_faults ≡ a.nvm_faults) × (b.ssd_faults ≡ a.ssd_faults)
 
 pub record TableCause {T : Type 0} (a b : Standing) (result : Result T Stop) : Type 0 where

@@ -3,6 +3,8 @@ ghost use Rattle.std.specs.Prelude.{◌≡◌, ◌<◌, ◌≤◌, ℕ, IsTrue, 
 ghost use Rattle.devices.specs.State.{line_at};
 ghost use Rattle.devices.specs.World.{Counts, now};
 ghost use Rattle.device_calls.specs.Leads.{Made, Looked};
+ghost use Rattle.device_calls.specs.Stops.{StopsWith};
+ghost use Rattle.line_pages.specs.declared.stop.Stop.TheVariants.{Nvm, Ssd};
 ghost use Rattle.store_model.specs.Layout.{pages, nvm_lines, ssd_blocks, frame_line, page_block};
 ghost use Rattle.store_model.specs.Install.{store_calls, frame_calls};
 ghost use Rattle.nvm_layout.specs.Sizes.{sizes_of};
@@ -27,6 +29,7 @@ pub fn load_line<D: Devices>(
     requires frame { frame ≤ geometry.now.frames }
     requires line { line < 64 }
     ensures looked { Looked (D.standing dev.old) (D.standing dev.new) result }
+    ensures stops { StopsWith Nvm result }
     ensures reads { (D.standing dev.new).block_reads ≡ (D.standing dev.old).block_reads }
     ensures value { IsTrue (D.standing dev.old).told → IfOk result (λ found.
         found ≡ line_at (now (D.standing dev.old)) (frame_line (sizes_of geometry.now) frame line)) }
@@ -63,6 +66,7 @@ pub fn read_frame<D: Devices>(
     requires fits { nvm_lines (sizes_of geometry.now) ≤ (D.standing dev.old).lines }
     requires frame { frame ≤ geometry.now.frames }
     ensures looked { Looked (D.standing dev.old) (D.standing dev.new) result }
+    ensures stops { StopsWith Nvm result }
     ensures reads { (D.standing dev.new).block_reads ≡ (D.standing dev.old).block_reads }
     ensures value { IsTrue (D.standing dev.old).told
         → OnOk result (HoldsFrame (sizes_of geometry.now) frame into.new (now (D.standing dev.old))) }
@@ -84,6 +88,7 @@ pub fn read_home_block<D: Devices>(
     requires fits { ssd_blocks (sizes_of geometry.now) ≤ (D.standing dev.old).blocks }
     requires page { page < pages (sizes_of geometry.now) }
     ensures looked { Looked (D.standing dev.old) (D.standing dev.new) result }
+    ensures stops { StopsWith Ssd result }
     ensures reads { Counts (D.standing dev.old) (D.standing dev.new) }
     ensures value { IsTrue (D.standing dev.old).told → OnOk result
         (into.new ≡ ((now (D.standing dev.old)).ssd (page_block (sizes_of geometry.now) page)).bytes) }

@@ -1,13 +1,16 @@
 //! Lines that go to their homes, page by page, those of pages in no frame through the frame behind the others.
-ghost use Rattle.std.specs.Prelude.{◌≡◌, ◌≢◌, ◌<◌, ◌≤◌, ℕ, Option, Some, None, IfSome, OnOk, IsOk};
+ghost use Rattle.std.specs.Prelude.{◌≡◌, ◌≢◌, ◌<◌, ◌≤◌, ℕ, true, Option, Some, None, IfSome, OnOk, IsOk};
 ghost use Rattle.devices.specs.State.{State};
 ghost use Rattle.devices.specs.World.{Counts};
 ghost use Rattle.device_calls.specs.Leads.{Leads, Given};
 ghost use Rattle.store_model.specs.Layout.{pages, nvm_lines, ssd_blocks};
 ghost use Rattle.nvm_layout.specs.Sizes.{sizes_of};
-ghost use Rattle.home_move.specs.Homes.{Aim, Keeps, Homes, CanWrite, IsKeptIn, aim_with};
+ghost use Rattle.line_pages.specs.Pairs.{no_pairs};
+ghost use Rattle.home_move.specs.Homes.{Aim, KeepsBut, Homes, CanWrite, IsKeptIn, aim_with, only_pair};
 ghost use Rattle.home_move.specs.Passing.{FitsStore, IsPassing, ReadsOneAtMost, ReadsWhereItComes};
-ghost use Rattle.home_move.specs.Passing.{StoresAlone, passing_behind};
+ghost use Rattle.home_move.specs.Passing.{StoresAlone, passing_behind, WritesBlocks};
+ghost use Rattle.home_move.specs.Passing.{leaving, leaving_for};
+ghost use Rattle.home_move.specs.Moves.{Releases};
 
 use crate::frames::{read_home_block, store_line};
 use crate::moving::{install, release};
@@ -57,7 +60,7 @@ pub fn write_home<D: Devices>(
     requires page { page < pages (sizes_of geometry.now) }
     requires line { line < 64 }
     requires passing { IsPassing (sizes_of geometry.now) passage.old.page }
-    ensures call { Leads Keeps
+    ensures call { Leads (KeepsBut (only_pair page line))
         (Given (CanWrite (sizes_of geometry.now) page line home value.now)
         (Homes (sizes_of geometry.now) passage.old.page))
         (λ (aim : Aim). Homes (sizes_of geometry.now) passage.new.page
@@ -69,6 +72,8 @@ pub fn write_home<D: Devices>(
     ensures behind { OnOk result (passage.new.page ≡ passing_behind home page passage.old.page) }
     ensures reads { ReadsOneAtMost (D.standing dev.old) (D.standing dev.new) }
     ensures comes { ReadsWhereItComes home page passage.old.page
+        (D.standing dev.old) (D.standing dev.new) result }
+    ensures writes { WritesBlocks (leaving_for home page passage.old.page)
         (D.standing dev.old) (D.standing dev.new) result }
 {
     match home {
@@ -88,10 +93,16 @@ pub fn end_passage<D: Devices>(
 ) -> Result<(), Stop>
     requires fits { FitsStore (sizes_of geometry.now) (D.standing dev.old) }
     requires passing { IsPassing (sizes_of geometry.now) passage.old.page }
-    ensures call { Leads Keeps (Homes (sizes_of geometry.now) passage.old.page)
+    ensures call { Leads (KeepsBut no_pairs) (Homes (sizes_of geometry.now) passage.old.page)
         (Homes (sizes_of geometry.now) None) (D.standing dev.old) (D.standing dev.new) result }
     ensures ended { OnOk result (passage.new.page ≡ None) }
+    ensures releases { IfSome passage.old.page (λ page.
+        Releases (sizes_of geometry.now) geometry.now.frames page true
+        (D.standing dev.old) (D.standing dev.new) result) }
+    ensures nothing { passage.old.page ≡ None → (dev.new ≡ dev.old) × IsOk result }
     ensures reads { (D.standing dev.new).block_reads ≡ (D.standing dev.old).block_reads }
+    ensures writes { WritesBlocks (leaving passage.old.page)
+        (D.standing dev.old) (D.standing dev.new) result }
 {
     match passage.page {
         Some(page) => {
@@ -113,7 +124,7 @@ fn pass_page<D: Devices>(
     requires fits { FitsStore (sizes_of geometry.now) (D.standing dev.old) }
     requires page { page < pages (sizes_of geometry.now) }
     requires passing { IsPassing (sizes_of geometry.now) passage.old.page }
-    ensures call { Leads Keeps
+    ensures call { Leads (KeepsBut no_pairs)
         (Given (IsKeptIn (sizes_of geometry.now) page None)
         (Homes (sizes_of geometry.now) passage.old.page))
         (Homes (sizes_of geometry.now) (Some page))
@@ -123,6 +134,8 @@ fn pass_page<D: Devices>(
     ensures reads { ReadsOneAtMost (D.standing dev.old) (D.standing dev.new) }
     ensures comes { passage.old.page ≢ Some page
         → OnOk result (Counts (D.standing dev.old) (D.standing dev.new)) }
+    ensures writes { WritesBlocks (leaving_for None page passage.old.page)
+        (D.standing dev.old) (D.standing dev.new) result }
 {
     if passage.page == Some(page) {
         return Ok(());
@@ -137,11 +150,12 @@ fn pass_page<D: Devices>(
 fn enter<D: Devices>(dev: &mut D, geometry: &Geometry, page: u64) -> Result<(), Stop>
     requires fits { FitsStore (sizes_of geometry.now) (D.standing dev.old) }
     requires page { page < pages (sizes_of geometry.now) }
-    ensures call { Leads Keeps
+    ensures call { Leads (KeepsBut no_pairs)
         (Given (IsKeptIn (sizes_of geometry.now) page None) (Homes (sizes_of geometry.now) None))
         (Homes (sizes_of geometry.now) (Some page))
         (D.standing dev.old) (D.standing dev.new) result }
     ensures reads { Counts (D.standing dev.old) (D.standing dev.new) }
+    ensures writes { WritesBlocks 0 (D.standing dev.old) (D.standing dev.new) result }
 {
     let mut bytes = PageBuf::zero();
     read_home_block(dev, geometry, page, &mut bytes)?;
@@ -152,9 +166,12 @@ fn enter<D: Devices>(dev: &mut D, geometry: &Geometry, page: u64) -> Result<(), 
 fn leave<D: Devices>(dev: &mut D, geometry: &Geometry, page: u64) -> Result<(), Stop>
     requires fits { FitsStore (sizes_of geometry.now) (D.standing dev.old) }
     requires page { page < pages (sizes_of geometry.now) }
-    ensures call { Leads Keeps (Homes (sizes_of geometry.now) (Some page))
+    ensures call { Leads (KeepsBut no_pairs) (Homes (sizes_of geometry.now) (Some page))
         (Homes (sizes_of geometry.now) None) (D.standing dev.old) (D.standing dev.new) result }
+    ensures releases { Releases (sizes_of geometry.now) geometry.now.frames page true
+        (D.standing dev.old) (D.standing dev.new) result }
     ensures reads { (D.standing dev.new).block_reads ≡ (D.standing dev.old).block_reads }
+    ensures writes { WritesBlocks 1 (D.standing dev.old) (D.standing dev.new) result }
 {
     release(dev, geometry, geometry.frames, page, true)
 }

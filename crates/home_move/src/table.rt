@@ -3,6 +3,8 @@ ghost use Rattle.std.specs.Prelude.{◌≡◌, ◌≢◌, ◌<◌, ◌≤◌, �
 ghost use Rattle.devices.specs.State.{current};
 ghost use Rattle.devices.specs.World.{Goes, Stays, now};
 ghost use Rattle.device_calls.specs.Leads.{Looked};
+ghost use Rattle.device_calls.specs.Stops.{StopsWith};
+ghost use Rattle.line_pages.specs.declared.stop.Stop.TheVariants.{Nvm};
 ghost use Rattle.line_pages.specs.Pairs.{with_pair};
 ghost use Rattle.line_pages.specs.LineSets.{pairs_of, pages_of};
 ghost use Rattle.damage.specs.declared.evidence.Evidence.TheVariants as evidence;
@@ -61,6 +63,7 @@ fn load_entries<D: Devices>(
     requires fits { nvm_lines (sizes_of geometry.now) ≤ (D.standing dev.old).lines }
     requires size { length entries.old ≡ geometry.now.frames + 1 }
     ensures looked { Looked (D.standing dev.old) (D.standing dev.new) result }
+    ensures stops { StopsWith Nvm result }
     ensures reads { (D.standing dev.new).block_reads ≡ (D.standing dev.old).block_reads }
     ensures size { length entries.new ≡ length entries.old }
     ensures held { IsTrue (D.standing dev.old).told → OnOk result
@@ -78,6 +81,7 @@ fn load_entry<D: Devices>(dev: &mut D, geometry: &Geometry, frame: u32) -> Resul
     requires fits { nvm_lines (sizes_of geometry.now) ≤ (D.standing dev.old).lines }
     requires frame { frame ≤ geometry.now.frames }
     ensures looked { Looked (D.standing dev.old) (D.standing dev.new) result }
+    ensures stops { StopsWith Nvm result }
     ensures reads { (D.standing dev.new).block_reads ≡ (D.standing dev.old).block_reads }
     ensures value { IsTrue (D.standing dev.old).told
         → IfOk result (λ found. found ≡ entry_at (current (now (D.standing dev.old))) frame) }

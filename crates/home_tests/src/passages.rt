@@ -1,4 +1,9 @@
 //! Lines that go to their homes: pages that pass through the last frame, one block write for the lines of one page.
+ghost use Rattle.std.specs.Prelude.{◌≡◌, true, length};
+ghost use Rattle.nvm_layout.specs.Sizes.{sizes_of};
+ghost use Rattle.home_tests.specs.Replay.{IsInStore, AreInStore};
+
+use crate::replaying::{HomeLine, write_homes};
 use crate::worlds::{
     AFTER, CHOICES, Ended, entry, filled, fits, left, logged, page_of, put, same_lines, small,
     start,
@@ -6,6 +11,7 @@ use crate::worlds::{
 use devices::{Devices, MemWorld};
 use home_move::{Passage, end_passage, write_home};
 use line_pages::{page_line, set_page_line};
+use nvm_layout::Geometry;
 use nvm_model::{Choice, Line};
 use ssd_model::{BlockChoice, PageBuf};
 use std::alloc::Global;
@@ -95,6 +101,86 @@ fn lines_go_to_their_homes(rt: HostRuntime) -> Result<(), Fail> {
     )?;
     assert!(rt; entry(&mut after, &small(), 2)? == 0);
     written(&rt, &mut after)
+}
+
+/// Whether a line has a place in the store.
+fn is_in_store(geometry: &Geometry, line: &HomeLine) -> bool
+    ensures { result ≡ true → IsInStore (sizes_of geometry.now) line.now }
+{
+    let framed = match line.home {
+        Some(frame) => frame < geometry.frames,
+        None => true,
+    };
+    framed && line.page < geometry.pages() && line.line < 64
+}
+
+/// Whether each of them has.
+fn are_in_store(geometry: &Geometry, lines: &[HomeLine]) -> bool
+    ensures { result ≡ true → AreInStore (sizes_of geometry.now) (length lines.now) lines.now }
+{
+    for at in 0..lines.len() {
+        if !is_in_store(geometry, &lines[at]) {
+            return false;
+        }
+    }
+    true
+}
+
+/// Writes these lines, one after the other.
+fn write_all<D: Devices>(
+    dev: &mut D,
+    passage: &mut Passage,
+    lines: &[HomeLine],
+) -> Result<(), Fail> {
+    let geometry = small();
+    let passes = match passage.page {
+        Some(there) => there < geometry.pages(),
+        None => true,
+    };
+    if !passes || !are_in_store(&geometry, lines) || !fits(dev, &geometry) {
+        return Err("no such place")?;
+    }
+    write_homes(dev, &geometry, passage, lines)?;
+    Ok(())
+}
+
+/// The same four lines.
+const FOUR: [HomeLine; 4] = [
+    HomeLine {
+        home: None,
+        page: 4,
+        line: 0,
+        value: Line { words: [40; 8] },
+    },
+    HomeLine {
+        home: None,
+        page: 4,
+        line: 63,
+        value: Line { words: [41; 8] },
+    },
+    HomeLine {
+        home: None,
+        page: 5,
+        line: 7,
+        value: Line { words: [50; 8] },
+    },
+    HomeLine {
+        home: Some(1),
+        page: 3,
+        line: 9,
+        value: Line { words: [30; 8] },
+    },
+];
+
+#[test]
+fn lines_of_a_slice_go_to_their_homes(rt: HostRuntime) -> Result<(), Fail> {
+    let mut world = start(rt.alloc())?;
+    put(&mut world, 1, 3, &filled(3))?;
+    let mut passage = Passage { page: None };
+    write_all(&mut world, &mut passage, &FOUR)?;
+    assert!(rt; passage == Passage { page: Some(5) });
+    end(&mut world, &mut passage)?;
+    written(&rt, &mut world)
 }
 
 /// Device calls of a page that comes in: its block is read, 64 lines and an entry are stored and flushed, two fences.

@@ -26,7 +26,9 @@ pub fn read_lines<P: Pages>(
     requires open { (P.standing pages.old).access ≡ Some (page, false) }
     requires order { from ≤ end }
     requires within { end ≤ 64 }
-    ensures known { IsTrue (P.standing pages.old).told → OnOk result (Same (64 * from) (64 * end) (bytes_of (P.standing pages.old).current page) into.new) }
+    ensures known { IsTrue (P.standing pages.old).told
+        → OnOk result
+        (Same (64 * from) (64 * end) (bytes_of (P.standing pages.old).current page) into.new) }
     ensures before { OnOk result (Same 0 (64 * from) into.old into.new) }
     ensures after { OnOk result (Same (64 * end) 4096 into.old into.new) }
     ensures call { PagesCall P.Pages pages.old pages.new result }
@@ -47,7 +49,8 @@ pub fn read_lines<P: Pages>(
 pub fn read_header<P: Pages>(pages: &mut P, page: u64, into: &mut PageBuf) -> Result<(), Stop>
     requires ready { P.is_ready pages.old }
     requires page { page < (P.standing pages.old).count }
-    ensures known { IsTrue (P.standing pages.old).told → OnOk result (Same 0 64 (bytes_of (P.standing pages.old).current page) into.new) }
+    ensures known { IsTrue (P.standing pages.old).told
+        → OnOk result (Same 0 64 (bytes_of (P.standing pages.old).current page) into.new) }
     ensures call { PagesCall P.Pages pages.old pages.new result }
     ensures reads { OnOk result (ReadsPage page (P.standing pages.old) (P.standing pages.new)) }
     ensures costs { OnOk result (Costs 1 (P.standing pages.old) (P.standing pages.new)) }
@@ -71,10 +74,14 @@ pub fn read_spread<P: Pages>(
     requires open { (P.standing pages.old).access ≡ Some (page, false) }
     requires order { InOrder spread.now }
     ensures header { OnOk result (Same 0 64 into.old into.new) }
-    ensures known { IsTrue (P.standing pages.old).told → Same 0 64 (bytes_of (P.standing pages.old).current page) into.old → OnOk result (AlikeIn spread.now (bytes_of (P.standing pages.old).current page) into.new) }
+    ensures known { IsTrue (P.standing pages.old).told
+        → Same 0 64 (bytes_of (P.standing pages.old).current page) into.old
+        → OnOk result (AlikeIn spread.now (bytes_of (P.standing pages.old).current page) into.new) }
     ensures call { PagesCall P.Pages pages.old pages.new result }
     ensures reads { OnOk result (ReadsPage page (P.standing pages.old) (P.standing pages.new)) }
-    ensures costs { OnOk result (Costs ((spread.now.slots_end - spread.now.slots) + (spread.now.heap_end - spread.now.heap)) (P.standing pages.old) (P.standing pages.new)) }
+    ensures costs { OnOk result
+        (Costs ((spread.now.slots_end - spread.now.slots) + (spread.now.heap_end - spread.now.heap))
+        (P.standing pages.old) (P.standing pages.new)) }
     ensures again { (P.standing pages.new).visits ≤ (P.standing pages.old).visits }
     ensures cause { HasCause Never (P.standing pages.old) (P.standing pages.new) result }
 {
@@ -96,11 +103,22 @@ pub fn write_spread<P: Pages>(
     requires order { InOrder spread.now }
     requires alike { AlikeBeyond spread.now old.now new.now }
     requires room { lines_changed old.now new.now ≤ (P.standing pages.old).room }
-    ensures stands { IsTrue (P.standing pages.old).told → AlikeIn spread.now (bytes_of (P.standing pages.old).current page) old.now → OnOk result (StandsFor spread.now old.now new.now (bytes_of (P.standing pages.old).current page) (bytes_of (P.standing pages.new).current page)) }
-    ensures others { IsTrue (P.standing pages.old).told → AlikeIn spread.now (bytes_of (P.standing pages.old).current page) old.now → OnOk result (OtherPages page (P.standing pages.old).current (P.standing pages.new).current) }
-    ensures room { OnOk result ((P.standing pages.new).room + lines_changed old.now new.now ≡ (P.standing pages.old).room) }
-    ensures touches { OnOk result (WritesOnly page (Differs old.now new.now) (P.standing pages.old) (P.standing pages.new)) }
-    ensures costs { OnOk result (Costs (1 + (spread.now.slots_end - spread.now.slots) + (spread.now.heap_end - spread.now.heap)) (P.standing pages.old) (P.standing pages.new)) }
+    ensures stands { IsTrue (P.standing pages.old).told
+        → AlikeIn spread.now (bytes_of (P.standing pages.old).current page) old.now
+        → OnOk result
+        (StandsFor spread.now old.now new.now (bytes_of (P.standing pages.old).current page)
+        (bytes_of (P.standing pages.new).current page)) }
+    ensures others { IsTrue (P.standing pages.old).told
+        → AlikeIn spread.now (bytes_of (P.standing pages.old).current page) old.now
+        → OnOk result
+        (OtherPages page (P.standing pages.old).current (P.standing pages.new).current) }
+    ensures room { OnOk result ((P.standing pages.new).room + lines_changed old.now new.now
+        ≡ (P.standing pages.old).room) }
+    ensures touches { OnOk result (WritesOnly page (Differs old.now new.now) (P.standing pages.old)
+        (P.standing pages.new)) }
+    ensures costs { OnOk result
+        (Costs (1 + (spread.now.slots_end - spread.now.slots) +
+        (spread.now.heap_end - spread.now.heap)) (P.standing pages.old) (P.standing pages.new)) }
     ensures cause { HasCause Never (P.standing pages.old) (P.standing pages.new) result }
     ensures call { PagesCall P.Pages pages.old pages.new result }
     ensures few { (P.standing pages.new).visits ≤ (P.standing pages.old).visits + 1 }

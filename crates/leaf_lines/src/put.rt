@@ -58,11 +58,21 @@ fn insert_row<P: Pages>(
     requires few { length value.now ≤ 480 }
     requires printable { list_all is_printable value.now ≡ true }
     requires room { 64 ≤ (P.standing pages.old).room }
-    requires spot { IsTrue (P.standing pages.old).told → IsWellFormed (bytes_of (P.standing pages.old).current page) expect.now → IsSpot (bytes_of (P.standing pages.old).current page) expect.now key (spots.Gap at) }
-    ensures put { IsTrue (P.standing pages.old).told → IfOk result (IsPutByLines page expect.now key value.now (P.standing pages.old) (P.standing pages.new)) }
+    requires spot { IsTrue (P.standing pages.old).told
+        → IsWellFormed (bytes_of (P.standing pages.old).current page) expect.now
+        → IsSpot (bytes_of (P.standing pages.old).current page) expect.now key (spots.Gap at) }
+    ensures put { IsTrue (P.standing pages.old).told
+        → IfOk result (IsPutByLines page expect.now key value.now (P.standing pages.old)
+        (P.standing pages.new)) }
     ensures left { IfOk result (IsLeft page (P.standing pages.old) (P.standing pages.new)) }
-    ensures when { IsTrue (P.standing pages.old).told → IsWellFormed (bytes_of (P.standing pages.old).current page) expect.now → IfOk result (λ done. done ≡ fits_beside expect.now.root key (length value.now) (bytes_of (P.standing pages.old).current page)) }
-    ensures costs { IsTrue (P.standing pages.old).told → OnOk result (Costs (put_cost (entry_count (bytes_of (P.standing pages.old).current page) - at) (length value.now)) (P.standing pages.old) (P.standing pages.new)) }
+    ensures when { IsTrue (P.standing pages.old).told
+        → IsWellFormed (bytes_of (P.standing pages.old).current page) expect.now
+        → IfOk result (λ done. done ≡ fits_beside expect.now.root key (length value.now)
+        (bytes_of (P.standing pages.old).current page)) }
+    ensures costs { IsTrue (P.standing pages.old).told
+        → OnOk result
+        (Costs (put_cost (entry_count (bytes_of (P.standing pages.old).current page) - at)
+        (length value.now)) (P.standing pages.old) (P.standing pages.new)) }
     ensures room { OnOk result ((P.standing pages.old).room ≤ (P.standing pages.new).room + 64) }
     ensures cause { HasCause Never (P.standing pages.old) (P.standing pages.new) result }
     ensures call { PagesCall P.Pages pages.old pages.new result }
@@ -107,8 +117,12 @@ fn read_slot<P: Pages>(pages: &mut P, page: u64, at: usize) -> Result<Place, Sto
     requires page { page < (P.standing pages.old).count }
     requires open { (P.standing pages.old).access ≡ Some (page, false) }
     requires at { at < 1008 }
-    ensures place { IsTrue (P.standing pages.old).told → IfOk result (λ slot. slot.place ≡ u16_at (bytes_of (P.standing pages.old).current page) (64 + 4 * at)) }
-    ensures size { IsTrue (P.standing pages.old).told → IfOk result (λ slot. slot.size ≡ u16_at (bytes_of (P.standing pages.old).current page) (64 + 4 * at + 2)) }
+    ensures place { IsTrue (P.standing pages.old).told
+        → IfOk result
+        (λ slot. slot.place ≡ u16_at (bytes_of (P.standing pages.old).current page) (64 + 4 * at)) }
+    ensures size { IsTrue (P.standing pages.old).told
+        → IfOk result (λ slot. slot.size ≡ u16_at (bytes_of (P.standing pages.old).current page)
+        (64 + 4 * at + 2)) }
     ensures small_place { IfOk result (λ slot. slot.place < 65536) }
     ensures small_size { IfOk result (λ slot. slot.size < 65536) }
     ensures call { PagesCall P.Pages pages.old pages.new result }
@@ -131,7 +145,8 @@ fn has_length(at: usize, slot: &Place, more: usize) -> bool
     ensures size { result ≡ true → slot.now.size ≡ 8 + more }
     ensures behind { result ≡ true → 68 + 4 * at ≤ slot.now.place }
     ensures within { result ≡ true → slot.now.place + slot.now.size ≤ 4096 }
-    ensures none { result ≡ false → 68 + 4 * at ≤ slot.now.place → slot.now.place + slot.now.size ≤ 4096 → slot.now.size ≢ 8 + more }
+    ensures none { result ≡ false → 68 + 4 * at ≤ slot.now.place
+        → slot.now.place + slot.now.size ≤ 4096 → slot.now.size ≢ 8 + more }
 {
     slot.size == 8 + more && 68 + 4 * at <= slot.place && slot.place + slot.size <= 4096
 }
@@ -147,7 +162,8 @@ fn can_swap(at: usize, count: u64, heap: u64, slot: &Place, more: usize, root: b
     ensures heap { result ≡ true → heap ≤ 4096 }
     ensures room { result ≡ true → 64 + 4 * count + (8 + more) ≤ heap }
     ensures full { result ≡ true → (root ≡ true) ⊎ (slot.now.size ≤ 8 + more) }
-    ensures none { result ≡ false → at < count → heap ≤ 4096 → slot.now.size ≢ 8 + more → (heap < 64 + 4 * count + (8 + more)) ⊎ ((root ≡ false) × (8 + more < slot.now.size)) }
+    ensures none { result ≡ false → at < count → heap ≤ 4096 → slot.now.size ≢ 8 + more
+        → (heap < 64 + 4 * count + (8 + more)) ⊎ ((root ≡ false) × (8 + more < slot.now.size)) }
 {
     if heap > 4096 || count > 1008 || at >= count as usize || slot.size == 8 + more {
         return false;
@@ -177,11 +193,19 @@ fn put_over<P: Pages>(
     requires few { length value.now ≤ 480 }
     requires printable { list_all is_printable value.now ≡ true }
     requires room { 64 ≤ (P.standing pages.old).room }
-    requires spot { IsTrue (P.standing pages.old).told → IsWellFormed (bytes_of (P.standing pages.old).current page) expect.now → IsSpot (bytes_of (P.standing pages.old).current page) expect.now key (spots.Row at) }
-    ensures put { IsTrue (P.standing pages.old).told → IfOk result (IsPutByLines page expect.now key value.now (P.standing pages.old) (P.standing pages.new)) }
+    requires spot { IsTrue (P.standing pages.old).told
+        → IsWellFormed (bytes_of (P.standing pages.old).current page) expect.now
+        → IsSpot (bytes_of (P.standing pages.old).current page) expect.now key (spots.Row at) }
+    ensures put { IsTrue (P.standing pages.old).told
+        → IfOk result (IsPutByLines page expect.now key value.now (P.standing pages.old)
+        (P.standing pages.new)) }
     ensures left { IfOk result (IsLeft page (P.standing pages.old) (P.standing pages.new)) }
-    ensures when { IsTrue (P.standing pages.old).told → IsWellFormed (bytes_of (P.standing pages.old).current page) expect.now → IfOk result (λ done. done ≡ fits_beside expect.now.root key (length value.now) (bytes_of (P.standing pages.old).current page)) }
-    ensures costs { OnOk result (Costs (put_cost 0 (length value.now)) (P.standing pages.old) (P.standing pages.new)) }
+    ensures when { IsTrue (P.standing pages.old).told
+        → IsWellFormed (bytes_of (P.standing pages.old).current page) expect.now
+        → IfOk result (λ done. done ≡ fits_beside expect.now.root key (length value.now)
+        (bytes_of (P.standing pages.old).current page)) }
+    ensures costs { OnOk result (Costs (put_cost 0 (length value.now)) (P.standing pages.old)
+        (P.standing pages.new)) }
     ensures room { OnOk result ((P.standing pages.old).room ≤ (P.standing pages.new).room + 64) }
     ensures cause { HasCause Never (P.standing pages.old) (P.standing pages.new) result }
     ensures call { PagesCall P.Pages pages.old pages.new result }
@@ -236,11 +260,21 @@ pub fn put_by_lines<P: Pages>(
     requires few { length value.now ≤ 480 }
     requires printable { list_all is_printable value.now ≡ true }
     requires room { 64 ≤ (P.standing pages.old).room }
-    requires spot { IsTrue (P.standing pages.old).told → IsWellFormed (bytes_of (P.standing pages.old).current page) expect.now → IsFound (bytes_of (P.standing pages.old).current page) expect.now key place }
-    ensures put { IsTrue (P.standing pages.old).told → IfOk result (IsPutByLines page expect.now key value.now (P.standing pages.old) (P.standing pages.new)) }
+    requires spot { IsTrue (P.standing pages.old).told
+        → IsWellFormed (bytes_of (P.standing pages.old).current page) expect.now
+        → IsFound (bytes_of (P.standing pages.old).current page) expect.now key place }
+    ensures put { IsTrue (P.standing pages.old).told
+        → IfOk result (IsPutByLines page expect.now key value.now (P.standing pages.old)
+        (P.standing pages.new)) }
     ensures left { IfOk result (IsLeft page (P.standing pages.old) (P.standing pages.new)) }
-    ensures when { IsTrue (P.standing pages.old).told → IsWellFormed (bytes_of (P.standing pages.old).current page) expect.now → IfOk result (λ done. done ≡ fits_beside expect.now.root key (length value.now) (bytes_of (P.standing pages.old).current page)) }
-    ensures costs { IsTrue (P.standing pages.old).told → OnOk result (Costs (put_cost (slots_behind place (bytes_of (P.standing pages.old).current page)) (length value.now)) (P.standing pages.old) (P.standing pages.new)) }
+    ensures when { IsTrue (P.standing pages.old).told
+        → IsWellFormed (bytes_of (P.standing pages.old).current page) expect.now
+        → IfOk result (λ done. done ≡ fits_beside expect.now.root key (length value.now)
+        (bytes_of (P.standing pages.old).current page)) }
+    ensures costs { IsTrue (P.standing pages.old).told
+        → OnOk result
+        (Costs (put_cost (slots_behind place (bytes_of (P.standing pages.old).current page))
+        (length value.now)) (P.standing pages.old) (P.standing pages.new)) }
     ensures room { OnOk result ((P.standing pages.old).room ≤ (P.standing pages.new).room + 64) }
     ensures cause { HasCause Never (P.standing pages.old) (P.standing pages.new) result }
     ensures call { PagesCall P.Pages pages.old pages.new result }

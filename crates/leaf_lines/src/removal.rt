@@ -37,7 +37,8 @@ fn is_enough(page: &PageBuf, at: usize, count: usize, root: bool) -> bool
     requires count { count ≡ entry_count page.now }
     requires few { count ≤ 1008 }
     requires at { at < count }
-    ensures { result ≡ (root || nat_le (1344 + (4 + (slot_of page.now at).size)) (bytes_used (slots page.now))) }
+    ensures { result
+        ≡ (root || nat_le (1344 + (4 + (slot_of page.now at).size)) (bytes_used (slots page.now))) }
 {
     root || LEAF_FLOOR + (4 + page_half(page, 64 + 4 * at + 2) as usize) <= slots_used(page, count)
 }
@@ -56,11 +57,22 @@ pub fn remove_by_lines<P: Pages>(
     requires page { page < (P.standing pages.old).count }
     requires level { expect.now.level ≡ 0 }
     requires room { 22 ≤ (P.standing pages.old).room }
-    requires at { IsTrue (P.standing pages.old).told → IsWellFormed (bytes_of (P.standing pages.old).current page) expect.now → at < entry_count (bytes_of (P.standing pages.old).current page) }
-    ensures removed { IsTrue (P.standing pages.old).told → IfOk result (IsRemovedByLines page expect.now at (P.standing pages.old) (P.standing pages.new)) }
+    requires at { IsTrue (P.standing pages.old).told
+        → IsWellFormed (bytes_of (P.standing pages.old).current page) expect.now
+        → at < entry_count (bytes_of (P.standing pages.old).current page) }
+    ensures removed { IsTrue (P.standing pages.old).told
+        → IfOk result (IsRemovedByLines page expect.now at (P.standing pages.old)
+        (P.standing pages.new)) }
     ensures left { IfOk result (IsLeft page (P.standing pages.old) (P.standing pages.new)) }
-    ensures when { IsTrue (P.standing pages.old).told → IsWellFormed (bytes_of (P.standing pages.old).current page) expect.now → IfOk result (λ done. done ≡ keeps_floor expect.now.root (remove (leaf_rows (bytes_of (P.standing pages.old).current page)) at)) }
-    ensures costs { IsTrue (P.standing pages.old).told → OnOk result (Costs (removal_cost (entry_count (bytes_of (P.standing pages.old).current page))) (P.standing pages.old) (P.standing pages.new)) }
+    ensures when { IsTrue (P.standing pages.old).told
+        → IsWellFormed (bytes_of (P.standing pages.old).current page) expect.now
+        → IfOk result
+        (λ done. done ≡ keeps_floor expect.now.root
+        (remove (leaf_rows (bytes_of (P.standing pages.old).current page)) at)) }
+    ensures costs { IsTrue (P.standing pages.old).told
+        → OnOk result
+        (Costs (removal_cost (entry_count (bytes_of (P.standing pages.old).current page)))
+        (P.standing pages.old) (P.standing pages.new)) }
     ensures room { OnOk result ((P.standing pages.old).room ≤ (P.standing pages.new).room + 22) }
     ensures cause { HasCause Never (P.standing pages.old) (P.standing pages.new) result }
     ensures call { PagesCall P.Pages pages.old pages.new result }

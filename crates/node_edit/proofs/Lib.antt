@@ -4,3 +4,4 @@ pub mod SameLength
 pub mod ChildEdits
 pub mod PairLaws
 pub mod MergeLaws
+pub mod CutLaws

@@ -9,6 +9,7 @@ ghost use Rattle.page_format.specs.Node.{Child, IsWellFormed, entry_count, page_
 ghost use Rattle.page_format.specs.Inner.{IsInner, IsBranch};
 ghost use Rattle.node_edit.specs.declared.fit.Fit.TheVariants as fits;
 ghost use Rattle.node_edit.specs.Edit.{Fits, child_put, place_of, has_key, AreChildren, both, joined, IsCutIn, IsPair, PairsUp, Mended};
+ghost use Rattle.node_edit.specs.Cuts.{CutsChildren};
 
 use crate::fit::Fit;
 use crate::leaf_edit::top_of;
@@ -75,6 +76,8 @@ fn insert_child(
     ensures fits { Fits children_of expect.now left.new right.new (insert (children_of left.old) at (key, child)) result }
     ensures long { result ≢ fits.Short }
     ensures room { length (children_of left.old) < 240 → result ≡ fits.Whole }
+    ensures parts { (k : ℕ) → result ≡ fits.Cut k
+        → CutsChildren (insert (children_of left.old) at (key, child)) (children_of left.new) (children_of right.new) k }
 {
     top_of(expect);
     if children(left) < 240 {
@@ -103,6 +106,8 @@ pub fn inner_put(
     ensures fits { Fits children_of expect.now left.new right.new (child_put key child (children_of left.old)) result }
     ensures long { result ≢ fits.Short }
     ensures room { entry_count left.old < 240 → result ≡ fits.Whole }
+    ensures parts { (k : ℕ) → result ≡ fits.Cut k
+        → CutsChildren (child_put key child (children_of left.old)) (children_of left.new) (children_of right.new) k }
 {
     enter(left, expect);
     let at = child_at(left, key);
@@ -127,6 +132,7 @@ fn inner_fit(page: &PageBuf, expect: &Expect) -> Fit
     requires branch { IsBranch page.now }
     ensures fits { page_level page.now ≡ expect.now.level → (right : List ℕ) → begins_at expect.now.low (children_of page.now) ≡ true → Ascends expect.now.low expect.now.high (first_keys (children_of page.now)) → list_all (is_page_below expect.now.pages) (children_of page.now) ≡ true → 2 ≤ length (children_of page.now) → Fits children_of expect.now page.now right (children_of page.now) result }
     ensures uncut { (key : ℕ) → result ≢ fits.Cut key }
+    ensures short { result ≡ fits.Short → (expect.now.root ≡ false) × (length (children_of page.now) < 80) }
 {
     if is_broad(page, expect) {
         Fit::Whole
@@ -142,6 +148,7 @@ pub fn mend_joined(page: &mut PageBuf, expect: &Expect, pair: &Pair) -> Fit
     requires some { 3 ≤ entry_count page.old }
     ensures mended { Mended expect.now page.old page.new pair.now None result }
     ensures uncut { (k : ℕ) → result ≢ fits.Cut k }
+    ensures short { result ≡ fits.Short → (expect.now.root ≡ false) × (length (children_of page.new) < 80) }
     ensures few { lines_changed page.old page.new ≤ 61 }
 {
     enter(page, expect);
@@ -161,6 +168,7 @@ pub fn mend_divided(page: &mut PageBuf, expect: &Expect, pair: &Pair, key: u64) 
     requires cut { IsCutIn pair.now (Some key) }
     ensures mended { Mended expect.now page.old page.new pair.now (Some key) result }
     ensures uncut { (k : ℕ) → result ≢ fits.Cut k }
+    ensures long { result ≢ fits.Short }
     ensures few { lines_changed page.old page.new ≤ 61 }
 {
     enter(page, expect);

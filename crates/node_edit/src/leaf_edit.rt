@@ -12,6 +12,7 @@ ghost use Rattle.node_edit.specs.declared.fit.Fit.TheVariants as fits;
 ghost use Rattle.node_edit.specs.Edit.{Fits, place_of, has_key};
 ghost use Rattle.page_alloc.specs.Written.{Differs, Meets, lines_changed};
 ghost use Rattle.node_edit.specs.Record.{record_at, FitsLeaf, HoldsLength};
+ghost use Rattle.node_edit.specs.Cuts.{CutsRows};
 
 use crate::fit::Fit;
 use page_edit::{leaf_cut, leaf_insert, leaf_remove, leaf_set};
@@ -122,6 +123,8 @@ fn insert_row(
     ensures fits { Fits rows_of expect.now left.new right.new (insert (rows_of left.old) at (key, value.now)) result }
     ensures few { result ≡ fits.Short → (base : List ℕ) → length base ≡ 4096 → Same (64 + 4 * (entry_count left.old + 1)) 4096 base left.old → lines_changed base left.new ≤ 33 }
     ensures whole { FitsLeaf (expect.now.root ≡ true) (insert (rows_of left.old) at (key, value.now)) → result ≡ fits.Whole }
+    ensures parts { (k : ℕ) → result ≡ fits.Cut k
+        → CutsRows (insert (rows_of left.old) at (key, value.now)) (rows_of left.new) (rows_of right.new) k }
 {
     open_leaf(left);
     if leaf_used(left) + 12 + value.len() > 4032 {
@@ -149,6 +152,8 @@ fn cut_row(
     ensures fits { Fits rows_of expect.now left.new right.new (insert (rows_of left.old) at (key, value.now)) result }
     ensures long { result ≢ fits.Short }
     ensures more { leaf_room < row_bytes (insert (rows_of left.old) at (key, value.now)) }
+    ensures parts { (k : ℕ) → result ≡ fits.Cut k
+        → CutsRows (insert (rows_of left.old) at (key, value.now)) (rows_of left.new) (rows_of right.new) k }
 {
     top_of(expect);
     open_leaf(left);
@@ -168,6 +173,7 @@ fn fit_row(page: &mut PageBuf, expect: &Expect, at: usize, key: u64, value: &[u8
     requires printable { list_all is_printable value.now ≡ true }
     requires room { row_bytes (rows_of page.old) + 12 + length value.now ≤ 4032 }
     ensures fits { (right : List ℕ) → Fits rows_of expect.now page.new right (insert (rows_of page.old) at (key, value.now)) result }
+    ensures uncut { (k : ℕ) → result ≢ fits.Cut k }
     ensures few { result ≡ fits.Short → (base : List ℕ) → length base ≡ 4096 → Same (64 + 4 * (entry_count page.old + 1)) 4096 base page.old → lines_changed base page.new ≤ 33 }
     ensures whole { FitsLeaf (expect.now.root ≡ true) (insert (rows_of page.old) at (key, value.now)) → result ≡ fits.Whole }
 {
@@ -196,6 +202,8 @@ pub fn leaf_put(
     ensures fits { Fits rows_of expect.now left.new right.new (row_put key value.now (rows_of left.old)) result }
     ensures few { result ≡ fits.Short → lines_changed left.old left.new ≤ 33 }
     ensures whole { FitsLeaf (expect.now.root ≡ true) (row_put key value.now (rows_of left.old)) → result ≡ fits.Whole }
+    ensures parts { (k : ℕ) → result ≡ fits.Cut k
+        → CutsRows (row_put key value.now (rows_of left.old)) (rows_of left.new) (rows_of right.new) k }
     ensures again { HoldsLength key (length value.now) (rows_of left.old) → (result ≡ fits.Whole) × ((line : ℕ) → Differs left.old left.new line → Meets (record_at key left.old) line) }
 {
     enter(left, expect);

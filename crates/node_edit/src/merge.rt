@@ -3,6 +3,7 @@ ghost use Rattle.std.specs.Prelude.{◌≡◌, ◌+◌, ◌-◌, ◌<◌, ◌≤
 ghost use Rattle.page_format.specs.Node.{IsWellFormed, leaf_rows as rows_of, children as children_of};
 ghost use Rattle.page_format.specs.Sound.{row_bytes};
 ghost use Rattle.node_edit.specs.Edit.{left_of, right_of, whole_of, Merges, IsEnoughLeaf, IsEnoughInner, IsCutIn, IsPair};
+ghost use Rattle.node_edit.specs.Cuts.{JoinsRows, JoinsChildren};
 
 use crate::inner_edit::enter as enter_inner;
 use crate::leaf_edit::{enter, open_leaf, top_of};
@@ -65,6 +66,8 @@ pub fn merge_leaves(left: &mut PageBuf, right: &mut PageBuf, pair: &Pair, count:
     requires right { IsWellFormed right.old (right_of count 0 pair.now) }
     ensures cut { IsCutIn pair.now result }
     ensures merges { (IsEnoughLeaf left.old ⊎ IsEnoughLeaf right.old) → Merges rows_of (whole_of count 0 pair.now) left.new right.new (rows_of left.old ++ rows_of right.old) result }
+    ensures joins { ((row_bytes (rows_of left.old) < 1344) ⊎ (row_bytes (rows_of right.old) < 1344))
+        → JoinsRows (rows_of left.old ++ rows_of right.old) (rows_of left.new) (rows_of right.new) result }
 {
     let one = left_expect(pair, 0, count);
     let two = right_expect(pair, 0, count);
@@ -98,6 +101,7 @@ pub fn merge_inner(
     requires right { IsWellFormed right.old (right_of count level pair.now) }
     ensures cut { IsCutIn pair.now result }
     ensures merges { (IsEnoughInner left.old ⊎ IsEnoughInner right.old) → Merges children_of (whole_of count level pair.now) left.new right.new (children_of left.old ++ children_of right.old) result }
+    ensures joins { JoinsChildren (children_of left.old ++ children_of right.old) (children_of left.new) (children_of right.new) result }
 {
     let one = left_expect(pair, level, count);
     let two = right_expect(pair, level, count);

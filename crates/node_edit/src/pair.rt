@@ -4,6 +4,7 @@ ghost use Rattle.ssd_model.specs.Page.{Same};
 ghost use Rattle.line_pages.specs.Bytes.{u64_at};
 ghost use Rattle.page_format.specs.Spans.{reach};
 ghost use Rattle.page_format.specs.Node.{Child, IsWellFormed, page_kind, page_level, entry_count, children as children_of};
+ghost use Rattle.page_edit.specs.Join.{unused_word};
 ghost use Rattle.node_edit.specs.Edit.{IsPair, PairsUp, IsNewRoot};
 
 use crate::inner_edit::{child_at, enter};
@@ -79,6 +80,7 @@ fn set_header(page: &mut PageBuf, level: u64)
     ensures kind { page_kind page.new ≡ 2 }
     ensures count { entry_count page.new ≡ 2 }
     ensures level { page_level page.new ≡ level }
+    ensures unused { unused_word page.new ≡ 0 }
     ensures size { length page.new ≡ 4096 }
 {
     set_page_word(page, 0, 2);
@@ -108,7 +110,8 @@ pub fn root_of(page: &mut PageBuf, level: u8, first: u64, key: u64, second: u64,
     requires first { first < count }
     requires second_some { 1 ≤ second }
     requires second { second < count }
-    ensures { IsNewRoot page.new level first key second count }
+    ensures is { IsNewRoot page.new level first key second count }
+    ensures unused { unused_word page.new ≡ 0 }
 {
     set_header(page, level as u64);
     set_entry(page, 64, 0, first);

@@ -32,14 +32,22 @@ pub fn probe<P: Pages>(
     requires page { page < (P.standing pages.old).count }
     requires above { expect.now.low ≤ key }
     requires within { key ≤ expect.now.high }
-    ensures spot { IsTrue (P.standing pages.old).told → IsWellFormed (bytes_of (P.standing pages.old).current page) expect.now → IfOk result (IsRightSpot (bytes_of (P.standing pages.old).current page) expect.now key) }
-    ensures level { IsTrue (P.standing pages.old).told → IfOk result (IsOfLevel (bytes_of (P.standing pages.old).current page) expect.now) }
+    ensures spot { IsTrue (P.standing pages.old).told
+        → IsWellFormed (bytes_of (P.standing pages.old).current page) expect.now
+        → IfOk result (IsRightSpot (bytes_of (P.standing pages.old).current page) expect.now key) }
+    ensures level { IsTrue (P.standing pages.old).told
+        → IfOk result (IsOfLevel (bytes_of (P.standing pages.old).current page) expect.now) }
     ensures safe { IfOk result (IsSafeAnswer expect.now key) }
     ensures cause { HasCause Never (P.standing pages.old) (P.standing pages.new) result }
     ensures call { PagesCall P.Pages pages.old pages.new result }
     ensures reads { OnOk result (ReadsPage page (P.standing pages.old) (P.standing pages.new)) }
-    ensures lines { IsTrue (P.standing pages.old).told → IsWellFormed (bytes_of (P.standing pages.old).current page) expect.now → OnOk result (AddsLines (Searches expect.now.level (bytes_of (P.standing pages.old).current page)) (P.standing pages.old) (P.standing pages.new)) }
-    ensures bound { OnOk result (Costs (most_lines expect.now.level) (P.standing pages.old) (P.standing pages.new)) }
+    ensures lines { IsTrue (P.standing pages.old).told
+        → IsWellFormed (bytes_of (P.standing pages.old).current page) expect.now
+        → OnOk result
+        (AddsLines (Searches expect.now.level (bytes_of (P.standing pages.old).current page))
+        (P.standing pages.old) (P.standing pages.new)) }
+    ensures bound { OnOk result (Costs (most_lines expect.now.level) (P.standing pages.old)
+        (P.standing pages.new)) }
     ensures few { (P.standing pages.new).visits ≤ (P.standing pages.old).visits + 1 }
 {
     let header = read_header(pages, page)?;
@@ -57,11 +65,13 @@ pub fn probe<P: Pages>(
 fn read_header<P: Pages>(pages: &mut P, page: u64) -> Result<Header, Stop>
     requires ready { P.is_ready pages.old }
     requires page { page < (P.standing pages.old).count }
-    ensures header { IsTrue (P.standing pages.old).told → IfOk result (IsHeader (bytes_of (P.standing pages.old).current page)) }
+    ensures header { IsTrue (P.standing pages.old).told
+        → IfOk result (IsHeader (bytes_of (P.standing pages.old).current page)) }
     ensures cause { HasCause Never (P.standing pages.old) (P.standing pages.new) result }
     ensures call { PagesCall P.Pages pages.old pages.new result }
     ensures reads { OnOk result (ReadsPage page (P.standing pages.old) (P.standing pages.new)) }
-    ensures lines { OnOk result (AddsLines (λ lines. lines ≡ 0 ∷ []) (P.standing pages.old) (P.standing pages.new)) }
+    ensures lines { OnOk result (AddsLines (λ lines. lines ≡ 0 ∷ []) (P.standing pages.old)
+        (P.standing pages.new)) }
     ensures few { (P.standing pages.new).visits ≤ (P.standing pages.old).visits + 1 }
 {
     let line = pages.read_line(page, 0)?;
@@ -78,7 +88,8 @@ fn header_fits(header: &Header, expect: &Expect) -> bool
     ensures rows { result ≡ true → expect.now.level ≡ 0 → header.now.count ≤ 1008 }
     ensures some { result ≡ true → 1 ≤ expect.now.level → 2 ≤ header.now.count }
     ensures few { result ≡ true → 1 ≤ expect.now.level → header.now.count ≤ 240 }
-    ensures fits { (bytes : List ℕ) → IsHeader bytes header.now → IsWellFormed bytes expect.now → result ≡ true }
+    ensures fits { (bytes : List ℕ) → IsHeader bytes header.now → IsWellFormed bytes expect.now
+        → result ≡ true }
 {
     if header.level != expect.level as u64 {
         return false;
@@ -96,7 +107,8 @@ fn is_leaf(header: &Header) -> bool
 }
 
 fn is_inner(header: &Header) -> bool
-    ensures { result ≡ (header.now.kind == 2 && nat_le 2 header.now.count && nat_le header.now.count 240) }
+    ensures { result
+        ≡ (header.now.kind == 2 && nat_le 2 header.now.count && nat_le header.now.count 240) }
 {
     header.kind == 2 && 2 <= header.count && header.count <= 240
 }
@@ -106,13 +118,18 @@ fn read_place<P: Pages>(pages: &mut P, page: u64, slot: usize) -> Result<usize, 
     requires ready { P.is_ready pages.old }
     requires page { page < (P.standing pages.old).count }
     requires slot { slot < 1008 }
-    ensures value { IsTrue (P.standing pages.old).told → IfOk result (λ place. place ≡ u16_at (bytes_of (P.standing pages.old).current page) (64 + 4 * slot)) }
+    ensures value { IsTrue (P.standing pages.old).told
+        → IfOk result (λ place. place ≡ u16_at (bytes_of (P.standing pages.old).current page)
+        (64 + 4 * slot)) }
     ensures small { IfOk result (λ place. place < 65536) }
     ensures cause { HasCause Never (P.standing pages.old) (P.standing pages.new) result }
     ensures call { PagesCall P.Pages pages.old pages.new result }
     ensures reads { OnOk result (ReadsPage page (P.standing pages.old) (P.standing pages.new)) }
-    ensures lines { OnOk result (AddsLines (λ lines. lines ≡ lines_of (64 + 4 * slot) 2) (P.standing pages.old) (P.standing pages.new)) }
-    ensures again { begins (P.standing pages.old).access page false ≡ false → (P.standing pages.new).visits ≤ (P.standing pages.old).visits }
+    ensures lines { OnOk result
+        (AddsLines (λ lines. lines ≡ lines_of (64 + 4 * slot) 2) (P.standing pages.old)
+        (P.standing pages.new)) }
+    ensures again { begins (P.standing pages.old).access page false ≡ false
+        → (P.standing pages.new).visits ≤ (P.standing pages.old).visits }
 {
     let place = read_half(pages, page, 64 + 4 * slot)?;
     Ok(place as usize)
@@ -131,13 +148,20 @@ fn probe_rows<P: Pages>(
     requires open { (P.standing pages.old).access ≡ Some (page, false) }
     requires leaf { expect.now.level ≡ 0 }
     requires few { count ≤ 1008 }
-    requires known { IsTrue (P.standing pages.old).told → count ≡ entry_count (bytes_of (P.standing pages.old).current page) }
-    ensures spot { IsTrue (P.standing pages.old).told → IsWellFormed (bytes_of (P.standing pages.old).current page) expect.now → IfOk result (IsRightSpot (bytes_of (P.standing pages.old).current page) expect.now key) }
+    requires known { IsTrue (P.standing pages.old).told
+        → count ≡ entry_count (bytes_of (P.standing pages.old).current page) }
+    ensures spot { IsTrue (P.standing pages.old).told
+        → IsWellFormed (bytes_of (P.standing pages.old).current page) expect.now
+        → IfOk result (IsRightSpot (bytes_of (P.standing pages.old).current page) expect.now key) }
     ensures safe { IfOk result (IsSafeAnswer expect.now key) }
     ensures cause { HasCause Never (P.standing pages.old) (P.standing pages.new) result }
     ensures call { PagesCall P.Pages pages.old pages.new result }
     ensures reads { OnOk result (ReadsPage page (P.standing pages.old) (P.standing pages.new)) }
-    ensures lines { IsTrue (P.standing pages.old).told → IsWellFormed (bytes_of (P.standing pages.old).current page) expect.now → OnOk result (AddsLines (Probes (row_probe (bytes_of (P.standing pages.old).current page)) count count) (P.standing pages.old) (P.standing pages.new)) }
+    ensures lines { IsTrue (P.standing pages.old).told
+        → IsWellFormed (bytes_of (P.standing pages.old).current page) expect.now
+        → OnOk result
+        (AddsLines (Probes (row_probe (bytes_of (P.standing pages.old).current page)) count count)
+        (P.standing pages.old) (P.standing pages.new)) }
     ensures bound { OnOk result (Costs 30 (P.standing pages.old) (P.standing pages.new)) }
     ensures again { (P.standing pages.new).visits ≤ (P.standing pages.old).visits }
 {
@@ -193,13 +217,19 @@ fn probe_children<P: Pages>(
     requires inner { 1 ≤ expect.now.level }
     requires some { 2 ≤ count }
     requires few { count ≤ 240 }
-    requires known { IsTrue (P.standing pages.old).told → count ≡ entry_count (bytes_of (P.standing pages.old).current page) }
-    ensures spot { IsTrue (P.standing pages.old).told → IsWellFormed (bytes_of (P.standing pages.old).current page) expect.now → IfOk result (IsRightSpot (bytes_of (P.standing pages.old).current page) expect.now key) }
+    requires known { IsTrue (P.standing pages.old).told
+        → count ≡ entry_count (bytes_of (P.standing pages.old).current page) }
+    ensures spot { IsTrue (P.standing pages.old).told
+        → IsWellFormed (bytes_of (P.standing pages.old).current page) expect.now
+        → IfOk result (IsRightSpot (bytes_of (P.standing pages.old).current page) expect.now key) }
     ensures safe { IfOk result (IsSafeAnswer expect.now key) }
     ensures cause { HasCause Never (P.standing pages.old) (P.standing pages.new) result }
     ensures call { PagesCall P.Pages pages.old pages.new result }
     ensures reads { OnOk result (ReadsPage page (P.standing pages.old) (P.standing pages.new)) }
-    ensures lines { IsTrue (P.standing pages.old).told → IsWellFormed (bytes_of (P.standing pages.old).current page) expect.now → OnOk result (AddsLines (ProbesChildren (bytes_of (P.standing pages.old).current page)) (P.standing pages.old) (P.standing pages.new)) }
+    ensures lines { IsTrue (P.standing pages.old).told
+        → IsWellFormed (bytes_of (P.standing pages.old).current page) expect.now
+        → OnOk result (AddsLines (ProbesChildren (bytes_of (P.standing pages.old).current page))
+        (P.standing pages.old) (P.standing pages.new)) }
     ensures bound { OnOk result (Costs 9 (P.standing pages.old) (P.standing pages.new)) }
     ensures again { (P.standing pages.new).visits ≤ (P.standing pages.old).visits }
 {

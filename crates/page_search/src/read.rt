@@ -28,17 +28,25 @@ pub fn read_page<P: Pages>(
     // what the page is
     ensures well { OnOk result (IsWellFormed work.new.page expect.now) }
     ensures size { OnOk result (length work.new.page ≡ 4096) }
-    ensures bytes { IsTrue (P.standing pages.old).told → OnOk result (work.new.page ≡ bytes_of (P.standing pages.old).current page) }
-    ensures damage { IsTrue (P.standing pages.old).told → IfErr result (ShowsDamage page expect.now (bytes_of (P.standing pages.old).current page)) }
+    ensures bytes { IsTrue (P.standing pages.old).told
+        → OnOk result (work.new.page ≡ bytes_of (P.standing pages.old).current page) }
+    ensures damage { IsTrue (P.standing pages.old).told
+        → IfErr result
+        (ShowsDamage page expect.now (bytes_of (P.standing pages.old).current page)) }
     ensures shown { ShownCause P.Pages pages.old pages.new page expect.now work.new.page result }
-    ensures cause { FitsEvidence (P.standing pages.old).count expect.now → NodeCause P.Pages pages.old pages.new work.new.page result }
-    ensures fails { FitsEvidence (P.standing pages.old).count expect.now → IfErr result (Keeps (FailsNode (P.standing pages.old).count work.new.page)) }
+    ensures cause { FitsEvidence (P.standing pages.old).count expect.now
+        → NodeCause P.Pages pages.old pages.new work.new.page result }
+    ensures fails { FitsEvidence (P.standing pages.old).count expect.now
+        → IfErr result (Keeps (FailsNode (P.standing pages.old).count work.new.page)) }
     ensures unchanged { IfErr result (Unchanged (P.standing pages.old) (P.standing pages.new)) }
     // what stays
     ensures call { PagesCall P.Pages pages.old pages.new result }
-    ensures reads { UnlessFault result (ReadsPage page (P.standing pages.old) (P.standing pages.new)) }
-    ensures lines { OnOk result (AddsLines (λ lines. lines ≡ lines_from 0 64) (P.standing pages.old) (P.standing pages.new)) }
-    ensures again { begins (P.standing pages.old).access page false ≡ false → (P.standing pages.new).visits ≤ (P.standing pages.old).visits }
+    ensures reads { UnlessFault result
+        (ReadsPage page (P.standing pages.old) (P.standing pages.new)) }
+    ensures lines { OnOk result (AddsLines (λ lines. lines ≡ lines_from 0 64) (P.standing pages.old)
+        (P.standing pages.new)) }
+    ensures again { begins (P.standing pages.old).access page false ≡ false
+        → (P.standing pages.new).visits ≤ (P.standing pages.old).visits }
     ensures few { (P.standing pages.new).visits ≤ (P.standing pages.old).visits + 1 }
     ensures others { KeepsOthers work.old work.new }
 {

@@ -32,22 +32,39 @@ pub fn find<P: Pages>(
     requires above { expect.now.low ≤ key }
     requires within { key ≤ expect.now.high }
     // what is found
-    ensures spot { IsTrue (P.standing pages.old).told → IsWellFormed (bytes_of (P.standing pages.old).current page) expect.now → IfOk result (IsSpot (bytes_of (P.standing pages.old).current page) expect.now key) }
-    ensures level { IsTrue (P.standing pages.old).told → OnOk result (page_level (bytes_of (P.standing pages.old).current page) ≡ expect.now.level) }
+    ensures spot { IsTrue (P.standing pages.old).told
+        → IsWellFormed (bytes_of (P.standing pages.old).current page) expect.now
+        → IfOk result (IsSpot (bytes_of (P.standing pages.old).current page) expect.now key) }
+    ensures level { IsTrue (P.standing pages.old).told
+        → OnOk result (page_level (bytes_of (P.standing pages.old).current page)
+        ≡ expect.now.level) }
     ensures safe { IfOk result (IsSafeSpot expect.now key) }
-    ensures damage { IsTrue (P.standing pages.old).told → IfErr result (ShowsDamage page expect.now (bytes_of (P.standing pages.old).current page)) }
+    ensures damage { IsTrue (P.standing pages.old).told
+        → IfErr result
+        (ShowsDamage page expect.now (bytes_of (P.standing pages.old).current page)) }
     ensures shown { ShownCause P.Pages pages.old pages.new page expect.now work.new.page result }
-    ensures cause { FitsEvidence (P.standing pages.old).count expect.now → NodeCause P.Pages pages.old pages.new work.new.page result }
-    ensures fails { FitsEvidence (P.standing pages.old).count expect.now → IfErr result (Keeps (FailsNode (P.standing pages.old).count work.new.page)) }
+    ensures cause { FitsEvidence (P.standing pages.old).count expect.now
+        → NodeCause P.Pages pages.old pages.new work.new.page result }
+    ensures fails { FitsEvidence (P.standing pages.old).count expect.now
+        → IfErr result (Keeps (FailsNode (P.standing pages.old).count work.new.page)) }
     ensures unchanged { IfErr result (Unchanged (P.standing pages.old) (P.standing pages.new)) }
     // what is read of a page that is well formed
-    ensures lines { IsTrue (P.standing pages.old).told → IsWellFormed (bytes_of (P.standing pages.old).current page) expect.now → OnOk result (AddsLines (Searches expect.now.level (bytes_of (P.standing pages.old).current page)) (P.standing pages.old) (P.standing pages.new)) }
-    ensures cost { IsTrue (P.standing pages.old).told → IsWellFormed (bytes_of (P.standing pages.old).current page) expect.now → OnOk result (Costs (search_lines expect.now.level) (P.standing pages.old) (P.standing pages.new)) }
+    ensures lines { IsTrue (P.standing pages.old).told
+        → IsWellFormed (bytes_of (P.standing pages.old).current page) expect.now
+        → OnOk result
+        (AddsLines (Searches expect.now.level (bytes_of (P.standing pages.old).current page))
+        (P.standing pages.old) (P.standing pages.new)) }
+    ensures cost { IsTrue (P.standing pages.old).told
+        → IsWellFormed (bytes_of (P.standing pages.old).current page) expect.now
+        → OnOk result (Costs (search_lines expect.now.level) (P.standing pages.old)
+        (P.standing pages.new)) }
     // what is read of any page
-    ensures bound { OnOk result (Costs (most_lines expect.now.level + 64) (P.standing pages.old) (P.standing pages.new)) }
+    ensures bound { OnOk result (Costs (most_lines expect.now.level + 64) (P.standing pages.old)
+        (P.standing pages.new)) }
     // what stays
     ensures call { PagesCall P.Pages pages.old pages.new result }
-    ensures reads { UnlessFault result (ReadsPage page (P.standing pages.old) (P.standing pages.new)) }
+    ensures reads { UnlessFault result
+        (ReadsPage page (P.standing pages.old) (P.standing pages.new)) }
     ensures few { (P.standing pages.new).visits ≤ (P.standing pages.old).visits + 1 }
     ensures others { KeepsOthers work.old work.new }
 {
@@ -69,18 +86,28 @@ fn find_whole<P: Pages>(
     requires page { page < (P.standing pages.old).count }
     requires above { expect.now.low ≤ key }
     requires within { key ≤ expect.now.high }
-    ensures spot { IsTrue (P.standing pages.old).told → IfOk result (IsSpot (bytes_of (P.standing pages.old).current page) expect.now key) }
-    ensures level { IsTrue (P.standing pages.old).told → OnOk result (page_level (bytes_of (P.standing pages.old).current page) ≡ expect.now.level) }
+    ensures spot { IsTrue (P.standing pages.old).told
+        → IfOk result (IsSpot (bytes_of (P.standing pages.old).current page) expect.now key) }
+    ensures level { IsTrue (P.standing pages.old).told
+        → OnOk result (page_level (bytes_of (P.standing pages.old).current page)
+        ≡ expect.now.level) }
     ensures safe { IfOk result (IsSafeSpot expect.now key) }
-    ensures damage { IsTrue (P.standing pages.old).told → IfErr result (ShowsDamage page expect.now (bytes_of (P.standing pages.old).current page)) }
+    ensures damage { IsTrue (P.standing pages.old).told
+        → IfErr result
+        (ShowsDamage page expect.now (bytes_of (P.standing pages.old).current page)) }
     ensures shown { ShownCause P.Pages pages.old pages.new page expect.now work.new.page result }
-    ensures cause { FitsEvidence (P.standing pages.old).count expect.now → NodeCause P.Pages pages.old pages.new work.new.page result }
-    ensures fails { FitsEvidence (P.standing pages.old).count expect.now → IfErr result (Keeps (FailsNode (P.standing pages.old).count work.new.page)) }
+    ensures cause { FitsEvidence (P.standing pages.old).count expect.now
+        → NodeCause P.Pages pages.old pages.new work.new.page result }
+    ensures fails { FitsEvidence (P.standing pages.old).count expect.now
+        → IfErr result (Keeps (FailsNode (P.standing pages.old).count work.new.page)) }
     ensures unchanged { IfErr result (Unchanged (P.standing pages.old) (P.standing pages.new)) }
     ensures call { PagesCall P.Pages pages.old pages.new result }
-    ensures reads { UnlessFault result (ReadsPage page (P.standing pages.old) (P.standing pages.new)) }
-    ensures lines { OnOk result (AddsLines (λ lines. lines ≡ lines_from 0 64) (P.standing pages.old) (P.standing pages.new)) }
-    ensures again { begins (P.standing pages.old).access page false ≡ false → (P.standing pages.new).visits ≤ (P.standing pages.old).visits }
+    ensures reads { UnlessFault result
+        (ReadsPage page (P.standing pages.old) (P.standing pages.new)) }
+    ensures lines { OnOk result (AddsLines (λ lines. lines ≡ lines_from 0 64) (P.standing pages.old)
+        (P.standing pages.new)) }
+    ensures again { begins (P.standing pages.old).access page false ≡ false
+        → (P.standing pages.new).visits ≤ (P.standing pages.old).visits }
     ensures others { KeepsOthers work.old work.new }
 {
     read_page(pages, page, expect, work)?;

@@ -1,5 +1,5 @@
 -- A look-up of a key in a table.
-use Rattle.std.proofs.Common.{Bool, Ok, Err, ◌≡◌, ◌≢◌, ℕ, ◌+◌, inl, inr, true, false, not, List, [], ◌∷◌, ◌++◌, map, length, refl, sym, ap, subst, ◌∙◌, arith, None, Option, Some, Result, IfOk, IfErr, OnOk, nat_eq}
+use Rattle.std.proofs.Common.{Bool, Ok, Err, ◌≡◌, ◌≢◌, ℕ, zero, suc, ◌+◌, ◌-◌, ◌≤◌, cond, length-append, inl, inr, true, false, not, List, [], ◌∷◌, ◌++◌, map, length, refl, sym, ap, subst, ◌∙◌, arith, None, Option, Some, Result, IfOk, IfErr, OnOk, nat_eq}
 use Rattle.std.proofs.lemmas.Bool.{cases_Bool, ne_eqb, and_left}
 use Rattle.line_pages.specs.declared.stop.Stop.{Stop}
 use Rattle.line_pages.specs.Lines.{Lines}
@@ -8,17 +8,20 @@ use Rattle.line_pages.specs.Standing.{Standing, ReadsPage, AddsReads}
 use Rattle.line_pages.proofs.TouchLaws.{accesses_from-begun}
 use Rattle.line_pages.proofs.StandingLaws.{page_adds, AddsReads-trans}
 use Rattle.rows.specs.Rows.{Row}
-use Rattle.tree_search.specs.Tree.{IsRooted}
-use Rattle.tree_search.specs.Way.{IsPath}
+use Rattle.line_pages.specs.Bytes.{bytes_of}
+use Rattle.page_format.specs.Node.{children}
+use Rattle.tree_search.specs.Tree.{IsRooted, path, child_for}
+use Rattle.tree_search.proofs.OpenReads.{some_adds}
+use Rattle.tree_search.specs.Way.{IsPath, ReadsPath}
 use Rattle.page_alloc.specs.Stops.{IsFault}
 use Rattle.tree_search.proofs.SearchLaws.{on_ok, from_ok}
 use Rattle.rows.specs.declared.limits.Limits.{Limits}
 use Rattle.table_catalog.specs.declared.entry.Place.{Place}
-use Rattle.table_catalog.specs.Catalog.{entries, tables, place_of, entry_rows, entry_pages, FitsEntry}
+use Rattle.table_catalog.specs.Catalog.{entries, tables, place_of, lookup_touches, entry_rows, entry_pages, FitsEntry}
 use Rattle.table_store.specs.Changed.{root_at}
 use Rattle.table_catalog.specs.Stored.{IsStore}
 use Rattle.rows.specs.Tables.{rows_of}
-use Rattle.table_store.specs.Getting.{IsLookup, place_levels, place_path}
+use Rattle.table_store.specs.Getting.{IsLookup, ReadsTable, place_levels, place_path}
 use Rattle.table_catalog.proofs.TableLaws.{rooted, rows_by}
 
 -- the answers at a name that no table has, and at one that a table has
@@ -114,3 +117,38 @@ way_some limits name key place s0 s1 s2 result is fits closed count same first w
           ∙ ap (λ (all : Lines). map (λ p. (p, false)) (place_path all key (Some place))) same
           ∙ sym (ap (λ o. map (λ p. (p, false)) (place_path old key o)) is);
     }
+
+-- a look-up of a name touches a line at least
+pub lookup_more : {A : Type 0} (name : List ℕ) (old new : Standing A) → new.touches ≡ old.touches ++ lookup_touches old.access old.current name → length old.touches + 1 ≤ length new.touches
+lookup_more name old new lines = omega (arith, ap length lines, length-append old.touches (lookup_touches old.access old.current name))
+
+path_first : (lines : Lines) (level page key : ℕ) → (rest : List ℕ) × (path lines level page key ≡ page ∷ rest)
+path_first lines zero page key = ([], refl)
+path_first lines (suc level) page key = (path lines level (child_for key 0 (children (bytes_of lines page))) key, refl)
+
+-- whatever access is open: page 0, and then the key's path
+pub table_none : {A : Type 0} (name : List ℕ) (key : ℕ) (old new : Standing A) → place_of name 0 (entries old.current) ≡ None → length old.touches + 1 ≤ length new.touches → ReadsPage 0 old new → AddsReads (ReadsTable old.current name key) old new
+table_none name key old new none more reads =
+    let a = some_adds reads more in
+    with_fact a (a.fact ∙ sym (ap (λ o. (0, false) ∷ map (λ p. (p, false)) (place_path old.current key o)) none))
+
+pub table_some : {A T : Type 0} (limits : Limits) (name : List ℕ) (key : ℕ) (place : Place) (s0 s1 s2 : Standing A) (result : Result T Stop)
+    → place_of name 0 (entries s0.current) ≡ Some place → FitsEntry limits s0.count place.entry → length s0.touches + 1 ≤ length s1.touches → s1.count ≡ s0.count → s1.current ≡ s0.current → ReadsPage 0 s0 s1
+    → ((rows : List Row) (used : List ℕ) → IsRooted s1.count s1.current (root_at place) rows used → OnOk result (AddsReads (ReadsPath s1.current (root_at place) key) s1 s2))
+    → IsStore limits s0.count s0.current → OnOk result (AddsReads (ReadsTable s0.current name key) s0 s2)
+table_some limits name key place s0 s1 s2 result is fits more count same first reads store =
+    on_ok result (λ v is_ok.
+    let second : AddsReads (ReadsPath s1.current (root_at place) key) s1 s2 =
+    from_ok is_ok (reads (entry_rows s0.current place.entry) (entry_pages s0.current place.entry) (rooted_now limits s0.count s1.count s0.current s1.current name place count same store is fits)) in
+    AddsReads-trans (λ x y one way. joined name key place s0.current s1.current x y is same (λ e. omega (arith, e, fits.some_page)) one way) (some_adds first more) second)
+  where
+    joined : (name : List ℕ) (key : ℕ) (place : Place) (old now : Lines) (x y : List Access) → place_of name 0 (entries old) ≡ Some place → now ≡ old → 0 ≢ place.entry.root → x ≡ (0, false) ∷ []
+        → ReadsPath now (root_at place) key y → ReadsTable old name key (x ++ begun_from (last_from None x) y)
+    joined name key place old now x y is same other one way =
+        let f = path_first now (place.entry.levels - 1) place.entry.root key in
+        let begins_y : y ≡ (place.entry.root, false) ∷ map (λ p. (p, false)) f.0 = way ∙ ap (λ l. map (λ p. (p, false)) l) f.1 in
+        let apart : begins (Some (0, false)) place.entry.root false ≡ true = ap not (and_left (nat_eq 0 place.entry.root) true (ne_eqb 0 place.entry.root other)) in
+        let goes : begun_from (Some (0, false)) y ≡ y =
+        ap (begun_from (Some (0, false))) begins_y ∙ ap (λ b. cond b ((place.entry.root, false) ∷ map (λ p. (p, false)) f.0) (map (λ p. (p, false)) f.0)) apart ∙ sym begins_y in
+        ap (λ l. l ++ begun_from (last_from None l) y) one ∙ ap (λ l. (0, false) ∷ l) (goes ∙ way ∙ ap (λ (all : Lines). map (λ p. (p, false)) (place_path all key (Some place))) same)
+        ∙ sym (ap (λ o. (0, false) ∷ map (λ p. (p, false)) (place_path old key o)) is)

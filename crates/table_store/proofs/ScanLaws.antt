@@ -1,11 +1,12 @@
 -- The reads of a search for the next row of a table.
-use Rattle.std.proofs.Common.{◌≡◌, ℕ, false, List, [], ◌∷◌, ◌++◌, None, Some, Option, Result, OnOk, inl, inr, sym, ap, subst}
+use Rattle.std.proofs.Common.{◌≡◌, ℕ, ◌+◌, ◌≤◌, length, false, List, [], ◌∷◌, ◌++◌, None, Some, Option, Result, OnOk, inl, inr, sym, ap, subst}
 use Rattle.std.proofs.lemmas.Bool.{cases_Bool}
 use Rattle.line_pages.specs.declared.stop.Stop.{Stop}
 use Rattle.line_pages.specs.Lines.{Lines}
 use Rattle.line_pages.specs.Touch.{Access, begins, begun_from, last_from}
 use Rattle.line_pages.specs.Standing.{Standing, ReadsPage, AddsReads}
-use Rattle.line_pages.proofs.StandingLaws.{page_adds, AddsReads-trans}
+use Rattle.line_pages.proofs.StandingLaws.{AddsReads-trans}
+use Rattle.tree_search.proofs.OpenReads.{some_adds}
 use Rattle.rows.specs.Rows.{Row, Each}
 use Rattle.tree_search.specs.Tree.{IsRooted}
 use Rattle.tree_search.specs.Way.{AreReadsIn}
@@ -19,9 +20,9 @@ use Rattle.table_store.specs.Scanning.{place_pages, IsScan}
 use Rattle.table_store.proofs.LookupLaws.{rooted_now, with_fact}
 
 -- a name that no table has: page 0 alone
-pub scan_none : {A : Type 0} (name : List ℕ) (old new : Standing A) → old.access ≡ None → ReadsPage 0 old new → AddsReads (IsScan old.current name) old new
-scan_none name old new closed reads =
-    let a = page_adds reads (ap (λ o. begins o 0 false) closed) in
+pub scan_none : {A : Type 0} (name : List ℕ) (old new : Standing A) → ReadsPage 0 old new → length old.touches + 1 ≤ length new.touches → AddsReads (IsScan old.current name) old new
+scan_none name old new reads more =
+    let a = some_adds reads more in
     with_fact a (record { rest = []; begins = a.fact; pages = tt })
 
 -- accesses that go on in an open one are fewer
@@ -31,14 +32,14 @@ fewer_begun P access (a ∷ rest) each = elim (cases_Bool (begins access a.0 a.1
 
 -- page 0, and then pages of the table's tree
 pub scan_some : {A T : Type 0} (limits : Limits) (name : List ℕ) (place : Place) (s0 s1 s2 : Standing A) (result : Result T Stop)
-    → place_of name 0 (entries s0.current) ≡ Some place → FitsEntry limits s0.count place.entry → s0.access ≡ None → s1.count ≡ s0.count → s1.current ≡ s0.current → ReadsPage 0 s0 s1
+    → place_of name 0 (entries s0.current) ≡ Some place → FitsEntry limits s0.count place.entry → length s0.touches + 1 ≤ length s1.touches → s1.count ≡ s0.count → s1.current ≡ s0.current → ReadsPage 0 s0 s1
     → ((rows : List Row) (used : List ℕ) → IsRooted s1.count s1.current (root_at place) rows used → OnOk result (AddsReads (AreReadsIn used) s1 s2))
     → IsStore limits s0.count s0.current → OnOk result (AddsReads (IsScan s0.current name) s0 s2)
-scan_some limits name place s0 s1 s2 result is fits closed count same first reads store =
+scan_some limits name place s0 s1 s2 result is fits more count same first reads store =
     on_ok result (λ v is_ok.
     let used = entry_pages s0.current place.entry in
     let second : AddsReads (AreReadsIn used) s1 s2 = from_ok is_ok (reads (entry_rows s0.current place.entry) used (rooted_now limits s0.count s1.count s0.current s1.current name place count same store is fits)) in
-    AddsReads-trans (λ x y one each. joined name place s0.current x y is one each) (page_adds first (ap (λ o. begins o 0 false) closed)) second)
+    AddsReads-trans (λ x y one each. joined name place s0.current x y is one each) (some_adds first more) second)
   where
     joined : (name : List ℕ) (place : Place) (lines : Lines) (x y : List Access) → place_of name 0 (entries lines) ≡ Some place → x ≡ (0, false) ∷ [] → AreReadsIn (entry_pages lines place.entry) y
         → IsScan lines name (x ++ begun_from (last_from None x) y)

@@ -30,6 +30,10 @@ pub record IsLookup (limits : Limits) (count : ℕ) (lines : Lines) (name : List
   pub levels : length rest ≡ place_levels (place_of name 0 (entries lines))
   pub pages : IsStore limits count lines → rest ≡ map (λ p. (p, false)) (place_path lines key (place_of name 0 (entries lines)))
 
+-- one access to page 0, and then to each page of the key's path, in order
+abbrev pub ReadsTable : Lines → List ℕ → ℕ → List Access → Type 0
+ReadsTable lines name key begun = begun ≡ (0, false) ∷ map (λ p. (p, false)) (place_path lines key (place_of name 0 (entries lines)))
+
 -- The evidence shows damage of the catalog or of a page of a tree.
 abbrev pub IsLookupDamage : Limits → ℕ → Lines → List ℕ → Evidence → Type 0
 IsLookupDamage limits count lines buffer evidence = IsCatalogDamage limits count lines buffer evidence ⊎ IsNodeDamage count lines buffer evidence

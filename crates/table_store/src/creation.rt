@@ -59,7 +59,9 @@ fn write_entry<P: Pages>(pages: &mut P, header: Line, line: &Line, at: u64) -> R
     requires at { at < 62 }
     requires some { 1 ≤ (P.standing pages.old).count }
     requires room { 2 ≤ (P.standing pages.old).room }
-    ensures after { IsTrue (P.standing pages.old).told → OnOk result ((P.standing pages.new).current ≡ with_line 0 0 (with_word 1 (at + 1) header) (with_line 0 (2 + at) line.now (P.standing pages.old).current)) }
+    ensures after { IsTrue (P.standing pages.old).told
+        → OnOk result ((P.standing pages.new).current ≡ with_line 0 0 (with_word 1 (at + 1) header)
+        (with_line 0 (2 + at) line.now (P.standing pages.old).current)) }
     ensures cause { HasCause Never (P.standing pages.old) (P.standing pages.new) result }
     ensures call { PagesCall P.Pages pages.old pages.new result }
     ensures room { OnOk result ((P.standing pages.old).room ≤ (P.standing pages.new).room + 2) }
@@ -77,7 +79,9 @@ fn write_table<P: Pages>(pages: &mut P, name: &Name, page: u64, at: u64) -> Resu
     requires at { at < 62 }
     requires page { page < (P.standing pages.old).count }
     requires room { 3 ≤ (P.standing pages.old).room }
-    ensures after { IsTrue (P.standing pages.old).told → OnOk result (Written (P.standing pages.old).current (P.standing pages.new).current name.now page at) }
+    ensures after { IsTrue (P.standing pages.old).told
+        → OnOk result
+        (Written (P.standing pages.old).current (P.standing pages.new).current name.now page at) }
     ensures cause { HasCause Never (P.standing pages.old) (P.standing pages.new) result }
     ensures call { PagesCall P.Pages pages.old pages.new result }
     ensures room { OnOk result ((P.standing pages.old).room ≤ (P.standing pages.new).room + 3) }
@@ -97,10 +101,15 @@ fn write_table<P: Pages>(pages: &mut P, name: &Name, page: u64, at: u64) -> Resu
 fn take_one<P: Pages>(pages: &mut P, _limits: &Limits, work: &mut Work) -> Result<u64, Stop>
     requires ready { P.is_ready pages.old }
     requires room { 1 ≤ (P.standing pages.old).room }
-    ensures taken { IsTrue (P.standing pages.old).told → IfOk result (Takes (P.standing pages.old).count (P.standing pages.old).current (P.standing pages.new).current) }
+    ensures taken { IsTrue (P.standing pages.old).told
+        → IfOk result (Takes (P.standing pages.old).count (P.standing pages.old).current
+        (P.standing pages.new).current) }
     ensures in_range { IfOk result (λ page. (1 ≤ page) × (page < (P.standing pages.old).count)) }
     ensures room { OnOk result ((P.standing pages.new).room + 1 ≡ (P.standing pages.old).room) }
-    ensures sound { OnStore P.Pages pages.old _limits.now (table_count (P.standing pages.old).current < _limits.now.tables → 1 + _limits.now.tables * (_limits.now.rows / 2 + 8) ≤ (P.standing pages.old).count → IfErr result IsFault) }
+    ensures sound { OnStore P.Pages pages.old _limits.now
+        (table_count (P.standing pages.old).current < _limits.now.tables
+        → 1 + _limits.now.tables * (_limits.now.rows / 2 + 8) ≤ (P.standing pages.old).count
+        → IfErr result IsFault) }
     ensures cause { TakeCause P.Pages pages.old pages.new work.new.page result }
     ensures fails { IfErr result (Keeps (FailsSpace (P.standing pages.old).count work.new.page)) }
     ensures call { PagesCall P.Pages pages.old pages.new result }
@@ -120,8 +129,17 @@ fn add_table<P: Pages>(
     requires ready { P.is_ready pages.old }
     requires at { at < limits.now.tables }
     requires room { 4 ≤ (P.standing pages.old).room }
-    ensures makes { IsTrue (P.standing pages.old).told → at ≡ table_count (P.standing pages.old).current → place_of name.now 0 (entries (P.standing pages.old).current) ≡ None → IsStore limits.now (P.standing pages.old).count (P.standing pages.old).current → OnOk result (Makes limits.now (P.standing pages.old).count (P.standing pages.old).current (P.standing pages.new).current name.now) }
-    ensures sound { IsTrue (P.standing pages.old).told → at ≡ table_count (P.standing pages.old).current → IsStore limits.now (P.standing pages.old).count (P.standing pages.old).current → 1 + limits.now.tables * (limits.now.rows / 2 + 8) ≤ (P.standing pages.old).count → IfErr result IsFault }
+    ensures makes { IsTrue (P.standing pages.old).told
+        → at ≡ table_count (P.standing pages.old).current
+        → place_of name.now 0 (entries (P.standing pages.old).current) ≡ None
+        → IsStore limits.now (P.standing pages.old).count (P.standing pages.old).current
+        → OnOk result (Makes limits.now (P.standing pages.old).count (P.standing pages.old).current
+        (P.standing pages.new).current name.now) }
+    ensures sound { IsTrue (P.standing pages.old).told
+        → at ≡ table_count (P.standing pages.old).current
+        → IsStore limits.now (P.standing pages.old).count (P.standing pages.old).current
+        → 1 + limits.now.tables * (limits.now.rows / 2 + 8) ≤ (P.standing pages.old).count
+        → IfErr result IsFault }
     ensures cause { TakeCause P.Pages pages.old pages.new work.new.page result }
     ensures fails { IfErr result (Keeps (FailsSpace (P.standing pages.old).count work.new.page)) }
     ensures call { PagesCall P.Pages pages.old pages.new result }
@@ -141,14 +159,19 @@ fn find_slot<P: Pages>(
     work: &mut Work,
 ) -> Result<Option<u64>, Stop>
     requires ready { P.is_ready pages.old }
-    ensures slot { IsTrue (P.standing pages.old).told → IfOk result (IsSlot (P.standing pages.old).current name.now) }
+    ensures slot { IsTrue (P.standing pages.old).told
+        → IfOk result (IsSlot (P.standing pages.old).current name.now) }
     ensures at { IfOk result (λ slot. IfSome slot (λ at. at ≤ limits.now.tables)) }
     ensures sound { OnStore P.Pages pages.old limits.now (IfErr result IsFault) }
     ensures cause { CatalogCause P.Pages pages.old pages.new limits.now work.new.page result }
-    ensures fails { IfErr result (Keeps (FailsCatalog limits.now (P.standing pages.old).count work.new.page)) }
+    ensures fails { IfErr result
+        (Keeps (FailsCatalog limits.now (P.standing pages.old).count work.new.page)) }
     ensures call { PagesCall P.Pages pages.old pages.new result }
     ensures reads { OnOk result (ReadsPage 0 (P.standing pages.old) (P.standing pages.new)) }
-    ensures lines { IsTrue (P.standing pages.old).told → OnOk result ((P.standing pages.new).touches ≡ (P.standing pages.old).touches ++ lookup_touches (P.standing pages.old).access (P.standing pages.old).current name.now) }
+    ensures lines { IsTrue (P.standing pages.old).told
+        → OnOk result
+        ((P.standing pages.new).touches ≡ (P.standing pages.old).touches ++ lookup_touches
+        (P.standing pages.old).access (P.standing pages.old).current name.now) }
     ensures few { (P.standing pages.new).visits ≤ (P.standing pages.old).visits + 1 }
 {
     let header = read_catalog(pages, limits, work)?;
@@ -169,9 +192,24 @@ fn create_at<P: Pages>(
     requires ready { P.is_ready pages.old }
     requires at { at ≤ limits.now.tables }
     requires room { 4 ≤ (P.standing pages.old).room }
-    ensures created { IsTrue (P.standing pages.old).told → at ≡ table_count (P.standing pages.old).current → place_of name.now 0 (entries (P.standing pages.old).current) ≡ None → IsStore limits.now (P.standing pages.old).count (P.standing pages.old).current → IfOk result (IsCreated limits.now (P.standing pages.old).count (P.standing pages.old).current (P.standing pages.new).current name.now) }
-    ensures known { IsTrue (P.standing pages.old).told → at ≡ table_count (P.standing pages.old).current → place_of name.now 0 (entries (P.standing pages.old).current) ≡ None → IfOk result (λ answer. answer ≡ created_of limits.now name.now (tables (P.standing pages.old).current)) }
-    ensures sound { IsTrue (P.standing pages.old).told → at ≡ table_count (P.standing pages.old).current → IsStore limits.now (P.standing pages.old).count (P.standing pages.old).current → 1 + limits.now.tables * (limits.now.rows / 2 + 8) ≤ (P.standing pages.old).count → IfErr result IsFault }
+    ensures created { IsTrue (P.standing pages.old).told
+        → at ≡ table_count (P.standing pages.old).current
+        → place_of name.now 0 (entries (P.standing pages.old).current) ≡ None
+        → IsStore limits.now (P.standing pages.old).count (P.standing pages.old).current
+        → IfOk result
+        (IsCreated limits.now (P.standing pages.old).count (P.standing pages.old).current
+        (P.standing pages.new).current name.now) }
+    ensures known { IsTrue (P.standing pages.old).told
+        → at ≡ table_count (P.standing pages.old).current
+        → place_of name.now 0 (entries (P.standing pages.old).current) ≡ None
+        → IfOk result
+        (λ answer. answer ≡ created_of limits.now name.now
+        (tables (P.standing pages.old).current)) }
+    ensures sound { IsTrue (P.standing pages.old).told
+        → at ≡ table_count (P.standing pages.old).current
+        → IsStore limits.now (P.standing pages.old).count (P.standing pages.old).current
+        → 1 + limits.now.tables * (limits.now.rows / 2 + 8) ≤ (P.standing pages.old).count
+        → IfErr result IsFault }
     ensures cause { TakeCause P.Pages pages.old pages.new work.new.page result }
     ensures fails { IfErr result (Keeps (FailsSpace (P.standing pages.old).count work.new.page)) }
     ensures keeps { IfOk result (KeepsUnlessMade (P.standing pages.old) (P.standing pages.new)) }
@@ -197,14 +235,24 @@ pub fn create<P: Pages>(
     requires ready { P.is_ready pages.old }
     requires room { 640 ≤ (P.standing pages.old).room }
     // the answer, and what changes
-    ensures created { OnStore P.Pages pages.old limits.now (IfOk result (IsCreated limits.now (P.standing pages.old).count (P.standing pages.old).current (P.standing pages.new).current name.now)) }
-    ensures known { IsTrue (P.standing pages.old).told → IfOk result (λ answer. answer ≡ created_of limits.now name.now (tables (P.standing pages.old).current)) }
+    ensures created { OnStore P.Pages pages.old limits.now
+        (IfOk result
+        (IsCreated limits.now (P.standing pages.old).count (P.standing pages.old).current
+        (P.standing pages.new).current name.now)) }
+    ensures known { IsTrue (P.standing pages.old).told
+        → IfOk result
+        (λ answer. answer ≡ created_of limits.now name.now
+        (tables (P.standing pages.old).current)) }
     ensures keeps { IfOk result (KeepsUnlessMade (P.standing pages.old) (P.standing pages.new)) }
-    ensures lines { IsTrue (P.standing pages.old).told → OnOk result (LooksUp name.now (P.standing pages.old) (P.standing pages.new)) }
+    ensures lines { IsTrue (P.standing pages.old).told
+        → OnOk result (LooksUp name.now (P.standing pages.old) (P.standing pages.new)) }
     // why it stops
-    ensures sound { OnStore P.Pages pages.old limits.now (1 + limits.now.tables * (limits.now.rows / 2 + 8) ≤ (P.standing pages.old).count → IfErr result IsFault) }
+    ensures sound { OnStore P.Pages pages.old limits.now
+        (1 + limits.now.tables * (limits.now.rows / 2 + 8) ≤ (P.standing pages.old).count
+        → IfErr result IsFault) }
     ensures cause { CreateCause P.Pages pages.old pages.new limits.now work.new.page result }
-    ensures fails { IfErr result (Keeps (FailsCreate limits.now (P.standing pages.old).count work.new.page)) }
+    ensures fails { IfErr result
+        (Keeps (FailsCreate limits.now (P.standing pages.old).count work.new.page)) }
     // what stays
     ensures call { PagesCall P.Pages pages.old pages.new result }
     ensures room { OnOk result ((P.standing pages.old).room ≤ (P.standing pages.new).room + 4) }

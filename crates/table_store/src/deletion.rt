@@ -35,9 +35,20 @@ fn remove_row<P: Pages>(
     requires ready { P.is_ready pages.old }
     requires fits { FitsRoot limits.now (P.standing pages.old).count place.now }
     requires room { 640 ≤ (P.standing pages.old).room }
-    ensures changed { IsTrue (P.standing pages.old).told → (name : List ℕ) → IsStore limits.now (P.standing pages.old).count (P.standing pages.old).current → place_of name 0 (entries (P.standing pages.old).current) ≡ Some place.now → is_some (row_get key (entry_rows (P.standing pages.old).current place.now.entry)) ≡ true → OnOk result (ChangesTable limits.now (P.standing pages.old).count (P.standing pages.old).current (P.standing pages.new).current name (row_delete key)) }
-    ensures counted { IsTrue (P.standing pages.old).told → OnOk result ((entry_of_line ((P.standing pages.new).current 0 (2 + place.now.at))).rows ≡ place.now.entry.rows - 1) }
-    ensures sound { IsTrue (P.standing pages.old).told → (name : List ℕ) → IsStore limits.now (P.standing pages.old).count (P.standing pages.old).current → place_of name 0 (entries (P.standing pages.old).current) ≡ Some place.now → IfErr result IsFault }
+    ensures changed { IsTrue (P.standing pages.old).told → (name : List ℕ)
+        → IsStore limits.now (P.standing pages.old).count (P.standing pages.old).current
+        → place_of name 0 (entries (P.standing pages.old).current) ≡ Some place.now
+        → is_some (row_get key (entry_rows (P.standing pages.old).current place.now.entry)) ≡ true
+        → OnOk result
+        (ChangesTable limits.now (P.standing pages.old).count (P.standing pages.old).current
+        (P.standing pages.new).current name (row_delete key)) }
+    ensures counted { IsTrue (P.standing pages.old).told
+        → OnOk result ((entry_of_line ((P.standing pages.new).current 0 (2 + place.now.at))).rows
+        ≡ place.now.entry.rows - 1) }
+    ensures sound { IsTrue (P.standing pages.old).told → (name : List ℕ)
+        → IsStore limits.now (P.standing pages.old).count (P.standing pages.old).current
+        → place_of name 0 (entries (P.standing pages.old).current) ≡ Some place.now
+        → IfErr result IsFault }
     ensures cause { TreeCause P.Pages pages.old pages.new work.new.page result }
     ensures fails { IfErr result (Keeps (FailsTree (P.standing pages.old).count work.new.page)) }
     ensures call { PagesCall P.Pages pages.old pages.new result }
@@ -61,12 +72,25 @@ fn delete_at<P: Pages>(
     requires ready { P.is_ready pages.old }
     requires fits { FitsRoot limits.now (P.standing pages.old).count place.now }
     requires room { 640 ≤ (P.standing pages.old).room }
-    ensures answer { IsTrue (P.standing pages.old).told → (name : List ℕ) → IsStore limits.now (P.standing pages.old).count (P.standing pages.old).current → place_of name 0 (entries (P.standing pages.old).current) ≡ Some place.now → IfOk result (λ answer. answer ≡ deleted_of key (rows_of name (tables (P.standing pages.old).current))) }
-    ensures changed { IsTrue (P.standing pages.old).told → (name : List ℕ) → IsStore limits.now (P.standing pages.old).count (P.standing pages.old).current → place_of name 0 (entries (P.standing pages.old).current) ≡ Some place.now → IfOk result (DeletesIfDone limits.now (P.standing pages.old).count (P.standing pages.old).current (P.standing pages.new).current name key) }
-    ensures counted { IsTrue (P.standing pages.old).told → IfOk result (CountsIfDone (P.standing pages.new).current place.now) }
+    ensures answer { IsTrue (P.standing pages.old).told → (name : List ℕ)
+        → IsStore limits.now (P.standing pages.old).count (P.standing pages.old).current
+        → place_of name 0 (entries (P.standing pages.old).current) ≡ Some place.now
+        → IfOk result
+        (λ answer. answer ≡ deleted_of key (rows_of name (tables (P.standing pages.old).current))) }
+    ensures changed { IsTrue (P.standing pages.old).told → (name : List ℕ)
+        → IsStore limits.now (P.standing pages.old).count (P.standing pages.old).current
+        → place_of name 0 (entries (P.standing pages.old).current) ≡ Some place.now
+        → IfOk result
+        (DeletesIfDone limits.now (P.standing pages.old).count (P.standing pages.old).current
+        (P.standing pages.new).current name key) }
+    ensures counted { IsTrue (P.standing pages.old).told
+        → IfOk result (CountsIfDone (P.standing pages.new).current place.now) }
     ensures named { IfOk result (λ answer. is_no_table answer ≡ false) }
     ensures keeps { IfOk result (KeepsUnlessDone (P.standing pages.old) (P.standing pages.new)) }
-    ensures sound { IsTrue (P.standing pages.old).told → (name : List ℕ) → IsStore limits.now (P.standing pages.old).count (P.standing pages.old).current → place_of name 0 (entries (P.standing pages.old).current) ≡ Some place.now → IfErr result IsFault }
+    ensures sound { IsTrue (P.standing pages.old).told → (name : List ℕ)
+        → IsStore limits.now (P.standing pages.old).count (P.standing pages.old).current
+        → place_of name 0 (entries (P.standing pages.old).current) ≡ Some place.now
+        → IfErr result IsFault }
     ensures cause { TreeCause P.Pages pages.old pages.new work.new.page result }
     ensures fails { IfErr result (Keeps (FailsTree (P.standing pages.old).count work.new.page)) }
     ensures call { PagesCall P.Pages pages.old pages.new result }
@@ -93,16 +117,30 @@ pub fn delete<P: Pages>(
     requires ready { P.is_ready pages.old }
     requires room { 640 ≤ (P.standing pages.old).room }
     // the answer, and what changes
-    ensures answer { OnStore P.Pages pages.old limits.now (IfOk result (λ answer. answer ≡ deleted_of key (rows_of name.now (tables (P.standing pages.old).current)))) }
-    ensures known { IsTrue (P.standing pages.old).told → IfOk result (λ answer. is_no_table answer ≡ not (is_known name.now (tables (P.standing pages.old).current))) }
-    ensures changed { OnStore P.Pages pages.old limits.now (IfOk result (DeletesIfDone limits.now (P.standing pages.old).count (P.standing pages.old).current (P.standing pages.new).current name.now key)) }
-    ensures counted { IsTrue (P.standing pages.old).told → IfOk result (λ answer. (place : Place) → place_of name.now 0 (entries (P.standing pages.old).current) ≡ Some place → CountsIfDone (P.standing pages.new).current place answer) }
+    ensures answer { OnStore P.Pages pages.old limits.now
+        (IfOk result
+        (λ answer. answer ≡ deleted_of key
+        (rows_of name.now (tables (P.standing pages.old).current)))) }
+    ensures known { IsTrue (P.standing pages.old).told
+        → IfOk result
+        (λ answer. is_no_table answer
+        ≡ not (is_known name.now (tables (P.standing pages.old).current))) }
+    ensures changed { OnStore P.Pages pages.old limits.now
+        (IfOk result
+        (DeletesIfDone limits.now (P.standing pages.old).count (P.standing pages.old).current
+        (P.standing pages.new).current name.now key)) }
+    ensures counted { IsTrue (P.standing pages.old).told
+        → IfOk result (λ answer. (place : Place)
+        → place_of name.now 0 (entries (P.standing pages.old).current) ≡ Some place
+        → CountsIfDone (P.standing pages.new).current place answer) }
     ensures keeps { IfOk result (KeepsUnlessDone (P.standing pages.old) (P.standing pages.new)) }
-    ensures lines { IsTrue (P.standing pages.old).told → OnOk result (LooksUp name.now (P.standing pages.old) (P.standing pages.new)) }
+    ensures lines { IsTrue (P.standing pages.old).told
+        → OnOk result (LooksUp name.now (P.standing pages.old) (P.standing pages.new)) }
     // why it stops
     ensures sound { OnStore P.Pages pages.old limits.now (IfErr result IsFault) }
     ensures cause { ChangeCause P.Pages pages.old pages.new limits.now work.new.page result }
-    ensures fails { IfErr result (Keeps (FailsChange limits.now (P.standing pages.old).count work.new.page)) }
+    ensures fails { IfErr result
+        (Keeps (FailsChange limits.now (P.standing pages.old).count work.new.page)) }
     // what stays
     ensures call { PagesCall P.Pages pages.old pages.new result }
     ensures room { OnOk result ((P.standing pages.old).room ≤ (P.standing pages.new).room + 601) }

@@ -2,6 +2,7 @@
 ghost use Rattle.std.specs.Prelude.{◌≡◌, ◌+◌, ◌<◌, ◌≤◌, true, is_some, IsTrue, OnOk, IfOk, IfErr};
 ghost use Rattle.bplus_tree.specs.Causes.{TreeCause};
 ghost use Rattle.tree_search.specs.Where.{OnRooted};
+ghost use Rattle.tree_search.specs.Record.{HasValue};
 ghost use Rattle.line_pages.specs.PagesCall.{PagesCall};
 ghost use Rattle.line_pages.specs.Standing.{HasCause, KeepsLines, Never};
 ghost use Rattle.rows.specs.Rows.{row_get};
@@ -14,22 +15,24 @@ ghost use Rattle.table_store.specs.Changed.{root_at, stays_as, Enters};
 
 use line_pages::{Pages, Stop};
 use page_format::Work;
-use rows::{Limits, Value};
+use rows::Limits;
 use table_catalog::{Entry, Place, line_of, root_of};
-use tree_search::{Root, get};
+use tree_search::{Record, Root, seek};
 
-/// The value of a key of a table, with damage in the words of the calls that change a tree.
-fn value_at<P: Pages>(
+/// Finds the record of a key of a table, with damage in the words of the calls that change a tree.
+fn seek_at<P: Pages>(
     pages: &mut P,
     _limits: &Limits,
     place: &Place,
     key: u64,
     work: &mut Work,
-) -> Result<Option<Value>, Stop>
+) -> Result<Option<Record>, Stop>
     requires ready { P.is_ready pages.old }
     requires fits { FitsRoot _limits.now (P.standing pages.old).count place.now }
-    ensures value { OnRooted P.Pages pages.old (root_at place.now) (λ rows used. IfOk result (λ value. value ≡ row_get key rows)) }
-    ensures sound { OnRooted P.Pages pages.old (root_at place.now) (λ rows used. IfErr result IsFault) }
+    ensures value { OnRooted P.Pages pages.old (root_at place.now)
+        (λ rows used. IfOk result (λ found. HasValue work.new.page found (row_get key rows))) }
+    ensures sound { OnRooted P.Pages pages.old (root_at place.now)
+        (λ rows used. IfErr result IsFault) }
     ensures cause { TreeCause P.Pages pages.old pages.new work.new.page result }
     ensures fails { IfErr result (Keeps (FailsTree (P.standing pages.old).count work.new.page)) }
     ensures call { PagesCall P.Pages pages.old pages.new result }
@@ -38,7 +41,7 @@ fn value_at<P: Pages>(
     ensures few { (P.standing pages.new).visits ≤ (P.standing pages.old).visits + 4 }
 {
     let root = root_of(&place.entry);
-    get(pages, &root, key, work)
+    seek(pages, &root, key, work)
 }
 
 /// Whether a table has a row with the key.
@@ -51,8 +54,10 @@ pub(crate) fn has_row<P: Pages>(
 ) -> Result<bool, Stop>
     requires ready { P.is_ready pages.old }
     requires fits { FitsRoot _limits.now (P.standing pages.old).count place.now }
-    ensures found { OnRooted P.Pages pages.old (root_at place.now) (λ rows used. IfOk result (λ found. found ≡ is_some (row_get key rows))) }
-    ensures sound { OnRooted P.Pages pages.old (root_at place.now) (λ rows used. IfErr result IsFault) }
+    ensures found { OnRooted P.Pages pages.old (root_at place.now)
+        (λ rows used. IfOk result (λ found. found ≡ is_some (row_get key rows))) }
+    ensures sound { OnRooted P.Pages pages.old (root_at place.now)
+        (λ rows used. IfErr result IsFault) }
     ensures cause { TreeCause P.Pages pages.old pages.new work.new.page result }
     ensures fails { IfErr result (Keeps (FailsTree (P.standing pages.old).count work.new.page)) }
     ensures call { PagesCall P.Pages pages.old pages.new result }
@@ -60,7 +65,7 @@ pub(crate) fn has_row<P: Pages>(
     ensures nothing { OnOk result (WritesNothing (P.standing pages.old) (P.standing pages.new)) }
     ensures few { (P.standing pages.new).visits ≤ (P.standing pages.old).visits + 4 }
 {
-    match value_at(pages, _limits, place, key, work)? {
+    match seek_at(pages, _limits, place, key, work)? {
         Some(_) => Ok(true),
         None => Ok(false),
     }
@@ -77,7 +82,10 @@ pub(crate) fn write_place<P: Pages>(
     requires at { place.now.at < 62 }
     requires some { 1 ≤ (P.standing pages.old).count }
     requires room { 1 ≤ (P.standing pages.old).room }
-    ensures after { IsTrue (P.standing pages.old).told → OnOk result (Enters (P.standing pages.old).current (P.standing pages.new).current place.now root.now rows) }
+    ensures after { IsTrue (P.standing pages.old).told
+        → OnOk result
+        (Enters (P.standing pages.old).current
+        (P.standing pages.new).current place.now root.now rows) }
     ensures cause { HasCause Never (P.standing pages.old) (P.standing pages.new) result }
     ensures call { PagesCall P.Pages pages.old pages.new result }
     ensures room { OnOk result ((P.standing pages.new).room + 1 ≡ (P.standing pages.old).room) }
@@ -112,8 +120,13 @@ pub(crate) fn update_place<P: Pages>(
     requires at { place.now.at < 62 }
     requires some { 1 ≤ (P.standing pages.old).count }
     requires room { 1 ≤ (P.standing pages.old).room }
-    ensures after { IsTrue (P.standing pages.old).told → entry_of_line ((P.standing pages.old).current 0 (2 + place.now.at)) ≡ place.now.entry → OnOk result (Enters (P.standing pages.old).current (P.standing pages.new).current place.now root.now rows) }
-    ensures unwritten { stays_as place.now root.now rows ≡ true → (P.standing pages.new).touches ≡ (P.standing pages.old).touches }
+    ensures after { IsTrue (P.standing pages.old).told
+        → entry_of_line ((P.standing pages.old).current 0 (2 + place.now.at)) ≡ place.now.entry
+        → OnOk result
+        (Enters (P.standing pages.old).current
+        (P.standing pages.new).current place.now root.now rows) }
+    ensures unwritten { stays_as place.now root.now rows ≡ true
+        → (P.standing pages.new).touches ≡ (P.standing pages.old).touches }
     ensures cause { HasCause Never (P.standing pages.old) (P.standing pages.new) result }
     ensures call { PagesCall P.Pages pages.old pages.new result }
     ensures room { OnOk result ((P.standing pages.old).room ≤ (P.standing pages.new).room + 1) }

@@ -38,8 +38,11 @@ fn next_in<P: Pages>(
     requires page { root.now.page < (P.standing pages.old).count }
     requires some_levels { 1 ≤ root.now.levels }
     requires few_levels { root.now.levels ≤ 4 }
-    ensures row { OnRooted P.Pages pages.old root.now (λ rows used. IfOk result (λ next. next ≡ row_up_to to (row_next from rows))) }
-    ensures touches { OnRooted P.Pages pages.old root.now (λ rows used. OnOk result (AddsReads (AreReadsIn used) (P.standing pages.old) (P.standing pages.new))) }
+    ensures row { OnRooted P.Pages pages.old root.now
+        (λ rows used. IfOk result (λ next. next ≡ row_up_to to (row_next from rows))) }
+    ensures touches { OnRooted P.Pages pages.old root.now
+        (λ rows used.
+        OnOk result (AddsReads (AreReadsIn used) (P.standing pages.old) (P.standing pages.new))) }
     ensures named { IfOk result (λ next. is_no_table next ≡ false) }
     ensures sound { OnRooted P.Pages pages.old root.now (λ rows used. IfErr result IsFault) }
     ensures cause { NodeCause P.Pages pages.old pages.new work.new.page result }
@@ -72,16 +75,29 @@ pub fn scan_next<P: Pages>(
 ) -> Result<Next, Stop>
     requires ready { P.is_ready pages.old }
     // the answer
-    ensures row { OnStore P.Pages pages.old limits.now (IfOk result (λ next. next ≡ next_of from to (rows_of name.now (tables (P.standing pages.old).current)))) }
-    ensures known { IsTrue (P.standing pages.old).told → IfOk result (λ next. is_no_table next ≡ not (is_known name.now (tables (P.standing pages.old).current))) }
+    ensures row { OnStore P.Pages pages.old limits.now
+        (IfOk result
+        (λ next. next ≡ next_of from to
+        (rows_of name.now (tables (P.standing pages.old).current)))) }
+    ensures known { IsTrue (P.standing pages.old).told
+        → IfOk result
+        (λ next. is_no_table next
+        ≡ not (is_known name.now (tables (P.standing pages.old).current))) }
     // why it stops
     ensures sound { OnStore P.Pages pages.old limits.now (IfErr result IsFault) }
     ensures cause { LookupCause P.Pages pages.old pages.new limits.now work.new.page result }
-    ensures fails { IfErr result (Keeps (FailsLookup limits.now (P.standing pages.old).count work.new.page)) }
+    ensures fails { IfErr result
+        (Keeps (FailsLookup limits.now (P.standing pages.old).count work.new.page)) }
     // what is read, and what stays
-    ensures touches { IsTrue (P.standing pages.old).told → (P.standing pages.old).access ≡ None → IsStore limits.now (P.standing pages.old).count (P.standing pages.old).current → OnOk result (AddsReads (IsScan (P.standing pages.old).current name.now) (P.standing pages.old) (P.standing pages.new)) }
-    ensures first { IsTrue (P.standing pages.old).told → OnOk result ((rest : List Touch) × ((P.standing pages.new).touches ≡ (P.standing pages.old).touches ++ touch_of (P.standing pages.old).access 0 0 false ∷ rest)) }
-    ensures lines { IsTrue (P.standing pages.old).told → OnOk result (LooksUp name.now (P.standing pages.old) (P.standing pages.new)) }
+    ensures touches { OnStore P.Pages pages.old limits.now
+        (OnOk result (AddsReads (IsScan (P.standing pages.old).current name.now)
+        (P.standing pages.old) (P.standing pages.new))) }
+    ensures first { IsTrue (P.standing pages.old).told
+        → OnOk result ((rest : List Touch)
+        × ((P.standing pages.new).touches ≡ (P.standing pages.old).touches ++ touch_of
+        (P.standing pages.old).access 0 0 false ∷ rest)) }
+    ensures lines { IsTrue (P.standing pages.old).told
+        → OnOk result (LooksUp name.now (P.standing pages.old) (P.standing pages.new)) }
     ensures keeps { OnOk result (KeepsLines (P.standing pages.old) (P.standing pages.new)) }
     ensures call { PagesCall P.Pages pages.old pages.new result }
     ensures few { (P.standing pages.new).visits ≤ (P.standing pages.old).visits + 23 }

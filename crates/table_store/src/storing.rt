@@ -36,9 +36,14 @@ fn has_room<P: Pages>(
 ) -> Result<bool, Stop>
     requires ready { P.is_ready pages.old }
     requires fits { FitsRoot limits.now (P.standing pages.old).count place.now }
-    ensures room { OnRooted P.Pages pages.old (root_at place.now) (λ rows used. IfOk result (λ room. room ≡ (is_some (row_get key rows) || nat_lt place.now.entry.rows limits.now.rows))) }
-    ensures once { place.now.entry.rows < limits.now.rows → (P.standing pages.new).visits ≤ (P.standing pages.old).visits }
-    ensures sound { OnRooted P.Pages pages.old (root_at place.now) (λ rows used. IfErr result IsFault) }
+    ensures room { OnRooted P.Pages pages.old (root_at place.now)
+        (λ rows used.
+        IfOk result (λ room.
+        room ≡ (is_some (row_get key rows) || nat_lt place.now.entry.rows limits.now.rows))) }
+    ensures once { place.now.entry.rows < limits.now.rows
+        → (P.standing pages.new).visits ≤ (P.standing pages.old).visits }
+    ensures sound { OnRooted P.Pages pages.old (root_at place.now)
+        (λ rows used. IfErr result IsFault) }
     ensures cause { TreeCause P.Pages pages.old pages.new work.new.page result }
     ensures fails { IfErr result (Keeps (FailsTree (P.standing pages.old).count work.new.page)) }
     ensures call { PagesCall P.Pages pages.old pages.new result }
@@ -73,9 +78,24 @@ fn store_row<P: Pages>(
     requires ready { P.is_ready pages.old }
     requires fits { FitsRoot limits.now (P.standing pages.old).count place.now }
     requires room { 640 ≤ (P.standing pages.old).room }
-    ensures changed { IsTrue (P.standing pages.old).told → (name : List ℕ) → IsStore limits.now (P.standing pages.old).count (P.standing pages.old).current → place_of name 0 (entries (P.standing pages.old).current) ≡ Some place.now → (is_some (row_get key (entry_rows (P.standing pages.old).current place.now.entry)) ≡ false → place.now.entry.rows + 1 ≤ limits.now.rows) → OnOk result (ChangesTable limits.now (P.standing pages.old).count (P.standing pages.old).current (P.standing pages.new).current name (row_put key value.now)) }
-    ensures again { IsTrue (P.standing pages.old).told → OnOk result (PutsRecord (root_at place.now) key (length value.now) (P.standing pages.old) (P.standing pages.new)) }
-    ensures sound { IsTrue (P.standing pages.old).told → (name : List ℕ) → IsStore limits.now (P.standing pages.old).count (P.standing pages.old).current → place_of name 0 (entries (P.standing pages.old).current) ≡ Some place.now → (is_some (row_get key (entry_rows (P.standing pages.old).current place.now.entry)) ≡ false → place.now.entry.rows + 1 ≤ limits.now.rows) → 1 + limits.now.tables * (limits.now.rows / 2 + 8) ≤ (P.standing pages.old).count → IfErr result IsFault }
+    ensures changed { IsTrue (P.standing pages.old).told → (name : List ℕ)
+        → IsStore limits.now (P.standing pages.old).count (P.standing pages.old).current
+        → place_of name 0 (entries (P.standing pages.old).current) ≡ Some place.now
+        → (is_some (row_get key (entry_rows (P.standing pages.old).current place.now.entry)) ≡ false
+        → place.now.entry.rows + 1 ≤ limits.now.rows)
+        → OnOk result
+        (ChangesTable limits.now (P.standing pages.old).count (P.standing pages.old).current
+        (P.standing pages.new).current name (row_put key value.now)) }
+    ensures again { IsTrue (P.standing pages.old).told
+        → OnOk result (PutsRecord (root_at place.now) key (length value.now) (P.standing pages.old)
+        (P.standing pages.new)) }
+    ensures sound { IsTrue (P.standing pages.old).told → (name : List ℕ)
+        → IsStore limits.now (P.standing pages.old).count (P.standing pages.old).current
+        → place_of name 0 (entries (P.standing pages.old).current) ≡ Some place.now
+        → (is_some (row_get key (entry_rows (P.standing pages.old).current place.now.entry)) ≡ false
+        → place.now.entry.rows + 1 ≤ limits.now.rows)
+        → 1 + limits.now.tables * (limits.now.rows / 2 + 8) ≤ (P.standing pages.old).count
+        → IfErr result IsFault }
     ensures cause { TreeCause P.Pages pages.old pages.new work.new.page result }
     ensures fails { IfErr result (Keeps (FailsTree (P.standing pages.old).count work.new.page)) }
     ensures call { PagesCall P.Pages pages.old pages.new result }
@@ -100,17 +120,34 @@ fn put_at<P: Pages>(
     requires ready { P.is_ready pages.old }
     requires fits { FitsRoot limits.now (P.standing pages.old).count place.now }
     requires room { 640 ≤ (P.standing pages.old).room }
-    ensures answer { IsTrue (P.standing pages.old).told → (name : List ℕ) → IsStore limits.now (P.standing pages.old).count (P.standing pages.old).current → place_of name 0 (entries (P.standing pages.old).current) ≡ Some place.now → IfOk result (λ answer. answer ≡ stored_of limits.now key (rows_of name (tables (P.standing pages.old).current))) }
-    ensures changed { IsTrue (P.standing pages.old).told → (name : List ℕ) → IsStore limits.now (P.standing pages.old).count (P.standing pages.old).current → place_of name 0 (entries (P.standing pages.old).current) ≡ Some place.now → IfOk result (PutsIfDone limits.now (P.standing pages.old).count (P.standing pages.old).current (P.standing pages.new).current name key value.now) }
+    ensures answer { IsTrue (P.standing pages.old).told → (name : List ℕ)
+        → IsStore limits.now (P.standing pages.old).count (P.standing pages.old).current
+        → place_of name 0 (entries (P.standing pages.old).current) ≡ Some place.now
+        → IfOk result
+        (λ answer. answer ≡ stored_of limits.now key
+        (rows_of name (tables (P.standing pages.old).current))) }
+    ensures changed { IsTrue (P.standing pages.old).told → (name : List ℕ)
+        → IsStore limits.now (P.standing pages.old).count (P.standing pages.old).current
+        → place_of name 0 (entries (P.standing pages.old).current) ≡ Some place.now
+        → IfOk result
+        (PutsIfDone limits.now (P.standing pages.old).count (P.standing pages.old).current
+        (P.standing pages.new).current name key value.now) }
     ensures named { IfOk result (λ answer. is_no_table answer ≡ false) }
     ensures keeps { IfOk result (KeepsUnlessDone (P.standing pages.old) (P.standing pages.new)) }
-    ensures again { IsTrue (P.standing pages.old).told → OnOk result (PutsRecord (root_at place.now) key (length value.now) (P.standing pages.old) (P.standing pages.new)) }
-    ensures sound { IsTrue (P.standing pages.old).told → (name : List ℕ) → IsStore limits.now (P.standing pages.old).count (P.standing pages.old).current → place_of name 0 (entries (P.standing pages.old).current) ≡ Some place.now → 1 + limits.now.tables * (limits.now.rows / 2 + 8) ≤ (P.standing pages.old).count → IfErr result IsFault }
+    ensures again { IsTrue (P.standing pages.old).told
+        → OnOk result (PutsRecord (root_at place.now) key (length value.now) (P.standing pages.old)
+        (P.standing pages.new)) }
+    ensures sound { IsTrue (P.standing pages.old).told → (name : List ℕ)
+        → IsStore limits.now (P.standing pages.old).count (P.standing pages.old).current
+        → place_of name 0 (entries (P.standing pages.old).current) ≡ Some place.now
+        → 1 + limits.now.tables * (limits.now.rows / 2 + 8) ≤ (P.standing pages.old).count
+        → IfErr result IsFault }
     ensures cause { TreeCause P.Pages pages.old pages.new work.new.page result }
     ensures fails { IfErr result (Keeps (FailsTree (P.standing pages.old).count work.new.page)) }
     ensures call { PagesCall P.Pages pages.old pages.new result }
     ensures room { OnOk result ((P.standing pages.old).room ≤ (P.standing pages.new).room + 601) }
-    ensures once { place.now.entry.rows < limits.now.rows → (P.standing pages.new).visits ≤ (P.standing pages.old).visits + 59 }
+    ensures once { place.now.entry.rows < limits.now.rows
+        → (P.standing pages.new).visits ≤ (P.standing pages.old).visits + 59 }
     ensures few { (P.standing pages.new).visits ≤ (P.standing pages.old).visits + 63 }
 {
     let room = has_room(pages, limits, place, key, work)?;
@@ -135,22 +172,39 @@ pub fn put<P: Pages>(
     requires ready { P.is_ready pages.old }
     requires room { 640 ≤ (P.standing pages.old).room }
     // the answer, and what changes
-    ensures answer { OnStore P.Pages pages.old limits.now (IfOk result (λ answer. answer ≡ stored_of limits.now key (rows_of name.now (tables (P.standing pages.old).current)))) }
-    ensures known { IsTrue (P.standing pages.old).told → IfOk result (λ answer. is_no_table answer ≡ not (is_known name.now (tables (P.standing pages.old).current))) }
-    ensures changed { OnStore P.Pages pages.old limits.now (IfOk result (PutsIfDone limits.now (P.standing pages.old).count (P.standing pages.old).current (P.standing pages.new).current name.now key value.now)) }
+    ensures answer { OnStore P.Pages pages.old limits.now
+        (IfOk result
+        (λ answer. answer ≡ stored_of limits.now key
+        (rows_of name.now (tables (P.standing pages.old).current)))) }
+    ensures known { IsTrue (P.standing pages.old).told
+        → IfOk result
+        (λ answer. is_no_table answer
+        ≡ not (is_known name.now (tables (P.standing pages.old).current))) }
+    ensures changed { OnStore P.Pages pages.old limits.now
+        (IfOk result
+        (PutsIfDone limits.now (P.standing pages.old).count (P.standing pages.old).current
+        (P.standing pages.new).current name.now key value.now)) }
     ensures keeps { IfOk result (KeepsUnlessDone (P.standing pages.old) (P.standing pages.new)) }
-    ensures lines { IsTrue (P.standing pages.old).told → OnOk result (LooksUp name.now (P.standing pages.old) (P.standing pages.new)) }
+    ensures lines { IsTrue (P.standing pages.old).told
+        → OnOk result (LooksUp name.now (P.standing pages.old) (P.standing pages.new)) }
     // where the key has a value of this length, lines of its record are written alone, and none of page 0
-    ensures again { OnStore P.Pages pages.old limits.now (OnOk result (RewritesRecord name.now key (length value.now) (P.standing pages.old) (P.standing pages.new))) }
+    ensures again { OnStore P.Pages pages.old limits.now
+        (OnOk result (RewritesRecord name.now key (length value.now) (P.standing pages.old)
+        (P.standing pages.new))) }
     // why it stops
-    ensures sound { OnStore P.Pages pages.old limits.now (1 + limits.now.tables * (limits.now.rows / 2 + 8) ≤ (P.standing pages.old).count → IfErr result IsFault) }
+    ensures sound { OnStore P.Pages pages.old limits.now
+        (1 + limits.now.tables * (limits.now.rows / 2 + 8) ≤ (P.standing pages.old).count
+        → IfErr result IsFault) }
     ensures cause { ChangeCause P.Pages pages.old pages.new limits.now work.new.page result }
-    ensures fails { IfErr result (Keeps (FailsChange limits.now (P.standing pages.old).count work.new.page)) }
+    ensures fails { IfErr result
+        (Keeps (FailsChange limits.now (P.standing pages.old).count work.new.page)) }
     // what stays
     ensures call { PagesCall P.Pages pages.old pages.new result }
     ensures room { OnOk result ((P.standing pages.old).room ≤ (P.standing pages.new).room + 601) }
     // where the table has fewer rows than it may have, the key is not looked up before
-    ensures once { IsTrue (P.standing pages.old).told → IsBelowLimit limits.now name.now (P.standing pages.old).current → (P.standing pages.new).visits ≤ (P.standing pages.old).visits + 60 }
+    ensures once { IsTrue (P.standing pages.old).told
+        → IsBelowLimit limits.now name.now (P.standing pages.old).current
+        → (P.standing pages.new).visits ≤ (P.standing pages.old).visits + 60 }
     ensures few { (P.standing pages.new).visits ≤ (P.standing pages.old).visits + 64 }
 {
     match find_entry(pages, limits, name, work)? {

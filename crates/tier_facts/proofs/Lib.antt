@@ -7,3 +7,4 @@ pub mod LineLaws
 pub mod ShownLaws
 pub mod Example
 pub mod CallLaws
+pub mod CurrentLaws

@@ -1,3 +1,4 @@
 pub mod Data
 pub mod Facts
 pub mod Shown
+pub mod Reads

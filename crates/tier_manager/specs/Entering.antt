@@ -3,23 +3,12 @@ use Rattle.std.specs.Prelude.{◌≡◌, ℕ, Bool, true, false, ◌==◌, Optio
 use Rattle.migration_policy.specs.declared.policy.Question.TheVariants.{NvmRead}
 use Rattle.tier_map.specs.declared.place.Place.{Place}
 use Rattle.tier_map.specs.declared.place.Place.TheVariants.{Absent, Full, Mini}
-use Rattle.clock_sweep.specs.Clock.{touched}
 use Rattle.tier_rules.specs.Plans.{dram_question}
-use Rattle.tier_rules.specs.Tallies.{dram_hit, nvm_hit}
 use Rattle.tier_rules.specs.Entering.{begins}
 use Rattle.tier_rules.specs.Parts.{Parts}
-use Rattle.tier_manager.specs.FullRoom.{PartsAnswer, plain_no, drawn, full_room}
-use Rattle.tier_manager.specs.Bringing.{FetchedInto, Brought, brought_through, fetched_to_nvm}
-
--- a copy is touched, and a frame
-abbrev pub full_hit : ℕ → Parts → Parts
-full_hit i parts = record parts { full_clock = touched i parts.full_clock; tally = dram_hit parts.tally }
-
-abbrev pub mini_hit : ℕ → Parts → Parts
-mini_hit j parts = record parts { mini_clock = touched j parts.mini_clock; tally = dram_hit parts.tally }
-
-abbrev pub frame_hit : ℕ → Parts → Parts
-frame_hit k parts = record parts { nvm_clock = touched k parts.nvm_clock; tally = nvm_hit parts.tally }
+use Rattle.tier_pool.specs.Hits.{full_hit, mini_hit, frame_hit}
+use Rattle.tier_pool.specs.FullRoom.{PartsAnswer, plain_no, drawn, full_room}
+use Rattle.tier_pool.specs.Bringing.{FetchedInto, Brought, brought_through, fetched_to_nvm}
 
 -- the access works at a place, and the fields are these
 pub record WorksAt (place : Place) (parts : Parts) (at : Place) (new : Parts) : Type 0 where

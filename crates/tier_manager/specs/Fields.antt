@@ -1,38 +1,20 @@
 -- The fields of the tiers as plain data, and what their sizes are.
-use Rattle.std.specs.Prelude.{◌≡◌, ℕ, Bool, Option, Some, None}
-use Rattle.page_frame.specs.Arena.{frames_of}
-use Rattle.mini_page.specs.Minis.{minis_of}
-use Rattle.tier_map.specs.Contents.{placement_of}
-use Rattle.tier_rules.specs.Plans.{plan_of}
+use Rattle.std.specs.Prelude.{◌≡◌}
 use Rattle.tier_rules.specs.Parts.{Parts}
-use Rattle.tier_manager.specs.declared.tiers.Access.{Access}
+use Rattle.tier_facts.specs.Data.{Data}
+use Rattle.tier_pool.specs.Fields.{parts_of as pool_parts}
+use Rattle.tier_pool.specs.Storing.{data_of as pool_data}
 use Rattle.tier_manager.specs.declared.tiers.Tiers.{Tiers}
-
--- the page and kind of the open access
-abbrev pub access_of : Option Access → Option (ℕ × Bool)
-access_of None = None
-access_of (Some access) = Some (access.page, access.writes)
 
 -- the fields that the rules speak of
 abbrev pub parts_of : Tiers → Parts
-parts_of t = record {
-  plan = plan_of t.policy;
-  frames = t.geometry.frames;
-  access = access_of t.access;
-  arena = frames_of t.arena;
-  full_dirty = t.full_dirty.items;
-  minis = minis_of t.minis;
-  map = placement_of t.map;
-  frame_dirty = t.frame_dirty.items;
-  full_clock = t.full_clock;
-  mini_clock = t.mini_clock;
-  nvm_clock = t.nvm_clock;
-  queue = t.queue.pages;
-  draws = t.draws;
-  tally = t.tally;
-}
+parts_of t = pool_parts t.pool
+
+-- what the facts of the tiers speak of
+abbrev pub data_of : Tiers → Data
+data_of t = pool_data t.pool
 
 -- what no call changes
 pub record SameSizes (old new : Tiers) : Type 0 where
-  pub geometry : new.geometry ≡ old.geometry
-  pub policy : new.policy ≡ old.policy
+  pub geometry : new.pool.geometry ≡ old.pool.geometry
+  pub policy : new.pool.policy ≡ old.pool.policy

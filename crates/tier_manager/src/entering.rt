@@ -6,17 +6,18 @@ ghost use Rattle.nvm_layout.specs.Sizes.{sizes_of};
 ghost use Rattle.tier_rules.specs.Plans.{dram_question};
 ghost use Rattle.tier_rules.specs.Entering.{begins};
 ghost use Rattle.tier_manager.specs.Fields.{parts_of, SameSizes};
-ghost use Rattle.tier_manager.specs.Standing.{IsStanding};
-ghost use Rattle.tier_manager.specs.FullRoom.{drawn};
-ghost use Rattle.tier_manager.specs.Entering.{full_hit, mini_hit, frame_hit, through_nvm, BroughtPast, BroughtIf, BroughtBy, ThroughIf, ThroughBy, ReadInIf, ReadInBy, EnteredBelow, Entered, Begun, Opened};
-ghost use Rattle.tier_manager.specs.Calls.{Fits, Calls};
+ghost use Rattle.tier_pool.specs.Standing.{IsStanding};
+ghost use Rattle.tier_pool.specs.FullRoom.{drawn};
+ghost use Rattle.tier_pool.specs.Hits.{frame_hit};
+ghost use Rattle.tier_manager.specs.Entering.{through_nvm, BroughtPast, BroughtIf, BroughtBy, ThroughIf, ThroughBy, ReadInIf, ReadInBy, EnteredBelow, Entered, Begun, Opened};
+ghost use Rattle.tier_pool.specs.Calls.{Fits, Calls};
 
-use crate::counting::count_one;
-use crate::tiers::{Access, Spot, Tiers};
+use crate::tiers::Tiers;
 use devices::Devices;
 use line_pages::Stop;
 use migration_policy::Question;
 use tier_map::Place;
+use tier_pool::{Access, Spot};
 
 /// Whether to bring a page to DRAM, by whether the access writes.
 fn dram_question(writes: bool) -> Question
@@ -33,9 +34,9 @@ impl Tiers {
     /// Where the open access works, if it is one of this page and kind.
     fn open_spot(&self, page: u64, writes: bool) -> Option<Spot>
         ensures begins { begins (parts_of self.now).access page writes ≡ not (is_some result) }
-        ensures spot { IfSome result (λ spot. IfSome self.now.access (λ access. spot ≡ access.spot)) }
+        ensures spot { IfSome result (λ spot. IfSome self.now.pool.access (λ access. spot ≡ access.spot)) }
     {
-        match &self.access {
+        match &self.pool.access {
             Some(access) => {
                 if access.page == page && access.writes == writes {
                     Some(access.spot)
@@ -54,8 +55,8 @@ impl Tiers {
         page: u64,
         writes: bool,
     ) -> Result<Spot, Stop>
-        requires fits { Fits self.old.geometry (D.standing dev.old) }
-        requires page { page < pages (sizes_of self.old.geometry) }
+        requires fits { Fits self.old.pool.geometry (D.standing dev.old) }
+        requires page { page < pages (sizes_of self.old.pool.geometry) }
         requires standing { IsStanding (parts_of self.old) }
         ensures call { Calls (D.standing dev.old) (D.standing dev.new) result }
         ensures opened { IfOk result (λ spot.
@@ -75,8 +76,8 @@ impl Tiers {
         page: u64,
         writes: bool,
     ) -> Result<Spot, Stop>
-        requires fits { Fits self.old.geometry (D.standing dev.old) }
-        requires page { page < pages (sizes_of self.old.geometry) }
+        requires fits { Fits self.old.pool.geometry (D.standing dev.old) }
+        requires page { page < pages (sizes_of self.old.pool.geometry) }
         requires standing { IsStanding (parts_of self.old) }
         ensures call { Calls (D.standing dev.old) (D.standing dev.new) result }
         ensures begun { IfOk result (λ spot.
@@ -90,15 +91,15 @@ impl Tiers {
 
     /// The open access is one of this page and kind, works in this copy of the page or in its frame, and told of these lines.
     pub(crate) fn work_at(&mut self, page: u64, writes: bool, place: Place, told: u64) -> Spot
-        requires page { page < pages (sizes_of self.old.geometry) }
+        requires page { page < pages (sizes_of self.old.pool.geometry) }
         ensures parts { parts_of self.new ≡ record (parts_of self.old) { access = Some (page, writes) } }
         ensures place { result.place ≡ place }
         ensures frame { result.frame ≡ (parts_of self.old).map.nvm page }
         ensures same { SameSizes self.old self.new }
     {
-        let frame = self.frame(page);
+        let frame = self.pool.frame(page);
         let spot = Spot { place, frame };
-        self.access = Some(Access {
+        self.pool.access = Some(Access {
             page,
             writes,
             spot,
@@ -109,51 +110,21 @@ impl Tiers {
 
     /// Entering: the page's copy is touched, or else it may come to a higher tier.
     fn enter<D: Devices>(&mut self, dev: &mut D, page: u64, writes: bool) -> Result<Place, Stop>
-        requires fits { Fits self.old.geometry (D.standing dev.old) }
-        requires page { page < pages (sizes_of self.old.geometry) }
+        requires fits { Fits self.old.pool.geometry (D.standing dev.old) }
+        requires page { page < pages (sizes_of self.old.pool.geometry) }
         requires standing { IsStanding (parts_of self.old) }
         ensures call { Calls (D.standing dev.old) (D.standing dev.new) result }
         ensures entered { IfOk result (λ place.
             Entered page writes place (parts_of self.old) (parts_of self.new)) }
         ensures same { SameSizes self.old self.new }
     {
-        let place = self.place(page);
+        let place = self.pool.place(page);
         match place {
             Place::Absent => return self.enter_below(dev, page, writes),
-            Place::Full(full) => self.hit_full(full),
-            Place::Mini(mini) => self.hit_mini(mini),
+            Place::Full(full) => self.pool.hit_full(full),
+            Place::Mini(mini) => self.pool.hit_mini(mini),
         }
         Ok(place)
-    }
-
-    /// A full copy is touched.
-    fn hit_full(&mut self, full: u32)
-        requires { full < self.old.policy.dram_frames }
-        ensures parts { parts_of self.new ≡ full_hit full (parts_of self.old) }
-        ensures same { SameSizes self.old self.new }
-    {
-        count_one(&mut self.tally.dram_hits);
-        self.full_clock.touch(full);
-    }
-
-    /// A mini copy is touched.
-    fn hit_mini(&mut self, mini: u32)
-        requires { mini < self.old.policy.minis }
-        ensures parts { parts_of self.new ≡ mini_hit mini (parts_of self.old) }
-        ensures same { SameSizes self.old self.new }
-    {
-        count_one(&mut self.tally.dram_hits);
-        self.mini_clock.touch(mini);
-    }
-
-    /// A frame is touched.
-    fn hit_frame(&mut self, frame: u32)
-        requires { frame < self.old.geometry.frames }
-        ensures parts { parts_of self.new ≡ frame_hit frame (parts_of self.old) }
-        ensures same { SameSizes self.old self.new }
-    {
-        count_one(&mut self.tally.nvm_hits);
-        self.nvm_clock.touch(frame);
     }
 
     /// Entering a page that has no copy.
@@ -163,8 +134,8 @@ impl Tiers {
         page: u64,
         writes: bool,
     ) -> Result<Place, Stop>
-        requires fits { Fits self.old.geometry (D.standing dev.old) }
-        requires page { page < pages (sizes_of self.old.geometry) }
+        requires fits { Fits self.old.pool.geometry (D.standing dev.old) }
+        requires page { page < pages (sizes_of self.old.pool.geometry) }
         requires standing { IsStanding (parts_of self.old) }
         requires absent { (parts_of self.old).map.place page ≡ Place.Absent }
         ensures call { Calls (D.standing dev.old) (D.standing dev.new) result }
@@ -172,7 +143,7 @@ impl Tiers {
             EnteredBelow (parts.map.nvm page) page writes place parts (parts_of self.new)) }
         ensures same { SameSizes self.old self.new }
     {
-        match self.frame(page) {
+        match self.pool.frame(page) {
             Some(frame) => self.enter_framed(dev, page, frame, writes),
             None => self.enter_homed(dev, page, writes),
         }
@@ -186,9 +157,9 @@ impl Tiers {
         frame: u32,
         writes: bool,
     ) -> Result<Place, Stop>
-        requires fits { Fits self.old.geometry (D.standing dev.old) }
-        requires page { page < pages (sizes_of self.old.geometry) }
-        requires frame { frame < self.old.geometry.frames }
+        requires fits { Fits self.old.pool.geometry (D.standing dev.old) }
+        requires page { page < pages (sizes_of self.old.pool.geometry) }
+        requires frame { frame < self.old.pool.geometry.frames }
         requires standing { IsStanding (parts_of self.old) }
         requires absent { (parts_of self.old).map.place page ≡ Place.Absent }
         ensures call { Calls (D.standing dev.old) (D.standing dev.new) result }
@@ -197,15 +168,15 @@ impl Tiers {
             BroughtBy answer page place (parts_of self.new)) }
         ensures same { SameSizes self.old self.new }
     {
-        self.hit_frame(frame);
-        let brings = self.decides(dram_question(writes));
+        self.pool.hit_frame(frame);
+        let brings = self.pool.decides(dram_question(writes));
         self.bring_if(dev, page, brings)
     }
 
     /// A page in NVM comes to DRAM, or the access works in its frame.
     fn bring_if<D: Devices>(&mut self, dev: &mut D, page: u64, brings: bool) -> Result<Place, Stop>
-        requires fits { Fits self.old.geometry (D.standing dev.old) }
-        requires page { page < pages (sizes_of self.old.geometry) }
+        requires fits { Fits self.old.pool.geometry (D.standing dev.old) }
+        requires page { page < pages (sizes_of self.old.pool.geometry) }
         requires standing { IsStanding (parts_of self.old) }
         requires absent { (parts_of self.old).map.place page ≡ Place.Absent }
         ensures call { Calls (D.standing dev.old) (D.standing dev.new) result }
@@ -214,7 +185,7 @@ impl Tiers {
         ensures same { SameSizes self.old self.new }
     {
         if brings {
-            self.bring(dev, page)
+            self.pool.bring(dev, page)
         } else {
             Ok(Place::Absent)
         }
@@ -227,8 +198,8 @@ impl Tiers {
         page: u64,
         writes: bool,
     ) -> Result<Place, Stop>
-        requires fits { Fits self.old.geometry (D.standing dev.old) }
-        requires page { page < pages (sizes_of self.old.geometry) }
+        requires fits { Fits self.old.pool.geometry (D.standing dev.old) }
+        requires page { page < pages (sizes_of self.old.pool.geometry) }
         requires standing { IsStanding (parts_of self.old) }
         requires absent { (parts_of self.old).map.place page ≡ Place.Absent }
         requires homeless { (parts_of self.old).map.nvm page ≡ None }
@@ -241,15 +212,15 @@ impl Tiers {
         if through {
             self.read_in(dev, page, writes)
         } else {
-            self.bring_past(dev, page)
+            self.pool.bring_past(dev, page)
         }
     }
 
     /// A page on the SSD is read into NVM, and may come on to DRAM.
     fn read_in<D: Devices>(&mut self, dev: &mut D, page: u64, writes: bool) -> Result<Place, Stop>
-        requires fits { Fits self.old.geometry (D.standing dev.old) }
-        requires page { page < pages (sizes_of self.old.geometry) }
-        requires some { 1 ≤ self.old.geometry.frames }
+        requires fits { Fits self.old.pool.geometry (D.standing dev.old) }
+        requires page { page < pages (sizes_of self.old.pool.geometry) }
+        requires some { 1 ≤ self.old.pool.geometry.frames }
         requires standing { IsStanding (parts_of self.old) }
         requires absent { (parts_of self.old).map.place page ≡ Place.Absent }
         requires homeless { (parts_of self.old).map.nvm page ≡ None }
@@ -259,7 +230,7 @@ impl Tiers {
             ThroughBy answer page place (parts_of self.new)) }
         ensures same { SameSizes self.old self.new }
     {
-        let brings = self.decides(dram_question(writes));
+        let brings = self.pool.decides(dram_question(writes));
         self.bring_through_if(dev, page, brings)
     }
 
@@ -270,9 +241,9 @@ impl Tiers {
         page: u64,
         brings: bool,
     ) -> Result<Place, Stop>
-        requires fits { Fits self.old.geometry (D.standing dev.old) }
-        requires page { page < pages (sizes_of self.old.geometry) }
-        requires some { 1 ≤ self.old.geometry.frames }
+        requires fits { Fits self.old.pool.geometry (D.standing dev.old) }
+        requires page { page < pages (sizes_of self.old.pool.geometry) }
+        requires some { 1 ≤ self.old.pool.geometry.frames }
         requires standing { IsStanding (parts_of self.old) }
         requires absent { (parts_of self.old).map.place page ≡ Place.Absent }
         requires homeless { (parts_of self.old).map.nvm page ≡ None }
@@ -282,9 +253,9 @@ impl Tiers {
         ensures same { SameSizes self.old self.new }
     {
         if brings {
-            return self.bring_through(dev, page);
+            return self.pool.bring_through(dev, page);
         }
-        self.fetch_to_nvm(dev, page)?;
+        self.pool.fetch_to_nvm(dev, page)?;
         Ok(Place::Absent)
     }
 
@@ -292,13 +263,13 @@ impl Tiers {
     fn goes_through_nvm(&mut self) -> bool
         ensures answer { through_nvm (parts_of self.old) ≡ record { yes = result; parts = parts_of self.new } }
         ensures map { (parts_of self.new).map ≡ (parts_of self.old).map }
-        ensures some { result ≡ true → 1 ≤ self.new.geometry.frames }
+        ensures some { result ≡ true → 1 ≤ self.new.pool.geometry.frames }
         ensures same { SameSizes self.old self.new }
     {
-        if self.geometry.frames == 0 {
+        if self.pool.geometry.frames == 0 {
             false
         } else {
-            self.decides(Question::NvmRead)
+            self.pool.decides(Question::NvmRead)
         }
     }
 }

@@ -1,16 +1,13 @@
 //! Whether a touch would change no placement and store nothing to NVM.
 ghost use Rattle.std.specs.Prelude.{◌≡◌, ◌<◌, ◌||◌, nat_lt};
 ghost use Rattle.page_frame.specs.LineSets.{has_line, line_count};
-ghost use Rattle.page_frame.specs.Frames.{resident_lines};
 ghost use Rattle.store_model.specs.Layout.{pages};
 ghost use Rattle.nvm_layout.specs.Sizes.{sizes_of};
-ghost use Rattle.tier_rules.specs.Parts.{copy_at};
-ghost use Rattle.tier_rules.specs.Quiet.{quiet_at};
-ghost use Rattle.tier_manager.specs.Fields.{parts_of};
+ghost use Rattle.tier_manager.specs.Quiet.{is_quiet};
 
-use crate::copies::has_line;
 use crate::tiers::Tiers;
 use tier_map::Place;
+use tier_pool::has_line;
 
 /// How many lines a mini copy holds.
 pub(crate) const MINI_LINES: u32 = 16;
@@ -34,16 +31,15 @@ fn has_or_fits(lines: u64, line: usize) -> bool
 impl Tiers {
     /// Whether a touch of the line would change no placement and store nothing to NVM.
     pub fn quiet(&self, page: u64, line: usize) -> bool
-        requires page { page < pages (sizes_of self.now.geometry) }
+        requires page { page < pages (sizes_of self.now.pool.geometry) }
         requires line { line < 64 }
-        ensures { let parts = parts_of self.now in let place = parts.map.place page in
-            result ≡ quiet_at place (resident_lines (copy_at place parts.arena parts.minis)) line }
+        ensures { result ≡ is_quiet self.now page line }
     {
-        let place = self.place(page);
+        let place = self.pool.place(page);
         match place {
             Place::Absent => false,
             Place::Full(_) => true,
-            Place::Mini(_) => has_or_fits(self.resident_lines(place), line),
+            Place::Mini(_) => has_or_fits(self.pool.resident_lines(place), line),
         }
     }
 }

@@ -1,87 +1,76 @@
-//! The fields of the tiers, how they are made, and what is read of them.
-ghost use Rattle.std.specs.Prelude.{◌≡◌, None, length};
-ghost use Rattle.page_frame.specs.Arena.{frames_of};
-ghost use Rattle.mini_page.specs.Minis.{minis_of};
-ghost use Rattle.tier_map.specs.Contents.{sizes_of as map_sizes_of};
-ghost use Rattle.tier_manager.specs.Sizes.{map_sizes};
+//! The tiers: a pool and what is told of it.
+ghost use Rattle.std.specs.Prelude.{◌≡◌, ◌+◌, IfOk, None, length};
+ghost use Rattle.store_model.specs.Layout.{pages};
+ghost use Rattle.nvm_layout.specs.Sizes.{sizes_of};
+ghost use Rattle.tier_rules.specs.Plans.{plan_of};
+ghost use Rattle.tier_rules.specs.Opening.{IsTable};
 ghost use Rattle.tier_rules.specs.Tallies.{log_lines_read};
+ghost use Rattle.tier_pool.specs.Opening.{NamesWithin, IsMadeFor, empty_parts, entries_placed};
+ghost use Rattle.tier_pool.specs.Standing.{IsStanding};
+ghost use Rattle.tier_manager.specs.Sizes.{trace_room};
 
-use crate::counting::count_some;
 use crate::trace::Trace;
-use clock_sweep::Clock;
-use migration_policy::{AdmissionQueue, Draws, Policy};
-use mini_page::MiniArena;
+use migration_policy::Policy;
 use nvm_layout::Geometry;
-use page_frame::FrameArena;
-use tier_map::{Place, TierMap};
+use nvm_model::NoMemory;
+use std::alloc::Global;
+use tier_pool::TierPool;
 use tier_rules::{Tally, TraceLine};
-
-/// Where an access works: in the page's copy, or where it has none, in its frame.
-#[derive(Clone, Copy)]
-pub struct Spot {
-    pub(crate) place: Place,
-    pub(crate) frame: Option<u32>,
-}
-
-/// The open access: its page, whether it writes, where it works, and the lines that it told of.
-#[derive(Clone, Copy)]
-pub struct Access {
-    pub(crate) page: u64,
-    pub(crate) writes: bool,
-    pub(crate) spot: Spot,
-    pub(crate) told: u64,
-}
 
 /// Pages in three tiers.
 #[derive(Drop)]
 pub struct Tiers {
-    pub(crate) geometry: Geometry,
-    pub(crate) policy: Policy,
-    pub(crate) map: TierMap,
-    pub(crate) arena: FrameArena,
-    /// One mask for each full place: the lines of its copy that may differ from their home.
-    pub(crate) full_dirty: Vec<u64>,
-    pub(crate) minis: MiniArena,
-    /// Whether a frame may differ from the home block of its page.
-    pub(crate) frame_dirty: Vec<bool>,
-    pub(crate) full_clock: Clock,
-    pub(crate) mini_clock: Clock,
-    pub(crate) nvm_clock: Clock,
-    pub(crate) queue: AdmissionQueue,
-    pub(crate) draws: Draws,
-    pub(crate) access: Option<Access>,
-    pub(crate) tally: Tally,
+    pub(crate) pool: TierPool,
     pub(crate) trace: Trace,
-    ghost arena_fits: { length (frames_of arena) ≡ policy.dram_frames },
-    ghost marks_fit: { length full_dirty.items ≡ policy.dram_frames },
-    ghost minis_fit: { length (minis_of minis) ≡ policy.minis },
-    ghost frame_marks_fit: { length frame_dirty.items ≡ geometry.frames },
-    ghost full_clock_fits: { length full_clock ≡ policy.dram_frames },
-    ghost mini_clock_fits: { length mini_clock ≡ policy.minis },
-    ghost nvm_clock_fits: { length nvm_clock ≡ geometry.frames },
-    ghost map_fits: { map_sizes_of map ≡ map_sizes geometry policy },
-    ghost queue_fits: { queue.len ≡ policy.queue_len },
 }
 
 impl Tiers {
     ghost use Rattle.tier_manager.specs.Fields.{parts_of, SameSizes};
+    ghost use Rattle.tier_manager.specs.Telling.{told_of, nothing_told, told_with, log_reads_told};
+
+    /// The tiers as the words of the frame table say: each frame's entry is 0, or the number of its page plus 1. The last word is
+    /// that of the frame through which pages pass. DRAM is empty.
+    pub fn new(
+        alloc: Global,
+        geometry: &Geometry,
+        policy: &Policy,
+        words: &[u64],
+        trace: bool,
+    ) -> Result<Tiers, NoMemory>
+        requires words { length words.now ≡ geometry.now.frames + 1 }
+        requires within { NamesWithin (pages (sizes_of geometry.now)) words.now }
+        requires table { IsTable words.now }
+        ensures parts { IfOk result (λ made.
+            let n = geometry.now.frames in
+            parts_of made ≡ entries_placed n words.now (empty_parts (plan_of policy.now) n)) }
+        ensures standing { IfOk result (λ made. IsStanding (parts_of made)) }
+        ensures told { IfOk result (λ made. told_of made ≡ nothing_told (trace_room geometry.now trace)) }
+        ensures of { IfOk result (λ made. IsMadeFor geometry.now policy.now made.pool) }
+    {
+        Ok(Tiers {
+            pool: TierPool::new(alloc, geometry, policy, words)?,
+            trace: Trace::new(alloc, geometry, trace)?,
+        })
+    }
 
     /// What was counted since the tiers were made.
     pub fn tally(&self) -> Tally
         ensures { result ≡ (parts_of self.now).tally }
     {
-        self.tally
+        self.pool.tally()
     }
 
     /// What was told since the trace was cleared, as far as there was room.
-    pub fn trace(&self) -> &[TraceLine] {
+    pub fn trace(&self) -> &[TraceLine]
+        ensures { result.now ≡ (told_of self.now).lines }
+    {
         self.trace.lines()
     }
 
     /// Nothing is told.
     pub fn clear_trace(&mut self)
-        ensures parts { parts_of self.new ≡ parts_of self.old }
-        ensures same { SameSizes self.old self.new }
+        ensures told { told_of self.new ≡ nothing_told (told_of self.old).room }
+        ensures pool { self.new.pool ≡ self.old.pool }
     {
         self.trace.clear();
     }
@@ -90,9 +79,10 @@ impl Tiers {
     pub fn count_log_reads(&mut self, count: u64)
         ensures parts { let tally = log_lines_read count (parts_of self.old).tally in
             parts_of self.new ≡ record (parts_of self.old) { tally = tally } }
+        ensures told { told_of self.new ≡ log_reads_told count (told_of self.old) }
         ensures same { SameSizes self.old self.new }
     {
-        count_some(&mut self.tally.log_reads, count);
+        self.pool.count_log_reads(count);
         if count > 0 {
             self.trace.tell(TraceLine::LogReads(count));
         }
@@ -103,6 +93,6 @@ impl Tiers {
         ensures parts { parts_of self.new ≡ record (parts_of self.old) { access = None } }
         ensures same { SameSizes self.old self.new }
     {
-        self.access = None;
+        self.pool.access = None;
     }
 }

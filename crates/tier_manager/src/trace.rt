@@ -1,5 +1,5 @@
 //! What a run tells of its accesses: a buffer of lines, all of whose memory is taken when it is made.
-ghost use Rattle.std.specs.Prelude.{◌≡◌, ◌≤◌, IfOk};
+ghost use Rattle.std.specs.Prelude.{◌≡◌, ◌≤◌, IfOk, nat_lt};
 ghost use Rattle.std.specs.Vec.{vec_capacity};
 ghost use Rattle.tier_manager.specs.Sizes.{trace_room};
 
@@ -33,9 +33,11 @@ fn room_of(geometry: &Geometry, trace: bool) -> usize
 }
 
 impl Trace {
+    ghost use Rattle.tier_manager.specs.Telling.{told_in, nothing_told, told_with};
+
     /// A trace with room for what a transaction tells, or, where none is wanted, with no room.
     pub(crate) fn new(alloc: Global, geometry: &Geometry, trace: bool) -> Result<Trace, NoMemory>
-        ensures { IfOk result (λ made. made.room ≡ trace_room geometry.now trace) }
+        ensures { IfOk result (λ made. told_in made ≡ nothing_told (trace_room geometry.now trace)) }
     {
         let room = room_of(geometry, trace);
         Ok(Trace {
@@ -45,24 +47,32 @@ impl Trace {
     }
 
     /// The lines that were told.
-    pub(crate) fn lines(&self) -> &[TraceLine] {
+    pub(crate) fn lines(&self) -> &[TraceLine]
+        ensures { result.now ≡ (told_in self.now).lines }
+    {
         &self.lines
     }
 
     /// Whether lines are told at all.
-    pub(crate) fn is_kept(&self) -> bool {
+    pub(crate) fn is_kept(&self) -> bool
+        ensures { result ≡ nat_lt 0 (told_in self.now).room }
+    {
         self.room > 0
     }
 
     /// One line more, where there is room.
-    pub(crate) fn tell(&mut self, line: TraceLine) {
+    pub(crate) fn tell(&mut self, line: TraceLine)
+        ensures { told_in self.new ≡ told_with line (told_in self.old) }
+    {
         if self.lines.len() < self.room {
             self.lines.push_reserved(line);
         }
     }
 
     /// No line is told.
-    pub(crate) fn clear(&mut self) {
+    pub(crate) fn clear(&mut self)
+        ensures { told_in self.new ≡ nothing_told (told_in self.old).room }
+    {
         self.lines.clear();
     }
 }

@@ -2,6 +2,7 @@ pub mod TreeLaws
 pub mod OrderLaws
 pub mod FanLaws
 pub mod SizeLaws
+pub mod OpenReads
 pub mod SearchLaws
 pub mod PartLaws
 pub mod RecordLaws

@@ -1,5 +1,5 @@
 -- What a row's record gives in a well-formed leaf.
-use Rattle.std.proofs.Common.{◌≡◌, ℕ, zero, suc, ◌+◌, ◌-◌, ◌<◌, ◌≤◌, Bool, true, List, [], ◌∷◌, length, get_or, Some, None, sym, ap, ◌∙◌, arith, slice_get, nat_le, cond, drop, length-take}
+use Rattle.std.proofs.Common.{◌≡◌, ℕ, zero, suc, ◌+◌, ◌-◌, ◌<◌, ◌≤◌, Bool, true, false, List, [], ◌∷◌, length, get_or, Option, Some, None, Result, Ok, Err, IfOk, refl, sym, ap, ◌∙◌, arith, slice_get, nat_le, cond, drop, length-take}
 use Rattle.std.specs.List.{list_all}
 use Rattle.std.proofs.lemmas.Bool.{le-leb, and_parts, and_from}
 use Rattle.page_format.specs.declared.root.Expect.{Expect}
@@ -10,7 +10,8 @@ use Rattle.page_format.specs.Sound.{slot_of, InHeap}
 use Rattle.rows.specs.Value.{is_value, value_of}
 use Rattle.page_format.proofs.PageFacts.{leaf_facts}
 use Rattle.page_format.proofs.SlotLemmas.{length-slots, length_rows, slot_at, row_at, in_heap_one, each_in_heap}
-use Rattle.tree_search.specs.Record.{is_record, with_key, row_found}
+use Rattle.tree_search.specs.declared.row.Record.{Record}
+use Rattle.tree_search.specs.Record.{is_record, with_key, row_found, slot_in, held, HasValue}
 
 pub record Got {X : Type 0} (xs : List X) (at : ℕ) (x : X) : Type 0 where
   pub within : at < length xs
@@ -55,3 +56,22 @@ slot_fits bytes expect at row level well got_it =
     let facts = leaf_facts bytes expect level well in
     let within : at < entry_count bytes = omega (arith, (got (leaf_rows bytes) at row got_it).within, length_rows bytes) in
     in_heap_one (heap_start bytes) (slot_of bytes at) (ap (is_in_heap (heap_start bytes)) (sym (slot_at bytes at (slot_of bytes at) within)) ∙ each_in_heap (heap_start bytes) (slots bytes) at (slot_of bytes at) facts.in_heap (omega (arith, within, length-slots bytes)))
+
+-- the value of a record whose row is known
+value_by : (fits : Bool) (key : ℕ) (value : Option (List ℕ)) (row : Row) → cond fits (with_key key value) None ≡ Some row → cond fits value None ≡ Some row.1
+value_by true key (Some value) row is = let same : (key, value) ≡ row = cc in ap (λ (r : Row). Some r.1) same
+value_by true key None row is = absurd (cc)
+value_by false key value row is = absurd (cc)
+
+value_held : (bytes : List ℕ) (found : Option Record) (row : Row) → held bytes found ≡ Some row → HasValue bytes found (Some row.1)
+value_held bytes None row is = absurd (cc)
+value_held bytes (Some r) row is = (value_by (is_record (slot_in r)) (row_in bytes (slot_in r)).0 (value_of (row_in bytes (slot_in r)).1) row is, refl)
+
+pub values_held : {E : Type 0} (bytes : List ℕ) (result : Result (Option Record) E) (row : Row) → IfOk result (λ found. held bytes found ≡ Some row) → IfOk result (λ found. HasValue bytes found (Some row.1))
+values_held bytes (Ok found) row is = value_held bytes found row is
+values_held bytes (Err e) row is = tt
+
+-- where nothing is found, the record is none of a leaf's rows
+pub not_held : {A : Type 0} (bytes : List ℕ) (found : Option Record) (row : Option Row) (r : Row) → found ≡ None → held bytes found ≡ row → row ≡ Some r → A
+not_held bytes None row r none is some = let clash : None ≡ Some r = is ∙ some in absurd (cc)
+not_held bytes (Some record_is) row r none is some = absurd (cc)

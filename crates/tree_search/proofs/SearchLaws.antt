@@ -5,19 +5,21 @@ use Rattle.line_pages.specs.declared.stop.Stop.{Stop}
 use Rattle.page_format.specs.declared.root.Expect.{Expect}
 use Rattle.page_format.specs.declared.spot.Spot.TheVariants.{Row, Gap, Child}
 use Rattle.line_pages.specs.Touch.{Access, begins, begun_from, last_from}
-use Rattle.line_pages.proofs.StandingLaws.{page_adds, AddsReads-trans, ReadsPage-trans}
+use Rattle.line_pages.proofs.StandingLaws.{AddsReads-trans, ReadsPage-trans}
+use Rattle.tree_search.proofs.OpenReads.{some_adds, reads_more}
 use Rattle.line_pages.proofs.TouchLaws.{accesses_from-begun}
 use Rattle.page_format.proofs.PageFacts.{leaf_facts}
 use Rattle.page_alloc.specs.Stops.{IsFault}
 use Rattle.line_pages.specs.Lines.{Lines}
 use Rattle.line_pages.specs.Standing.{Standing, ReadsPage, AddsReads}
 use Rattle.line_pages.specs.Bytes.{bytes_of}
-use Rattle.rows.specs.Rows.{keys, row_get, Ascends}
+use Rattle.rows.specs.Rows.{keys, row_get, Ascends, last_key}
 use Rattle.rows.specs.Rows as rows
 use Rattle.page_format.specs.Node.{leaf_rows, IsWellFormed, page_level}
 use Rattle.tree_search.specs.Tree.{IsTree, tree_rows, path}
 use Rattle.page_format.specs.Search.{IsSpot, IsSafeSpot}
-use Rattle.tree_search.specs.Way.{IsWay}
+use Rattle.tree_search.specs.declared.root.Root.{Root}
+use Rattle.tree_search.specs.Way.{IsWay, ReadsPath}
 use Rattle.rows.proofs.RowLaws.{row_get-behind, row_get-none_above}
 use Rattle.tree_search.proofs.OrderLaws.{Descends, descends}
 
@@ -66,21 +68,21 @@ one_above level some = omega arith
 pub way_on : {A T : Type 0} (expect : Expect) (page key at child low high : ℕ) (s0 s1 s2 : Standing A) (result : Result T Stop)
     → expect.low ≤ key → key ≤ expect.high → IsSafeSpot expect key (Child at child low high)
     → (IsTree expect.pages s0.current expect.level page expect.low expect.high expect.root → IsSpot (bytes_of s0.current page) expect key (Child at child low high))
-    → begins s0.access page false ≡ true → s1.current ≡ s0.current → ReadsPage page s0 s1
+    → AddsReads (λ pages. pages ≡ (page, false) ∷ []) s0 s1 → s1.access ≡ Some (page, false) → s1.current ≡ s0.current
     → page_level (bytes_of s0.current page) ≡ expect.level → OnOk result (page_level (bytes_of s1.current child) ≡ expect.level - 1)
     → (begins s1.access child false ≡ true → OnOk result (AddsReads (IsWay s1.current child (record { level = expect.level - 1; low = low; high = high; root = false; pages = expect.pages }) key) s1 s2))
     → OnOk result (AddsReads (IsWay s0.current page expect key) s0 s2)
-way_on expect page key at child low high s0 s1 s2 result above within safe spot start same first level child_level rest =
+way_on expect page key at child low high s0 s1 s2 result above within safe spot first open_one same level child_level rest =
     on_ok result (λ v is_ok.
     let is_level = one_above expect.level safe.0 in
     let lower : page_level (bytes_of s0.current child) ≡ expect.level - 1 = ap (λ lines. page_level (bytes_of lines child)) (sym same) ∙ from_ok is_ok child_level in
     let other : page ≢ child = λ e. omega (arith, level, lower, ap (λ p. page_level (bytes_of s0.current p)) e, is_level) in
     let apart : begins (Some (page, false)) child false ≡ true = ap not (and_left (nat_eq page child) true (ne_eqb page child other)) in
-    let fresh : begins s1.access child false ≡ true = ap (λ o. begins o child false) first.access ∙ apart in
+    let fresh : begins s1.access child false ≡ true = ap (λ o. begins o child false) open_one ∙ apart in
     let second = from_ok is_ok (rest fresh) in
     AddsReads-trans (λ x y one way. joined expect page key child at low high s0.current s1.current x y is_level same one way apart
     (λ tree. child_of_spot s0.current expect page key at child low high (expect.level - 1) is_level tree above within safe (spot tree)))
-    (page_adds first start) second)
+    first second)
   where
     joined : (expect : Expect) (page key child at low high : ℕ) (lines now : Lines) (x y : List Access) → expect.level ≡ suc (expect.level - 1) → now ≡ lines → x ≡ (page, false) ∷ []
         → IsWay now child (record { level = expect.level - 1; low = low; high = high; root = false; pages = expect.pages }) key y → begins (Some (page, false)) child false ≡ true
@@ -101,16 +103,16 @@ way_on expect page key at child low high s0 s1 s2 result above within safe spot 
               ∙ sym (ap (λ l. map (λ p. (p, false)) (path lines l page key)) is_level ∙ ap (map (λ p. (p, false))) d.way);
         }
 
-pub found_child : {E : Type 0} (old new : Lines) (expect : Expect) (page key at child low high : ℕ) (result : Result (Option (List ℕ)) E) → new ≡ old
+pub found_child : {T E : Type 0} (Seen : T → Option (List ℕ) → Type 0) (old new : Lines) (expect : Expect) (page key at child low high : ℕ) (result : Result T E) → new ≡ old
     → IsTree expect.pages old expect.level page expect.low expect.high expect.root → expect.low ≤ key → key ≤ expect.high
     → IsSafeSpot expect key (Child at child low high) → IsSpot (bytes_of old page) expect key (Child at child low high)
-    → (IsTree expect.pages new (expect.level - 1) child low high false → IfOk result (λ found. found ≡ row_get key (tree_rows new (expect.level - 1) child)))
-    → IfOk result (λ found. found ≡ row_get key (tree_rows old expect.level page))
-found_child old new expect page key at child low high result same tree above within safe spot below =
+    → (IsTree expect.pages new (expect.level - 1) child low high false → IfOk result (λ found. Seen found (row_get key (tree_rows new (expect.level - 1) child))))
+    → IfOk result (λ found. Seen found (row_get key (tree_rows old expect.level page)))
+found_child Seen old new expect page key at child low high result same tree above within safe spot below =
     let is_level = one_above expect.level safe.0 in
     let down = child_of_spot old expect page key at child low high (expect.level - 1) is_level tree above within safe spot in
-    let ih = subst (λ lines. IsTree expect.pages lines (expect.level - 1) child low high false → IfOk result (λ found. found ≡ row_get key (tree_rows lines (expect.level - 1) child))) same below in
-    subst (λ r. IfOk result (λ found. found ≡ r)) (sym (ap (λ l. row_get key (tree_rows old l page)) is_level ∙ down.rows)) (ih down.tree)
+    let ih = subst (λ lines. IsTree expect.pages lines (expect.level - 1) child low high false → IfOk result (λ found. Seen found (row_get key (tree_rows lines (expect.level - 1) child)))) same below in
+    subst (λ r. IfOk result (λ found. Seen found r)) (sym (ap (λ l. row_get key (tree_rows old l page)) is_level ∙ down.rows)) (ih down.tree)
 
 pub sound_child : {T : Type 0} (old new : Lines) (expect : Expect) (page key at child low high : ℕ) (result : Result T Stop) → new ≡ old
     → IsTree expect.pages old expect.level page expect.low expect.high expect.root → expect.low ≤ key → key ≤ expect.high
@@ -134,22 +136,21 @@ row_of_spot bytes expect key at well spot =
     keyed (row ∷ rest) zero key e = (row, refl, (cc))
     keyed (row ∷ rest) (suc at) key e = keyed rest at key e
 
-pub found_row : {E : Type 0} (lines : Lines) (expect : Expect) (page key at : ℕ) (result : Result (Option (List ℕ)) E) → IsWellFormed (bytes_of lines page) expect → IsSpot (bytes_of lines page) expect key (Row at)
-    → ((row : rows.Row) → slice_get (leaf_rows (bytes_of lines page)) at ≡ Some row → IfOk result (λ value. value ≡ Some row.1))
-    → IfOk result (λ value. value ≡ row_get key (tree_rows lines expect.level page))
-found_row lines expect page key at result well spot reads =
+pub found_row : {T E : Type 0} (Seen : T → Option (List ℕ) → Type 0) (lines : Lines) (expect : Expect) (page key at : ℕ) (result : Result T E) → IsWellFormed (bytes_of lines page) expect → IsSpot (bytes_of lines page) expect key (Row at)
+    → ((row : rows.Row) → slice_get (leaf_rows (bytes_of lines page)) at ≡ Some row → IfOk result (λ found. Seen found (Some row.1)))
+    → IfOk result (λ found. Seen found (row_get key (tree_rows lines expect.level page)))
+found_row Seen lines expect page key at result well spot reads =
     let r = row_of_spot (bytes_of lines page) expect key at well spot in
-    subst (λ l. IfOk result (λ value. value ≡ row_get key (tree_rows lines l page))) (sym spot.0)
-    (subst (λ found. IfOk result (λ value. value ≡ found)) r.2 (reads r.0 r.1))
+    subst (λ l. IfOk result (λ found. Seen found (row_get key (tree_rows lines l page)))) (sym spot.0)
+    (subst (λ value. IfOk result (λ found. Seen found value)) r.2 (reads r.0 r.1))
 
 pub found_gap : (lines : Lines) (expect : Expect) (page key at : ℕ) → IsSpot (bytes_of lines page) expect key (Gap at) → None ≡ row_get key (tree_rows lines expect.level page)
 found_gap lines expect page key at spot =
     subst (λ level. None ≡ row_get key (tree_rows lines level page)) (sym spot.0) (sym (gap_none (bytes_of lines page) expect key at spot))
 
 -- the way ends at a leaf
-pub way_end : {A : Type 0} (expect : Expect) (page key : ℕ) (old new : Standing A) → expect.level ≡ 0 → begins old.access page false ≡ true → ReadsPage page old new → AddsReads (IsWay old.current page expect key) old new
-way_end expect page key old new level starts reads =
-    let a = page_adds reads starts in
+pub way_end : {A : Type 0} (expect : Expect) (page key : ℕ) (old new : Standing A) → expect.level ≡ 0 → AddsReads (λ pages. pages ≡ (page, false) ∷ []) old new → AddsReads (IsWay old.current page expect key) old new
+way_end expect page key old new level a =
     record {
       added = a.added;
       touches = a.touches;
@@ -165,10 +166,15 @@ way_end expect page key old new level starts reads =
       };
     }
 
-pub way_row : {A T : Type 0} (expect : Expect) (page key : ℕ) (old mid new : Standing A) (result : Result T Stop) → expect.level ≡ 0 → begins old.access page false ≡ true → ReadsPage page old mid
+pub way_row : {A T : Type 0} (expect : Expect) (page key : ℕ) (old mid new : Standing A) (result : Result T Stop) → expect.level ≡ 0 → (ReadsPage page old new → AddsReads (λ pages. pages ≡ (page, false) ∷ []) old new) → ReadsPage page old mid
     → OnOk result (ReadsPage page mid new) → OnOk result (AddsReads (IsWay old.current page expect key) old new)
-way_row expect page key old mid new (Ok v) level starts first more = way_end expect page key old new level starts (ReadsPage-trans first more)
-way_row expect page key old mid new (Err e) level starts first more = tt
+way_row expect page key old mid new (Ok v) level adds first more = way_end expect page key old new level (adds (ReadsPage-trans first more))
+way_row expect page key old mid new (Err e) level adds first more = tt
+
+pub row_touches : {A T : Type 0} (expect : Expect) (page key : ℕ) (old mid new : Standing A) (result : Result T Stop) → expect.level ≡ 0 → length old.touches + 1 ≤ length mid.touches → ReadsPage page old mid
+    → OnOk result (ReadsPage page mid new) → OnOk result (AddsReads (IsWay old.current page expect key) old new)
+row_touches expect page key old mid new (Ok v) level more first next = let further = reads_more page mid new next in way_end expect page key old new level (some_adds (ReadsPage-trans first next) (omega (arith, more, further)))
+row_touches expect page key old mid new (Err e) level more first next = tt
 
 -- one access to each level
 pub way_visits : {A T : Type 0} (expect : Expect) (page key : ℕ) (old new : Standing A) (result : Result T Stop) → begins old.access page false ≡ true
@@ -177,3 +183,26 @@ way_visits expect page key old new (Ok v) starts a =
     let all = a.begun ∙ accesses_from-begun old.access a.added ∙ ap (begun_from old.access) a.fact.begins ∙ ap (λ b. cond b ((page, false) ∷ a.fact.rest) a.fact.rest) starts ∙ sym a.fact.begins in
     a.visits ∙ ap (λ n. old.visits + n) (ap length all ∙ a.fact.levels)
 way_visits expect page key old new (Err e) starts a = tt
+
+-- the way from a root
+pub path_reads : {A T : Type 0} (root : Root) (key count n : ℕ) (expect : Expect) (old new : Standing A) (result : Result T Stop) → n ≡ count → expect ≡ record { level = root.levels - 1; low = 0; high = last_key; root = true; pages = n }
+    → IsTree count old.current (root.levels - 1) root.page 0 last_key true
+    → (IsTree expect.pages old.current expect.level root.page expect.low expect.high expect.root → OnOk result (AddsReads (IsWay old.current root.page expect key) old new))
+    → OnOk result (AddsReads (ReadsPath old.current root key) old new)
+path_reads root key count n expect old new result is_count is tree reads =
+    let top : Expect = record { level = root.levels - 1; low = 0; high = last_key; root = true; pages = n } in
+    let here : IsTree n old.current (root.levels - 1) root.page 0 last_key true = subst (λ (m : ℕ). IsTree m old.current (root.levels - 1) root.page 0 last_key true) (sym is_count) tree in
+    let way = subst (λ (e : Expect). IsTree e.pages old.current e.level root.page e.low e.high e.root → OnOk result (AddsReads (IsWay old.current root.page e key) old new)) is reads here in
+    on_ok result (λ v is_ok. path_of (from_ok is_ok way) here)
+  where
+    path_of : {A : Type 0} {old new : Standing A} {e : Expect} → AddsReads (IsWay old.current root.page e key) old new → IsTree e.pages old.current e.level root.page e.low e.high e.root
+        → AddsReads (λ begun. begun ≡ map (λ p. (p, false)) (path old.current e.level root.page key)) old new
+    path_of reads tree = record {
+      added = reads.added;
+      touches = reads.touches;
+      visits = reads.visits;
+      begun = reads.begun;
+      access = reads.access;
+      reads = reads.reads;
+      fact = reads.fact.pages tree;
+    }

@@ -21,6 +21,10 @@ pub record IsPath (count : ℕ) (lines : Lines) (root : Root) (key : ℕ) (begun
   pub levels : length begun ≡ root.levels
   pub pages : (rows : List Row) (used : List ℕ) → IsRooted count lines root rows used → begun ≡ map (λ p. (p, false)) (path lines (root.levels - 1) root.page key)
 
+-- one access to each page of the key's path, in order
+abbrev pub ReadsPath : Lines → Root → ℕ → List Access → Type 0
+ReadsPath lines root key begun = begun ≡ map (λ p. (p, false)) (path lines (root.levels - 1) root.page key)
+
 -- reads of these pages alone
 abbrev pub AreReadsIn : List ℕ → List Access → Type 0
 AreReadsIn pages begun = Each (λ (a : Access). (a.1 ≡ false) × (1 ≤ times a.0 pages)) begun

@@ -6,6 +6,7 @@ mod next;
 mod root;
 mod row;
 
-pub use lookup::get;
+pub use lookup::{get, seek};
 pub use next::next_from;
 pub use root::{Root, child_expect, root_expect};
+pub use row::{Record, value_in};

@@ -36,14 +36,20 @@ fn row_from<P: Pages>(
     requires root { is_root_span expect.now.low expect.now.high ≡ true → expect.now.root ≡ true }
     requires level { expect.now.level ≡ 0 }
     requires open { (P.standing pages.old).access ≡ Some (page, false) }
-    ensures row { OnPage P.Pages pages.old page expect.now (IfOk result (λ row. row ≡ slice_get (leaf_rows (bytes_of (P.standing pages.old).current page)) at)) }
-    ensures damage { IsTrue (P.standing pages.old).told → IfErr result (ShowsDamage page expect.now (bytes_of (P.standing pages.old).current page)) }
+    ensures row { OnPage P.Pages pages.old page expect.now
+        (IfOk result
+        (λ row. row ≡ slice_get (leaf_rows (bytes_of (P.standing pages.old).current page)) at)) }
+    ensures damage { IsTrue (P.standing pages.old).told
+        → IfErr result
+        (ShowsDamage page expect.now (bytes_of (P.standing pages.old).current page)) }
     ensures cause { NodeCause P.Pages pages.old pages.new work.new.page result }
     ensures fails { IfErr result (Keeps (FailsNode (P.standing pages.old).count work.new.page)) }
     ensures unchanged { IfErr result (Unchanged (P.standing pages.old) (P.standing pages.new)) }
     ensures call { PagesCall P.Pages pages.old pages.new result }
     ensures reads { OnOk result (ReadsPage page (P.standing pages.old) (P.standing pages.new)) }
-    ensures cost { OnPage P.Pages pages.old page expect.now (IfOk result (λ row. Costs (lines_for 1 12 row) (P.standing pages.old) (P.standing pages.new))) }
+    ensures cost { OnPage P.Pages pages.old page expect.now
+        (IfOk result (λ row. Costs (lines_for 1 12 row) (P.standing pages.old)
+        (P.standing pages.new))) }
     ensures again { (P.standing pages.new).visits ≤ (P.standing pages.old).visits }
 {
     let count = read_word(pages, page, 8)?;
@@ -69,17 +75,28 @@ fn next_in<P: Pages>(
     requires above { expect.now.low ≤ from }
     requires within { from ≤ expect.now.high }
     requires few_levels { expect.now.level ≤ 3 }
-    ensures row { OnTree P.Pages pages.old page expect.now (IfOk result (λ row. row ≡ row_next from (tree_rows (P.standing pages.old).current expect.now.level page))) }
+    ensures row { OnTree P.Pages pages.old page expect.now
+        (IfOk result
+        (λ row. row ≡ row_next from
+        (tree_rows (P.standing pages.old).current expect.now.level page))) }
     ensures sound { OnTree P.Pages pages.old page expect.now (IfErr result IsFault) }
-    ensures touches { OnTree P.Pages pages.old page expect.now (OnOk result (AddsReads (AreReadsIn (tree_pages (P.standing pages.old).current expect.now.level page)) (P.standing pages.old) (P.standing pages.new))) }
-    ensures cost { OnTree P.Pages pages.old page expect.now (IfOk result (λ row. Costs (next_lines expect.now.level row) (P.standing pages.old) (P.standing pages.new))) }
-    ensures first { OnTree P.Pages pages.old page expect.now (from ≡ expect.now.low → OnOk result (Costs (first_lines expect.now.level) (P.standing pages.old) (P.standing pages.new))) }
+    ensures touches { OnTree P.Pages pages.old page expect.now
+        (OnOk result
+        (AddsReads (AreReadsIn (tree_pages (P.standing pages.old).current expect.now.level page))
+        (P.standing pages.old) (P.standing pages.new))) }
+    ensures cost { OnTree P.Pages pages.old page expect.now
+        (IfOk result (λ row. Costs (next_lines expect.now.level row) (P.standing pages.old)
+        (P.standing pages.new))) }
+    ensures first { OnTree P.Pages pages.old page expect.now (from ≡ expect.now.low
+        → OnOk result (Costs (first_lines expect.now.level) (P.standing pages.old)
+        (P.standing pages.new))) }
     ensures cause { NodeCause P.Pages pages.old pages.new work.new.page result }
     ensures fails { IfErr result (Keeps (FailsNode (P.standing pages.old).count work.new.page)) }
     ensures unchanged { IfErr result (Unchanged (P.standing pages.old) (P.standing pages.new)) }
     ensures call { PagesCall P.Pages pages.old pages.new result }
     ensures keeps { OnOk result (KeepsLines (P.standing pages.old) (P.standing pages.new)) }
-    ensures few { (P.standing pages.new).visits + 2 ≤ (P.standing pages.old).visits + most_visits expect.now.level }
+    ensures few { (P.standing pages.new).visits + 2
+        ≤ (P.standing pages.old).visits + most_visits expect.now.level }
 {
     match find(pages, page, expect, from, work)? {
         Spot::Row(at) => row_from(pages, page, expect, at, work),
@@ -111,16 +128,27 @@ fn next_after<P: Pages>(
     requires few_levels { expect.now.level ≤ 3 }
     requires above { expect.now.low ≤ high }
     requires within { high ≤ expect.now.high }
-    ensures row { OnTree P.Pages pages.old page expect.now (Reaches (children_of (bytes_of (P.standing pages.old).current page)) expect.now.high high → IfOk result (λ row. row ≡ row_next (high + 1) (tree_rows (P.standing pages.old).current expect.now.level page))) }
+    ensures row { OnTree P.Pages pages.old page expect.now
+        (Reaches (children_of (bytes_of (P.standing pages.old).current page)) expect.now.high high
+        → IfOk result
+        (λ row. row ≡ row_next (high + 1)
+        (tree_rows (P.standing pages.old).current expect.now.level page))) }
     ensures sound { OnTree P.Pages pages.old page expect.now (IfErr result IsFault) }
-    ensures touches { OnTree P.Pages pages.old page expect.now (OnOk result (AddsReads (AreReadsIn (tree_pages (P.standing pages.old).current expect.now.level page)) (P.standing pages.old) (P.standing pages.new))) }
-    ensures cost { OnTree P.Pages pages.old page expect.now (Reaches (children_of (bytes_of (P.standing pages.old).current page)) expect.now.high high → IfOk result (λ row. Costs (lines_for 0 (first_lines expect.now.level) row) (P.standing pages.old) (P.standing pages.new))) }
+    ensures touches { OnTree P.Pages pages.old page expect.now
+        (OnOk result
+        (AddsReads (AreReadsIn (tree_pages (P.standing pages.old).current expect.now.level page))
+        (P.standing pages.old) (P.standing pages.new))) }
+    ensures cost { OnTree P.Pages pages.old page expect.now
+        (Reaches (children_of (bytes_of (P.standing pages.old).current page)) expect.now.high high
+        → IfOk result (λ row. Costs (lines_for 0 (first_lines expect.now.level) row)
+        (P.standing pages.old) (P.standing pages.new))) }
     ensures cause { NodeCause P.Pages pages.old pages.new work.new.page result }
     ensures fails { IfErr result (Keeps (FailsNode (P.standing pages.old).count work.new.page)) }
     ensures unchanged { IfErr result (Unchanged (P.standing pages.old) (P.standing pages.new)) }
     ensures call { PagesCall P.Pages pages.old pages.new result }
     ensures keeps { OnOk result (KeepsLines (P.standing pages.old) (P.standing pages.new)) }
-    ensures few { (P.standing pages.new).visits + 1 ≤ (P.standing pages.old).visits + most_visits (expect.now.level - 1) }
+    ensures few { (P.standing pages.new).visits + 1 ≤ (P.standing pages.old).visits + most_visits
+        (expect.now.level - 1) }
 {
     if high >= expect.high {
         return Ok(None);
@@ -149,10 +177,16 @@ pub fn next_from<P: Pages>(
     requires some_levels { 1 ≤ root.now.levels }
     requires few_levels { root.now.levels ≤ 4 }
     // the row
-    ensures row { OnRooted P.Pages pages.old root.now (λ rows used. IfOk result (λ row. row ≡ row_next from rows)) }
+    ensures row { OnRooted P.Pages pages.old root.now
+        (λ rows used. IfOk result (λ row. row ≡ row_next from rows)) }
     // what is read
-    ensures touches { OnRooted P.Pages pages.old root.now (λ rows used. OnOk result (AddsReads (AreReadsIn used) (P.standing pages.old) (P.standing pages.new))) }
-    ensures cost { OnRooted P.Pages pages.old root.now (λ rows used. OnOk result (Costs (20 * root.now.levels + 49) (P.standing pages.old) (P.standing pages.new))) }
+    ensures touches { OnRooted P.Pages pages.old root.now
+        (λ rows used.
+        OnOk result (AddsReads (AreReadsIn used) (P.standing pages.old) (P.standing pages.new))) }
+    ensures cost { OnRooted P.Pages pages.old root.now
+        (λ rows used.
+        OnOk result (Costs (20 * root.now.levels + 49) (P.standing pages.old)
+        (P.standing pages.new))) }
     // why it stops
     ensures sound { OnRooted P.Pages pages.old root.now (λ rows used. IfErr result IsFault) }
     ensures cause { NodeCause P.Pages pages.old pages.new work.new.page result }

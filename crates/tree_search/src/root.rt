@@ -16,7 +16,14 @@ pub struct Root {
 /// What is expected of a root's page.
 pub fn root_expect(root: &Root, count: u64) -> Expect
     requires { 1 ≤ root.now.levels }
-    ensures { result ≡ record { level = root.now.levels - 1; low = 0; high = last_key; root = true; pages = count } }
+    ensures { result
+        ≡ record {
+          level = root.now.levels - 1;
+          low = 0;
+          high = last_key;
+          root = true;
+          pages = count;
+        } }
 {
     Expect {
         level: root.levels - 1,
@@ -30,7 +37,14 @@ pub fn root_expect(root: &Root, count: u64) -> Expect
 /// What is expected of a child with these bounds.
 pub fn child_expect(expect: &Expect, low: u64, high: u64) -> Expect
     requires { 1 ≤ expect.now.level }
-    ensures { result ≡ record { level = expect.now.level - 1; low = low; high = high; root = false; pages = expect.now.pages } }
+    ensures { result
+        ≡ record {
+          level = expect.now.level - 1;
+          low = low;
+          high = high;
+          root = false;
+          pages = expect.now.pages;
+        } }
 {
     Expect {
         level: expect.level - 1,

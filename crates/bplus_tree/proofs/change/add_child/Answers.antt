@@ -93,7 +93,7 @@ returns-clause-adds g c = λ told.
     let spare = c.copy_from.ensures.value ∙ is ∙ ap (λ (lines : Lines). bytes_of lines c.args.page) (sym same) in
     if_both c.store.result
     (λ outcome stores outcome_is. child_added e old.current first.current new.current c.args.page c.args.key c.args.child first.count c.load.new.work.page c.inner_put-fit.new.left c.inner_put-fit.new.right c.inner_put-fit.result outcome
-    (c.in_ok-load.ensures.call.continues.count ∙ sym c.requires.pages) same is c.inner_put-fit.ensures.fits c.inner_put-fit.ensures.long outcome_is stores)
+    (c.in_ok-load.ensures.call.continues.count ∙ sym c.requires.pages) same is c.inner_put-fit.ensures.fits c.inner_put-fit.ensures.long c.inner_put-fit.ensures.parts outcome_is stores)
     (c.store.ensures.stores told_on spare) c.store.ensures.is
 
 pub returns-clause-sound : goal.returns-clause-sound

@@ -1,4 +1,4 @@
-use Rattle.std.proofs.Common.{◌≡◌, ◌∙◌, ℕ, length, IsTrue, true, false, arith, refl, sym, subst, rules}
+use Rattle.std.proofs.Common.{◌∷◌, ◌≤◌, List, IfOk, ◌≡◌, ◌∙◌, ℕ, length, IsTrue, true, false, arith, refl, sym, subst, rules}
 use Rattle.line_pages.specs.Lines.{Lines}
 use Rattle.line_pages.specs.Bytes.{bytes_of}
 use Rattle.line_pages.specs.Standing.{ReadsPage}
@@ -14,6 +14,9 @@ use Rattle.bplus_tree.proofs.LineCostLaws.{after_search, behind_is}
 use Rattle.bplus_tree.proofs.ByLines.{put_of, left_of, put_later, line_edits, record_by, change_by, record_read}
 use Rattle.bplus_tree.proofs.LineChangeLaws.{change_later}
 use Rattle.bplus_tree.proofs.FreshLaws.{fresh_in}
+use Rattle.page_alloc.specs.Space.{high_of, IsFreeList}
+use Rattle.page_alloc.specs.Moves.{ArePart}
+use Rattle.bplus_tree.specs.PageChanges.{CutsLeaf}
 use Rattle.bplus_tree.proofs.change.put_at.Goals as goal
 use Rattle.bplus_tree.proofs.change.put_at.Goals.{Then-done, After-put_leaf}
 use Rattle.bplus_tree.proofs.change.put_at.Given as given
@@ -128,3 +131,18 @@ returns-clause-by_lines g c = λ told well fits.
     subst (λ (lines : Lines). IsWellFormed (bytes_of lines c.args.page) e → c.in_ok-done.done ≡ fits_beside e.root c.args.key (length c.args.value.now) (bytes_of lines c.args.page)) (look.reads.current told)
     (c.in_ok-done.ensures.when told1) well in
     let never : false ≡ true = sym c.if-done.false ∙ is ∙ fits in absurd (cc)
+
+pub returns-clause-parts : goal.returns-clause-parts
+returns-clause-parts g c = λ told free is_free part within.
+    let old = g.P.Pages.standing c.args.pages.now in
+    let mid = g.P.Pages.standing c.put_by_lines.new.pages in
+    let new = g.P.Pages.standing c.put_leaf.new.pages in
+    let reads = left g (goal.at.returns-clause-parts g c).After-put_leaf in
+    let told2 = subst IsTrue (sym reads.told) told in
+    let parts : (free : List ℕ) → IsFreeList mid.current free → ArePart mid.current (c.args.page ∷ free) → high_of mid.current ≤ old.count
+    → CutsLeaf (row_put c.args.key c.args.value.now (leaf_rows (bytes_of mid.current c.args.page))) new.current c.args.page c.in_ok-outcome.outcome =
+    subst (λ (n : ℕ). (free : List ℕ) → IsFreeList mid.current free → ArePart mid.current (c.args.page ∷ free) → high_of mid.current ≤ n
+    → CutsLeaf (row_put c.args.key c.args.value.now (leaf_rows (bytes_of mid.current c.args.page))) new.current c.args.page c.in_ok-outcome.outcome)
+    (c.in_ok-done.ensures.call.continues.count ∙ c.in_ok-spot.ensures.call.continues.count) (c.in_ok-outcome.ensures.parts told2) in
+    subst (λ (lines : Lines). (free : List ℕ) → IsFreeList lines free → ArePart lines (c.args.page ∷ free) → high_of lines ≤ old.count
+    → CutsLeaf (row_put c.args.key c.args.value.now (leaf_rows (bytes_of lines c.args.page))) new.current c.args.page c.in_ok-outcome.outcome) (reads.current told) parts free is_free part within

@@ -7,6 +7,8 @@ use Rattle.page_alloc.proofs.WrittenLaws.{changed_most}
 use Rattle.bplus_tree.proofs.Storing.{spent_most, leaf_spent, leaf_edits, if_both}
 use Rattle.page_format.specs.Node.{leaf_rows}
 use Rattle.node_edit.specs.Record.{FitsLeaf, HoldsLength}
+use Rattle.bplus_tree.specs.PageChanges.{CutsLeaf}
+use Rattle.bplus_tree.proofs.PageLaws.{leaf_cuts}
 use Rattle.bplus_tree.proofs.SameLength.{uncut_whole, outcome_whole, record_written}
 use Rattle.bplus_tree.proofs.LineChangeLaws.{page_changed}
 use Rattle.page_alloc.proofs.LackLaws.{stored_sound}
@@ -108,3 +110,19 @@ returns-clause-needed g c = λ told well.
     let over = leaf_overfull c.args.expect.now c.leaf_put-fit.new.left c.leaf_put-fit.new.right rows c.leaf_put-fit.result c.byte.ensures.size c.requires.level c.leaf_put-fit.ensures.fits c.leaf_put-fit.ensures.whole in
     subst (λ (b : List ℕ). IfErr c.store.result (IsNeeded (IsOverfull (row_put c.args.key c.args.value.now (leaf_rows b))) ⊥)) (c.in_ok-load.ensures.bytes told)
     (needed_of c.leaf_put-fit.result (IsOverfull rows) ⊥ c.store.result over c.store.ensures.plain c.store.ensures.not_full)
+
+pub returns-clause-parts : goal.returns-clause-parts
+returns-clause-parts g c = λ told free is_free part within.
+    let old = g.P.Pages.standing c.args.pages.now in
+    let first = g.P.Pages.standing c.load.new.pages in
+    let new = g.P.Pages.standing c.store.new.pages in
+    let told_on = subst IsTrue (sym c.in_ok-load.ensures.call.continues.told) told in
+    let same = c.in_ok-load.ensures.keeps.current told in
+    let is = c.in_ok-load.ensures.bytes told in
+    let spare = c.copy_from.ensures.value ∙ is ∙ ap (λ (lines : Lines). bytes_of lines c.args.page) (sym same) in
+    let rows = row_put c.args.key c.args.value.now (leaf_rows c.load.new.work.page) in
+    subst (λ (b : List ℕ). IfOk c.store.result (CutsLeaf (row_put c.args.key c.args.value.now (leaf_rows b)) new.current c.args.page)) is
+    (if_both c.store.result
+    (λ outcome stores outcome_is. leaf_cuts old.count first.count old.current first.current new.current c.args.page rows c.leaf_put-fit.new.left c.leaf_put-fit.new.right free c.leaf_put-fit.result outcome c.in_ok-load.ensures.call.continues.count same
+    c.leaf_put-fit.ensures.parts outcome_is stores is_free part within)
+    (c.store.ensures.stores told_on spare) c.store.ensures.is)

@@ -5,9 +5,12 @@ use Rattle.line_pages.proofs.StandingLaws.{KeepsPages-trans, KeepsPages-then, Ke
 use Rattle.rows.specs.Rows.{row_delete}
 use Rattle.bplus_tree.specs.declared.path.Passed.{Passed}
 use Rattle.bplus_tree.proofs.Editing.{delete_local}
-use Rattle.bplus_tree.proofs.PathLaws.{Climbing, CanSettle, climb_start, climb_on, can_settle, uncut_below, uncut_above, climb_faults}
+use Rattle.bplus_tree.proofs.PathLaws.{Climbing, CanSettle, climb_start, climb_on, climb_under, emptied, can_settle, uncut_below, uncut_above, climb_faults}
 use Rattle.line_pages.specs.Bytes.{bytes_of}
-use Rattle.page_format.specs.Node.{IsWellFormed}
+use Rattle.page_format.specs.Node.{IsWellFormed, leaf_rows}
+use Rattle.node_edit.proofs.LeafLaws.{fits_full}
+use Rattle.bplus_tree.proofs.PageLaws.{uncut_leaf}
+use Rattle.bplus_tree.proofs.UnderLaws.{leaf_under}
 use Rattle.page_alloc.specs.Space.{FitsHeader}
 use Rattle.page_alloc.specs.Stops.{IsFault}
 use Rattle.tree_search.proofs.SearchLaws.{well_formed_top}
@@ -37,7 +40,10 @@ loop-passed-init g c =
       by_lines = goes_start c.args.key (keeps_without c.args.key) delete_lines c.args.top c.in_ok-leaf.leaf c.descend.new.path.items old mid new c.in_ok-outcome.outcome down.leads down.level down.keeps.current down.keeps.room down.nothing down.cost
           (λ told well fits. leaf.by_lines (subst IsTrue (sym down.call.continues.told) told) well fits);
       climbing = climb_start old.told old.count c.args.key old.current mid.current new.current c.args.top c.in_ok-leaf.leaf c.descend.new.path.items c.in_ok-outcome.outcome (row_delete c.args.key) old.room mid.room new.room old.visits mid.visits new.visits
-          down.level down.place.pages down.leads down.keeps.current down.keeps.room down.few (subst (λ n. IsSafe n c.in_ok-leaf.leaf.expect c.in_ok-outcome.outcome) down.call.continues.count leaf.safe) (uncut_below c.in_ok-leaf.leaf.expect c.in_ok-outcome.outcome leaf.uncut) (λ told. leaf.edits (subst IsTrue (sym down.call.continues.told) told)) leaf.room leaf.few;
+          down.level down.place.pages down.leads down.keeps.current down.keeps.room down.few (subst (λ n. IsSafe n c.in_ok-leaf.leaf.expect c.in_ok-outcome.outcome) down.call.continues.count leaf.safe) (uncut_below c.in_ok-leaf.leaf.expect c.in_ok-outcome.outcome leaf.uncut) (λ told. leaf.edits (subst IsTrue (sym down.call.continues.told) told))
+          (λ told. leaf_under c.args.key c.in_ok-leaf.leaf old.current mid.current new.current c.in_ok-outcome.outcome (row_delete c.args.key) down.level (down.keeps.current told) (leaf.edits (subst IsTrue (sym down.call.continues.told) told))
+          (λ well fits. (leaf.by_lines (subst IsTrue (sym down.call.continues.told) told) well (fits_full c.in_ok-leaf.leaf.expect.root (row_delete c.args.key (leaf_rows (bytes_of mid.current c.in_ok-leaf.leaf.page))) fits)).0)
+          (λ free is_free part within. uncut_leaf (row_delete c.args.key (leaf_rows (bytes_of mid.current c.in_ok-leaf.leaf.page))) new.current c.in_ok-leaf.leaf.page c.in_ok-outcome.outcome leaf.uncut)) leaf.room leaf.few;
       uncut = leaf.uncut;
     }
 
@@ -127,3 +133,10 @@ returns-in_err-outcome-2-clause-not_full g c =
     let h : IfErr c.settle.result NotFull = uncut_not_full c.in-Some.passed c.loop-passed.outcome c.settle.result c.loop-passed.invariant.uncut c.settle.ensures.at in
     let k = subst (λ r. IfErr r NotFull) c.in_err-outcome-2.was h in
     search (rules, k)
+
+pub returns-clause-under : goal.returns-clause-under
+returns-clause-under g c = λ told free stands.
+    let old = g.P.Pages.standing c.args.pages.now in
+    let now = g.P.Pages.standing c.loop-passed.pages in
+    let none = emptied c.loop-passed.path.items (λ some. let never = c.in_default.ensures.variant.1 some in absurd (cc)) in
+    climb_under old.told old.count c.args.key old.current now.current c.args.top c.loop-passed.path.items c.loop-passed.outcome (row_delete c.args.key) old.room now.room old.visits now.visits none c.loop-passed.invariant.climbing told free stands

@@ -1,10 +1,11 @@
-use Rattle.std.proofs.Common.{◌≡◌, length, inr, IsTrue, sym, subst, ◌∙◌, rules, IfErr, ℕ, ◌<◌, ◌≤◌}
+use Rattle.std.proofs.Common.{arith, ◌≡◌, length, inr, IsTrue, sym, subst, ◌∙◌, rules, IfErr, ℕ, ◌<◌, ◌≤◌}
 use Rattle.std.specs.Prelude.{List}
 use Rattle.line_pages.proofs.StandingLaws.{KeepsPages-trans, KeepsPages-then, KeepsPages-stops}
 use Rattle.rows.specs.Rows.{row_put}
 use Rattle.bplus_tree.specs.declared.path.Passed.{Passed}
 use Rattle.bplus_tree.proofs.Editing.{put_local}
-use Rattle.bplus_tree.proofs.PathLaws.{Climbing, CanSettle, climb_start, climb_on, climb_end, can_settle, climb_stops, emptied}
+use Rattle.bplus_tree.proofs.PathLaws.{Climbing, CanSettle, climb_start, climb_on, climb_end, climb_under, can_settle, climb_stops, emptied}
+use Rattle.bplus_tree.proofs.UnderLaws.{leaf_under}
 use Rattle.page_alloc.specs.Space.{FitsHeader}
 use Rattle.tree_search.specs.Tree.{tree_rows}
 use Rattle.page_alloc.specs.Stops.{StopsFor, spare_pages}
@@ -45,7 +46,10 @@ loop-passed-init g c =
       by_lines = goes_start c.args.key (λ root. fits_beside root c.args.key (length c.args.value.now)) (put_lines c.args.key (length c.args.value.now)) c.args.top c.in_ok-leaf.leaf c.descend.new.path.items old mid new c.in_ok-change.change.outcome down.leads down.level down.keeps.current down.keeps.room down.nothing down.cost
           (λ told well fits. leaf.by_lines (subst IsTrue (sym down.call.continues.told) told) well fits);
       climbing = climb_start old.told old.count c.args.key old.current mid.current new.current c.args.top c.in_ok-leaf.leaf c.descend.new.path.items c.in_ok-change.change.outcome (row_put c.args.key c.args.value.now) old.room mid.room new.room old.visits mid.visits new.visits
-          down.level down.place.pages down.leads down.keeps.current down.keeps.room down.few (subst (λ n. IsSafe n c.in_ok-leaf.leaf.expect c.in_ok-change.change.outcome) down.call.continues.count leaf.safe) leaf.below (λ told. leaf.edits (subst IsTrue (sym down.call.continues.told) told)) leaf.room leaf.few;
+          down.level down.place.pages down.leads down.keeps.current down.keeps.room down.few (subst (λ n. IsSafe n c.in_ok-leaf.leaf.expect c.in_ok-change.change.outcome) down.call.continues.count leaf.safe) leaf.below (λ told. leaf.edits (subst IsTrue (sym down.call.continues.told) told))
+          (λ told. leaf_under c.args.key c.in_ok-leaf.leaf old.current mid.current new.current c.in_ok-change.change.outcome (row_put c.args.key c.args.value.now) down.level (down.keeps.current told) (leaf.edits (subst IsTrue (sym down.call.continues.told) told))
+          (λ well fits. leaf.fills (subst IsTrue (sym down.call.continues.told) told) well fits)
+          (λ free is_free part within. leaf.parts (subst IsTrue (sym down.call.continues.told) told) free is_free part (omega (arith, within, down.place.pages, down.call.continues.count)))) leaf.room leaf.few;
       filling = filling_start old.told old.count c.args.key c.args.value.now old.current mid.current c.args.top c.in_ok-leaf.leaf c.descend.new.path.items c.in_ok-change.change.outcome down.level down.leads down.keeps.current
           (λ told. leaf.cuts (subst IsTrue (sym down.call.continues.told) told));
     }
@@ -225,3 +229,17 @@ returns-clause-fresh g c = λ told tree.
     let down = c.in_ok-leaf.ensures in
     let told_on = subst IsTrue (sym down.call.continues.told) told in
     fresh_under c.args.key c.args.top c.in_ok-leaf.leaf c.descend.new.path.items old mid c.in_ok-change.change.fresh told tree down.leads down.level (down.keeps.current told) (c.in_ok-change.ensures.fresh told_on)
+
+pub returns-clause-under : goal.returns-clause-under
+returns-clause-under g c = λ told free stands.
+    let old = g.P.Pages.standing c.args.pages.now in
+    let now = g.P.Pages.standing c.loop-passed.pages in
+    let none = emptied c.loop-passed.path.items (λ some. let never = c.in_default.ensures.variant.1 some in absurd (cc)) in
+    climb_under old.told old.count c.args.key old.current now.current c.args.top c.loop-passed.path.items c.loop-passed.outcome (row_put c.args.key c.args.value.now) old.room now.room old.visits now.visits none c.loop-passed.invariant.climbing told free stands
+
+pub returns-clause-edits : goal.returns-clause-edits
+returns-clause-edits g c = λ told.
+    let old = g.P.Pages.standing c.args.pages.now in
+    let now = g.P.Pages.standing c.loop-passed.pages in
+    let none = emptied c.loop-passed.path.items (λ some. let never = c.in_default.ensures.variant.1 some in absurd (cc)) in
+    (climb_end old.told old.count c.args.key old.current now.current c.args.top c.loop-passed.path.items c.loop-passed.outcome (row_put c.args.key c.args.value.now) old.room now.room old.visits now.visits none c.loop-passed.invariant.climbing).edits told

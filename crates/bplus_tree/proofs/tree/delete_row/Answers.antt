@@ -1,10 +1,11 @@
-use Rattle.std.proofs.Common.{rules, IfErr, subst}
+use Rattle.std.proofs.Common.{rules, refl, IfErr, subst}
 use Rattle.page_alloc.specs.Stops.{IsFault}
 use Rattle.bplus_tree.proofs.RootLaws.{root_stands}
 use Rattle.rows.specs.Rows.{row_delete}
 use Rattle.bplus_tree.specs.declared.outcome.Outcome.TheVariants.{Whole, Short, Alone}
 use Rattle.bplus_tree.proofs.Storing.{root_edited}
 use Rattle.bplus_tree.proofs.PathLaws.{at_root}
+use Rattle.bplus_tree.proofs.UnderLaws.{root_pages}
 use Rattle.bplus_tree.specs.LineCosts.{keeps_without, delete_lines}
 use Rattle.bplus_tree.proofs.LineCostLaws.{goes_root}
 use Rattle.bplus_tree.proofs.tree.delete_row.Goals as goal
@@ -61,4 +62,29 @@ returns-in-Alone-clause-by_lines g c = λ told rows used rooted ok.
 
 pub returns-in-Cut-clause-by_lines : goal.returns-in-Cut-clause-by_lines
 returns-in-Cut-clause-by_lines g c = λ told rows used rooted ok.
+    let never = c.in_ok-child.ensures.uncut _ _ c.in-Cut.is in absurd never
+
+pub returns-in-Whole-clause-pages : goal.returns-in-Whole-clause-pages
+returns-in-Whole-clause-pages g c = λ told.
+    let old = g.P.Pages.standing c.args.pages.now in
+    let new = g.P.Pages.standing c.delete_in.new.pages in
+    root_pages old.count _ c.args.key old.current new.current new.current c.args.root.now _ c.top_of-top.result Whole (row_delete c.args.key) c.page_count.ensures.count c.top_of-top.ensures
+    (rw c.in-Whole.is at (c.in_ok-child.ensures.edits told)) (rw c.in-Whole.is at (c.in_ok-child.ensures.under told)) (λ rest is_free. (refl, refl))
+
+pub returns-in-Short-clause-pages : goal.returns-in-Short-clause-pages
+returns-in-Short-clause-pages g c = λ told.
+    let old = g.P.Pages.standing c.args.pages.now in
+    let new = g.P.Pages.standing c.delete_in.new.pages in
+    root_pages old.count _ c.args.key old.current new.current new.current c.args.root.now _ c.top_of-top.result Short (row_delete c.args.key) c.page_count.ensures.count c.top_of-top.ensures
+    (rw c.in-Short.is at (c.in_ok-child.ensures.edits told)) (rw c.in-Short.is at (c.in_ok-child.ensures.under told)) (λ rest is_free. (refl, refl))
+
+pub returns-in-Alone-clause-pages : goal.returns-in-Alone-clause-pages
+returns-in-Alone-clause-pages g c = λ told.
+    let old = g.P.Pages.standing c.args.pages.now in
+    let new = g.P.Pages.standing c.delete_in.new.pages in
+    root_pages old.count _ c.args.key old.current new.current new.current c.args.root.now _ c.top_of-top.result (Alone c.in-Alone.child) (row_delete c.args.key) c.page_count.ensures.count c.top_of-top.ensures
+    (rw c.in-Alone.is at (c.in_ok-child.ensures.edits told)) (rw c.in-Alone.is at (c.in_ok-child.ensures.under told)) (λ rest is_free. (refl, refl))
+
+pub returns-in-Cut-clause-pages : goal.returns-in-Cut-clause-pages
+returns-in-Cut-clause-pages g c = λ told.
     let never = c.in_ok-child.ensures.uncut _ _ c.in-Cut.is in absurd never

@@ -20,3 +20,6 @@ returns-clause-needed g c = rw c.bytes.ensures.value at c.put_row.ensures.needed
 
 pub returns-clause-by_lines : goal.returns-clause-by_lines
 returns-clause-by_lines g c = rw c.bytes.ensures.value at c.put_row.ensures.by_lines
+
+pub returns-clause-pages : goal.returns-clause-pages
+returns-clause-pages g c = rw c.bytes.ensures.value at c.put_row.ensures.pages

@@ -7,6 +7,8 @@ use Rattle.bplus_tree.specs.Edit.{StaysBelow}
 use Rattle.page_alloc.specs.Moves.{Takes}
 use Rattle.bplus_tree.proofs.Storing.{root_edited, root_cut}
 use Rattle.bplus_tree.proofs.PathLaws.{at_root}
+use Rattle.bplus_tree.proofs.PageLaws.{root_over}
+use Rattle.bplus_tree.proofs.UnderLaws.{root_pages}
 use Rattle.bplus_tree.specs.Damage.{IsLack}
 use Rattle.page_alloc.specs.Stops.{pages_at_hand}
 use Rattle.bplus_tree.proofs.LackLaws.{fault_lack}
@@ -66,7 +68,7 @@ returns-in_ok-write_new-in-Cut-clause-rows g c = λ told.
     (at_root old.count _ old.current mid.current root c.top_of-top.result (Cut c.in-Cut.separator c.in-Cut.right) step c.page_count-count.ensures.count c.top_of-top.ensures (rw c.in-Cut.is at (c.in_ok-change.ensures.edits told)))
     (subst (λ n. Takes n mid.current a.current c.in_ok-page-in-Cut.page) c.in_ok-change.ensures.call.continues.count (c.in_ok-page-in-Cut.ensures.moves told_mid))
     (c.in_ok-write_new-in-Cut.ensures.writes told_a)
-    (subst (λ n. IsNewRoot c.root_of.new.page root.levels root.page c.in-Cut.separator c.in-Cut.right n) c.page_count-count.ensures.count c.root_of.ensures)
+    (subst (λ n. IsNewRoot c.root_of.new.page root.levels root.page c.in-Cut.separator c.in-Cut.right n) c.page_count-count.ensures.count c.root_of.ensures.is)
 
 pub returns-in_err-change-clause-sound : goal.returns-in_err-change-clause-sound
 returns-in_err-change-clause-sound g c = λ told rows used free stands.
@@ -255,3 +257,38 @@ returns-in_ok-write_new-in-Cut-clause-fresh g c = λ told. root_fresh c.args.roo
 
 pub returns-in-Alone-clause-fresh : goal.returns-in-Alone-clause-fresh
 returns-in-Alone-clause-fresh g c = λ told. root_fresh c.args.root.now c.top_of-top.result _ c.args.key (g.P.Pages.standing c.args.pages.now) c.in_ok-change.change.fresh c.page_count-count.ensures.count c.top_of-top.ensures (c.in_ok-change.ensures.fresh told)
+
+pub returns-in-Whole-clause-pages : goal.returns-in-Whole-clause-pages
+returns-in-Whole-clause-pages g c = λ told.
+    let old = g.P.Pages.standing c.args.pages.now in
+    let new = g.P.Pages.standing c.put_in.new.pages in
+    root_pages old.count _ c.args.key old.current new.current new.current c.args.root.now _ c.top_of-top.result Whole (row_put c.args.key c.args.value.now) c.page_count-count.ensures.count c.top_of-top.ensures
+    (rw c.in-Whole.is at (c.in_ok-change.ensures.edits told)) (rw c.in-Whole.is at (c.in_ok-change.ensures.under told)) (λ rest is_free. (refl, refl))
+
+pub returns-in-Short-clause-pages : goal.returns-in-Short-clause-pages
+returns-in-Short-clause-pages g c = λ told.
+    let old = g.P.Pages.standing c.args.pages.now in
+    let new = g.P.Pages.standing c.put_in.new.pages in
+    root_pages old.count _ c.args.key old.current new.current new.current c.args.root.now _ c.top_of-top.result Short (row_put c.args.key c.args.value.now) c.page_count-count.ensures.count c.top_of-top.ensures
+    (rw c.in-Short.is at (c.in_ok-change.ensures.edits told)) (rw c.in-Short.is at (c.in_ok-change.ensures.under told)) (λ rest is_free. (refl, refl))
+
+pub returns-in-Alone-clause-pages : goal.returns-in-Alone-clause-pages
+returns-in-Alone-clause-pages g c = λ told.
+    let old = g.P.Pages.standing c.args.pages.now in
+    let new = g.P.Pages.standing c.put_in.new.pages in
+    root_pages old.count _ c.args.key old.current new.current new.current c.args.root.now _ c.top_of-top.result (Alone c.in-Alone.child) (row_put c.args.key c.args.value.now) c.page_count-count.ensures.count c.top_of-top.ensures
+    (rw c.in-Alone.is at (c.in_ok-change.ensures.edits told)) (rw c.in-Alone.is at (c.in_ok-change.ensures.under told)) (λ rest is_free. (refl, refl))
+
+pub returns-in_ok-write_new-in-Cut-clause-pages : goal.returns-in_ok-write_new-in-Cut-clause-pages
+returns-in_ok-write_new-in-Cut-clause-pages g c = λ told.
+    let root = c.args.root.now in
+    let old = g.P.Pages.standing c.args.pages.now in
+    let mid = g.P.Pages.standing c.put_in.new.pages in
+    let a = g.P.Pages.standing c.take.new.pages in
+    let new = g.P.Pages.standing c.write_new.new.pages in
+    let told_mid = subst IsTrue (sym c.in_ok-change.ensures.call.continues.told) told in
+    let told_a = subst IsTrue (sym c.in_ok-page-in-Cut.ensures.call.continues.told) told_mid in
+    root_pages old.count _ c.args.key old.current mid.current new.current root _ c.top_of-top.result (Cut c.in-Cut.separator c.in-Cut.right) (row_put c.args.key c.args.value.now) c.page_count-count.ensures.count c.top_of-top.ensures
+    (rw c.in-Cut.is at (c.in_ok-change.ensures.edits told)) (rw c.in-Cut.is at (c.in_ok-change.ensures.under told))
+    (λ rest is_free. root_over mid.count _ mid.current a.current new.current root c.in_ok-page-in-Cut.page c.in-Cut.separator c.in-Cut.right c.root_of.new.page rest (c.in_ok-page-in-Cut.ensures.moves told_mid) (c.in_ok-write_new-in-Cut.ensures.writes told_a)
+    c.root_of.ensures.is c.root_of.ensures.unused is_free)

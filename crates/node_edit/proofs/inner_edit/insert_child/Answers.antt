@@ -1,8 +1,10 @@
-use Rattle.std.proofs.Common.{◌≡◌, length, length-drop, arith, sym, ap, ◌∙◌}
+use Rattle.std.proofs.Common.{◌≡◌, ℕ, subst, length, length-drop, arith, sym, ap, ◌∙◌}
 use Rattle.std.specs.List.{insert}
 use Rattle.std.proofs.lemmas.List.Edits.{length-insert}
 use Rattle.page_edit.specs.Cut.{children_left}
 use Rattle.page_format.specs.Node.{children, first_keys}
+use Rattle.node_edit.specs.Cuts.{CutsChildren}
+use Rattle.node_edit.proofs.CutLaws.{children_cut}
 use Rattle.node_edit.proofs.LeafLaws.{wide_order}
 use Rattle.node_edit.proofs.ChildEdits.{inner_within, cut_children_divide, half_of_full}
 use Rattle.node_edit.proofs.inner_edit.insert_child.Goals as goal
@@ -37,3 +39,13 @@ returns-clause-fits c =
     let half = half_of_full (length all) size in
     cut_children_divide c.args.expect.now c.inner_cut.new.left c.inner_cut.new.right (children_left (length all)) all c.child_key.result (0, 0) (sym (c.inner_cut.ensures.left_level ∙ c.requires.level)) (sym (c.inner_cut.ensures.right_level ∙ c.requires.level))
     c.inner_cut.ensures.left_branch c.inner_cut.ensures.right_branch c.inner_cut.ensures.left c.inner_cut.ensures.right (omega (arith, half, size)) (omega (arith, half)) (omega (arith, half, size)) are.begins are.order are.below (c.child_key.ensures (0, 0))
+
+pub returns-clause-parts : goal.returns-clause-parts
+returns-clause-parts c = λ k is.
+    let all = insert (children c.args.left.now) c.args.at (c.args.key, c.args.child) in
+    let size : length all ≡ 241 = length-insert (children c.args.left.now) c.args.at (c.args.key, c.args.child) c.requires.at ∙ omega (arith, c.requires.branch.room, c.if-children-lt240.false, c.children.ensures.children) in
+    let half = half_of_full (length all) size in
+    let same : c.child_key.result ≡ k = cc in
+    subst (λ (n : ℕ). CutsChildren all (children c.inner_cut.new.left) (children c.inner_cut.new.right) n) same
+    (children_cut all (children c.inner_cut.new.left) (children c.inner_cut.new.right) c.child_key.result (0, 0) (omega (arith, size)) (omega (arith, half, size)) c.inner_cut.ensures.left c.inner_cut.ensures.right
+    (omega (arith, ap length c.inner_cut.ensures.right, length-drop (children_left (length all)) all, half, size)) (c.child_key.ensures (0, 0)))

@@ -1,10 +1,12 @@
-use Rattle.std.proofs.Common.{◌<◌, [], arith}
+use Rattle.std.proofs.Common.{◌≡◌, ◌<◌, ℕ, [], length, arith, subst}
 use Rattle.std.specs.List.{insert}
 use Rattle.rows.specs.Rows.{keys}
 use Rattle.page_edit.specs.Cut.{rows_left}
 use Rattle.page_format.specs.Node.{leaf_rows}
 use Rattle.page_format.specs.Sound.{row_bytes}
 use Rattle.page_format.proofs.RowLemmas.{row_bytes-insert}
+use Rattle.node_edit.specs.Cuts.{CutsRows}
+use Rattle.node_edit.proofs.CutLaws.{rows_cut}
 use Rattle.node_edit.proofs.LeafLaws.{wide_order, some_rows, cut_divides}
 use Rattle.node_edit.proofs.leaf_edit.cut_row.Goals as goal
 
@@ -27,3 +29,13 @@ returns-clause-fits c =
 
 pub returns-clause-more : goal.returns-clause-more
 returns-clause-more c = omega (arith, row_bytes-insert (leaf_rows c.args.left.now) c.args.at (c.args.key, c.args.value.now), c.requires.over)
+
+pub returns-clause-parts : goal.returns-clause-parts
+returns-clause-parts c = λ k is.
+    let all = insert (leaf_rows c.args.left.now) c.args.at (c.args.key, c.args.value.now) in
+    let size = row_bytes-insert (leaf_rows c.args.left.now) c.args.at (c.args.key, c.args.value.now) in
+    let over : 4032 < row_bytes all = omega (arith, size, c.requires.over) in
+    let same : c.leaf_key.result ≡ k = cc in
+    let full = c.leaf_cut.ensures.right_full over in
+    subst (λ (n : ℕ). CutsRows all (leaf_rows c.leaf_cut.new.left) (leaf_rows c.leaf_cut.new.right) n) same
+    (rows_cut all (leaf_rows c.leaf_cut.new.left) (leaf_rows c.leaf_cut.new.right) c.leaf_key.result (0, []) over c.leaf_cut.ensures.halves (some_rows (leaf_rows c.leaf_cut.new.right) (omega (arith, full))) (c.leaf_key.ensures (0, [])))

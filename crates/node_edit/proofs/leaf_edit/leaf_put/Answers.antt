@@ -5,6 +5,7 @@ use Rattle.page_format.specs.Node.{leaf_rows}
 use Rattle.page_format.specs.Sound.{row_bytes}
 use Rattle.node_edit.specs.Edit.{Fits}
 use Rattle.node_edit.specs.Record.{FitsLeaf}
+use Rattle.node_edit.specs.Cuts.{CutsRows}
 use Rattle.node_edit.proofs.KeyPlaceLaws.{row_puts, put_new, put_again, put_same}
 use Rattle.node_edit.proofs.LeafLaws.{put_order, leaf_within, set_bytes}
 use Rattle.node_edit.proofs.SameLength.{held_place, set_record}
@@ -89,3 +90,16 @@ returns-clause-whole c = λ fits.
     let rows = leaf_rows c.args.left.now in
     c.insert_row-2.ensures.whole (subst (λ (all : List Row). FitsLeaf (c.args.expect.now.root ≡ true) all)
     (put_again (row_puts c.args.key c.args.value.now) rows (leaf_rows c.leaf_remove.new.page) c.leaf_place-at.result (sym c.is_there.ensures.there ∙ c.if-not-is_there.false) c.leaf_place-at.ensures.place c.leaf_remove.ensures.rows) fits)
+
+pub returns-then-not-is_there-clause-parts : goal.returns-then-not-is_there-clause-parts
+returns-then-not-is_there-clause-parts c = λ k is.
+    let rows = leaf_rows c.args.left.now in
+    subst (λ (all : List Row). CutsRows all (leaf_rows c.insert_row.new.left) (leaf_rows c.insert_row.new.right) k)
+    (sym (put_new (row_puts c.args.key c.args.value.now) rows c.leaf_place-at.result (sym c.is_there.ensures.there ∙ c.if-not-is_there.true) c.leaf_place-at.ensures.place)) (c.insert_row.ensures.parts k is)
+
+pub returns-clause-parts : goal.returns-clause-parts
+returns-clause-parts c = λ k is.
+    let rows = leaf_rows c.args.left.now in
+    subst (λ (all : List Row). CutsRows all (leaf_rows c.insert_row-2.new.left) (leaf_rows c.insert_row-2.new.right) k)
+    (sym (put_again (row_puts c.args.key c.args.value.now) rows (leaf_rows c.leaf_remove.new.page) c.leaf_place-at.result (sym c.is_there.ensures.there ∙ c.if-not-is_there.false) c.leaf_place-at.ensures.place c.leaf_remove.ensures.rows))
+    (c.insert_row-2.ensures.parts k is)

@@ -3,6 +3,7 @@ use Rattle.page_format.specs.declared.root.Expect.{Expect}
 use Rattle.page_edit.specs.Cut.{children_left}
 use Rattle.page_format.specs.Node.{children, first_keys, page_level}
 use Rattle.node_edit.specs.Edit.{AreChildren, left_of, right_of}
+use Rattle.node_edit.proofs.CutLaws.{children_cut}
 use Rattle.node_edit.proofs.LeafLaws.{wide_order}
 use Rattle.node_edit.proofs.MergeLaws.{children_order, inner_joined, inner_divided, half_facts}
 use Rattle.node_edit.proofs.merge.merge_inner.Goals as goal
@@ -59,3 +60,16 @@ returns-clause-cut c =
     let d = inner_divided c.args.count c.args.level c.args.pair.now c.args.left.now c.args.right.now c.inner_join.new.left c.inner_join.new.right c.child_key.result (0, 0) c.requires.is (left_are p) (right_are p) (left_level p) (right_level p)
     (c.inner_join.ensures.divided c.if-inner_join.false) (c.child_key.ensures (0, 0)) in
     (d.above, d.within)
+
+pub returns-then-inner_join-clause-joins : goal.returns-then-inner_join-clause-joins
+returns-then-inner_join-clause-joins c =
+    let j = c.inner_join.ensures.joined c.if-inner_join.true in
+    (j.children_are, j.fits)
+
+pub returns-clause-joins : goal.returns-clause-joins
+returns-clause-joins c =
+    let v = c.inner_join.ensures.divided c.if-inner_join.false in
+    let all = children c.args.left.now ++ children c.args.right.now in
+    let half = half_facts (length all) v.over in
+    children_cut all (children c.inner_join.new.left) (children c.inner_join.new.right) c.child_key.result (0, 0) v.over half.2 v.left_children v.right_children
+    (omega (arith, half.1, ap length v.right_children, length-drop (children_left (length all)) all)) (c.child_key.ensures (0, 0))

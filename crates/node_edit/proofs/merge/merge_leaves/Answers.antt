@@ -1,8 +1,10 @@
-use Rattle.std.proofs.Common.{◌-◌, ◌++◌, [], arith, ap, subst}
+use Rattle.std.proofs.Common.{◌≡◌, ◌≤◌, inl, inr, ◌∙◌, sym, ◌-◌, ◌++◌, [], arith, ap, subst}
 use Rattle.page_format.specs.declared.root.Expect.{Expect}
 use Rattle.rows.specs.Rows.{keys, Ascends}
 use Rattle.page_format.specs.Node.{leaf_rows}
-use Rattle.node_edit.proofs.LeafLaws.{wide_order}
+use Rattle.page_format.specs.Sound.{row_bytes}
+use Rattle.node_edit.proofs.CutLaws.{rows_cut}
+use Rattle.node_edit.proofs.LeafLaws.{wide_order, some_rows}
 use Rattle.node_edit.proofs.MergeLaws.{rows_order, leaves_joined, leaves_divided, leaves_kept}
 use Rattle.node_edit.proofs.merge.merge_leaves.Goals as goal
 use Rattle.node_edit.proofs.merge.merge_leaves.Goals.{After-top_of}
@@ -44,3 +46,22 @@ returns-clause-cut c =
     let d = leaves_divided c.args.count c.args.pair.now c.args.left.now c.args.right.now c.leaf_join.new.left c.leaf_join.new.right c.leaf_key.result (0, []) c.open_leaf-2.ensures.size c.open_leaf-3.ensures.size
     (c.leaf_join.ensures.divided c.if-leaf_join.false) (both_order p) (c.leaf_key.ensures (0, [])) in
     (d.above, d.within)
+
+pub returns-then-are_full-clause-joins : goal.returns-then-are_full-clause-joins
+returns-then-are_full-clause-joins c = λ short.
+    let full = c.are_full.ensures.full c.if-are_full.true in
+    elim short [
+      | inl low ↦ absurd (omega (arith, low, full.0))
+      | inr low ↦ absurd (omega (arith, low, full.1))
+    ]
+
+pub returns-then-leaf_join-clause-joins : goal.returns-then-leaf_join-clause-joins
+returns-then-leaf_join-clause-joins c = λ short.
+    let j = c.leaf_join.ensures.joined c.if-leaf_join.true in
+    (j.rows, j.fits)
+
+pub returns-clause-joins : goal.returns-clause-joins
+returns-clause-joins c = λ short.
+    let v = c.leaf_join.ensures.divided c.if-leaf_join.false in
+    rows_cut (leaf_rows c.args.left.now ++ leaf_rows c.args.right.now) (leaf_rows c.leaf_join.new.left) (leaf_rows c.leaf_join.new.right) c.leaf_key.result (0, []) v.over v.halves
+    (some_rows (leaf_rows c.leaf_join.new.right) (omega (arith, v.right_full))) (c.leaf_key.ensures (0, []))

@@ -3,7 +3,7 @@ use Rattle.table_store.proofs.CreateLaws.{unknown_by, present_is}
 use Rattle.table_catalog.specs.Catalog.{tables}
 use Rattle.rows.specs.Tables.{is_known}
 use Rattle.table_store.specs.Getting.{is_no_table, got_of, FailsLookup}
-use Rattle.table_store.proofs.LookupLaws.{known_some, named_none, answer_in, sound_in, way_none, way_some}
+use Rattle.table_store.proofs.LookupLaws.{known_some, named_none, answer_in, sound_in, way_none, way_some, lookup_more, table_none, table_some}
 use Rattle.table_catalog.proofs.TouchesLaws.{first_on, looks_up, looks_up_on}
 use Rattle.page_format.specs.Search.{Keeps}
 use Rattle.table_store.proofs.FailsLaws.{lookup_by_catalog, lookup_by_node}
@@ -84,3 +84,18 @@ returns-in-Some-clause-lines g c = λ told.
     let old = g.P.Pages.standing c.args.pages.now in
     let mid = g.P.Pages.standing c.find_entry.new.pages in
     looks_up_on c.args.name.now old mid (g.P.Pages.standing c.get_in.new.pages) c.get_in.result (c.in_ok-find_entry.ensures.lines told) c.get_in.ensures.call.continues.touches
+
+pub returns-in-None-clause-touches : goal.returns-in-None-clause-touches
+returns-in-None-clause-touches g c = λ told store.
+    let old = g.P.Pages.standing c.args.pages.now in
+    let now = g.P.Pages.standing c.find_entry.new.pages in
+    table_none c.args.name.now c.args.key old now (sym (c.in_ok-find_entry.ensures.place told) ∙ c.in-None.is) (lookup_more c.args.name.now old now (c.in_ok-find_entry.ensures.lines told)) c.in_ok-find_entry.ensures.reads
+
+pub returns-in-Some-clause-touches : goal.returns-in-Some-clause-touches
+returns-in-Some-clause-touches g c = λ told.
+    let old = g.P.Pages.standing c.args.pages.now in
+    let now = g.P.Pages.standing c.find_entry.new.pages in
+    let found = c.in_ok-find_entry.ensures in
+    table_some c.args.limits.now c.args.name.now c.args.key c.in-Some.place old now (g.P.Pages.standing c.get_in.new.pages) c.get_in.result
+    (sym (found.place told) ∙ c.in-Some.is) (rw c.in-Some.is at found.fits).entry (lookup_more c.args.name.now old now (found.lines told)) found.call.continues.count (found.reads.current told) found.reads
+    (rw c.root_of-root.ensures at (c.get_in.ensures.touches (subst IsTrue (sym found.call.continues.told) told)))

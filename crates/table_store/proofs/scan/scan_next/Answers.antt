@@ -3,7 +3,7 @@ use Rattle.table_catalog.specs.Catalog.{tables}
 use Rattle.rows.specs.Tables.{is_known}
 use Rattle.table_store.specs.Scanning.{next_of, is_no_table}
 use Rattle.table_store.proofs.CreateLaws.{unknown_by, present_is}
-use Rattle.table_store.proofs.LookupLaws.{known_some, named_none, answer_in, sound_in}
+use Rattle.table_store.proofs.LookupLaws.{lookup_more, known_some, named_none, answer_in, sound_in}
 use Rattle.table_store.proofs.ScanLaws.{scan_none, scan_some}
 use Rattle.page_format.specs.Search.{Keeps}
 use Rattle.table_store.specs.Getting.{FailsLookup}
@@ -44,16 +44,18 @@ returns-in-Some-clause-sound g c = λ told.
     (rw c.root_of-root.ensures at (c.next_in.ensures.sound (subst IsTrue (sym found.call.continues.told) told)))
 
 pub returns-in-None-clause-touches : goal.returns-in-None-clause-touches
-returns-in-None-clause-touches g c = λ told closed store.
-    scan_none c.args.name.now (g.P.Pages.standing c.args.pages.now) (g.P.Pages.standing c.find_entry.new.pages) closed c.in_ok-find_entry.ensures.reads
+returns-in-None-clause-touches g c = λ told store.
+    let old = g.P.Pages.standing c.args.pages.now in
+    scan_none c.args.name.now old (g.P.Pages.standing c.find_entry.new.pages) c.in_ok-find_entry.ensures.reads
+    (lookup_more c.args.name.now old (g.P.Pages.standing c.find_entry.new.pages) (c.in_ok-find_entry.ensures.lines told))
 
 pub returns-in-Some-clause-touches : goal.returns-in-Some-clause-touches
-returns-in-Some-clause-touches g c = λ told closed.
+returns-in-Some-clause-touches g c = λ told.
     let old = g.P.Pages.standing c.args.pages.now in
     let now = g.P.Pages.standing c.find_entry.new.pages in
     let found = c.in_ok-find_entry.ensures in
     scan_some c.args.limits.now c.args.name.now c.in-Some.place old now (g.P.Pages.standing c.next_in.new.pages) c.next_in.result
-    (sym (found.place told) ∙ c.in-Some.is) (rw c.in-Some.is at found.fits).entry closed found.call.continues.count (found.reads.current told) found.reads
+    (sym (found.place told) ∙ c.in-Some.is) (rw c.in-Some.is at found.fits).entry (lookup_more c.args.name.now old now (found.lines told)) found.call.continues.count (found.reads.current told) found.reads
     (rw c.root_of-root.ensures at (c.next_in.ensures.touches (subst IsTrue (sym found.call.continues.told) told)))
 
 pub returns-in_err-find_entry-clause-fails : goal.returns-in_err-find_entry-clause-fails

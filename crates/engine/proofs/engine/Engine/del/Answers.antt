@@ -21,7 +21,7 @@ returns-then-accepted-self-clause-does g c =
 
 pub returns-then-accepted-self-clause-replies : goal.returns-then-accepted-self-clause-replies
 returns-then-accepted-self-clause-replies g c = λ told s shows.
-    replies_by c.refuse_write.result (reply.Refused (reason_of (is_known c.args.name.now (current s)) false)) _ (ap (λ p. p.1) (del_spent c.args.self.now (g.W.Devices.standing c.args.world.now) c.requires.stands s shows c.requires.is_open (omega (arith, c.if-accepted-self.true, c.accepted.ensures)) c.args.name.now c.args.key)) (c.refuse_write.ensures.refused told s shows)
+    replies_by (current s) c.refuse_write.result (reply.Refused (reason_of (is_known c.args.name.now (current s)) false)) _ (ap (λ p. p.1) (del_spent c.args.self.now (g.W.Devices.standing c.args.world.now) c.requires.stands s shows c.requires.is_open (omega (arith, c.if-accepted-self.true, c.accepted.ensures)) c.args.name.now c.args.key)) (c.refuse_write.ensures.refused told s shows)
 
 pub returns-then-accepted-self-clause-cause : goal.returns-then-accepted-self-clause-cause
 returns-then-accepted-self-clause-cause g c =

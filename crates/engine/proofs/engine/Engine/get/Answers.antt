@@ -5,6 +5,7 @@ use Rattle.table_store.specs.Getting.{got_of}
 use Rattle.script.specs.declared.command.Command.TheVariants.{Get}
 use Rattle.script.specs.declared.command.Reply.{Reply}
 use Rattle.engine.specs.Holds.{bounds_in}
+use Rattle.engine.specs.declared.scan.Step.TheVariants as step
 use Rattle.engine.specs.Engine.{engine_sizes}
 use Rattle.engine.specs.Steps.{after_command}
 use Rattle.engine.proofs.TableLaws.{get_gives}
@@ -25,10 +26,10 @@ returns-in_err-got-clause-does g c =
 pub returns-clause-does : goal.returns-clause-does
 returns-clause-does g c =
     let a = g.W.Devices.standing c.args.world.now in
-    on_device g.W.Devices.standing (after_command c.args.self.now (Some (Get c.args.name.now c.args.key))) c.args.self.now a _ _ c.get.new.pages.dev.now (Ok c.reply_to.result) (search rules)
+    on_device g.W.Devices.standing (after_command c.args.self.now (Some (Get c.args.name.now c.args.key))) c.args.self.now a _ _ c.get.new.pages.dev.now (Ok (step.Said c.reply_to.result)) (search rules)
     (does_stays c.args.self.now a (g.W.Devices.standing c.get.new.pages.dev.now) c.get.new.pages.book.now c.get.new.work c.requires
     (rw (c.over-store.ensures.same.0, c.over-store.ensures.same.1) at c.get.ensures.call.continues) (ap (λ x. (g.W.Devices.standing x).clock) c.over-store.ensures.before)
-    c.in_ok-got.ensures.call.ready.0 (rw (c.over-store.ensures.same.0, c.over-store.ensures.same.1) at c.in_ok-got.ensures.keeps) _ c.reply_to.result
+    c.in_ok-got.ensures.call.ready.0 (rw (c.over-store.ensures.same.0, c.over-store.ensures.same.1) at c.in_ok-got.ensures.keeps) _ (step.Said c.reply_to.result)
     (rw (c.over-store.ensures.same.0, c.over-store.ensures.same.1) at c.in_ok-got.ensures.call.steady)
     (λ told s shows. ap (λ p. p.0) (get_gives (bounds_in (engine_sizes c.args.self.now)) s c.args.name.now c.args.key c.in_ok-got.got
     ((rw (c.over-store.ensures.same.0, c.over-store.ensures.same.1) at c.in_ok-got.ensures.value) told (store_shown c.args.self.now a s c.requires shows) ∙ ap (λ (T : List Table). got_of c.args.key (rows_of c.args.name.now T)) shows.seen.tables_are))))
@@ -55,7 +56,7 @@ returns-in_err-got-clause-reads g c =
 
 pub returns-clause-reads : goal.returns-clause-reads
 returns-clause-reads g c =
-    reads_stays g.W.Devices.standing c.args.self.now (g.W.Devices.standing c.args.world.now) _ c.get.new.pages.dev.now c.get.new.pages.book.now c.get.new.work c.reply_to.result (search rules)
+    reads_stays g.W.Devices.standing c.args.self.now (g.W.Devices.standing c.args.world.now) _ c.get.new.pages.dev.now c.get.new.pages.book.now c.get.new.work (step.Said c.reply_to.result) (search rules)
     (rw (c.over-store.ensures.same.0, c.over-store.ensures.same.1) at c.get.ensures.call.continues) (ap (λ x. (g.W.Devices.standing x).clock) c.over-store.ensures.before)
     (rw (c.over-store.ensures.same.0, c.over-store.ensures.same.1) at c.in_ok-got.ensures.keeps)
 

@@ -6,6 +6,7 @@ use Rattle.script.specs.declared.command.Command.TheVariants as command
 use Rattle.script.specs.declared.command.Reason.TheVariants as reason
 use Rattle.script.specs.declared.command.Reply.TheVariants as reply
 use Rattle.table_store.specs.Changed.{IsChangeDamage}
+use Rattle.engine.specs.declared.scan.Step.TheVariants as step
 use Rattle.engine.specs.Engine.{engine_sizes, engine_lines}
 use Rattle.engine.specs.Steps.{after_command}
 use Rattle.engine.proofs.CommandLaws.{on_device, does_fails, does_stays, does_writes, cause_fails_at, store_shown}
@@ -34,10 +35,10 @@ returns-in_err-put-clause-cause g c =
 pub returns-in-TableFull-clause-does : goal.returns-in-TableFull-clause-does
 returns-in-TableFull-clause-does g c =
     let a = g.W.Devices.standing c.args.world.now in
-    on_device g.W.Devices.standing (after_command c.args.self.now (Some (command.Put c.args.name.now c.args.key c.args.value.now))) c.args.self.now a _ _ c.put.new.pages.dev.now (Ok (reply.Refused reason.Full)) (search rules)
+    on_device g.W.Devices.standing (after_command c.args.self.now (Some (command.Put c.args.name.now c.args.key c.args.value.now))) c.args.self.now a _ _ c.put.new.pages.dev.now (Ok (step.Said (reply.Refused reason.Full))) (search rules)
     (does_stays c.args.self.now a (g.W.Devices.standing c.put.new.pages.dev.now) c.put.new.pages.book.now c.put.new.work c.requires.stands
     (rw (c.over-store.ensures.same.0, c.over-store.ensures.same.1) at c.put.ensures.call.continues) (ap (λ x. (g.W.Devices.standing x).clock) c.over-store.ensures.before)
-    c.in_ok-put.ensures.call.ready.0 (rw (c.over-store.ensures.same.0, c.over-store.ensures.same.1, c.in-TableFull.is) at c.in_ok-put.ensures.keeps) (after_command c.args.self.now (Some (command.Put c.args.name.now c.args.key c.args.value.now))) (reply.Refused reason.Full)
+    c.in_ok-put.ensures.call.ready.0 (rw (c.over-store.ensures.same.0, c.over-store.ensures.same.1, c.in-TableFull.is) at c.in_ok-put.ensures.keeps) (after_command c.args.self.now (Some (command.Put c.args.name.now c.args.key c.args.value.now))) (step.Said (reply.Refused reason.Full))
     (rw (c.over-store.ensures.same.0, c.over-store.ensures.same.1) at c.in_ok-put.ensures.call.steady)
     (λ told s shows. ap (λ p. p.0) (put_no_room c.args.self.now a c.requires.stands s shows c.requires.is_open c.requires.more c.args.name.now c.args.key c.args.value.now (sym c.in-TableFull.is ∙ ((rw (c.over-store.ensures.same.0, c.over-store.ensures.same.1) at c.in_ok-put.ensures.answer) told (store_shown c.args.self.now a s c.requires.stands shows))))))
 
@@ -49,10 +50,10 @@ returns-in-TableFull-clause-replies g c = λ told s shows.
 pub returns-in-NoTable-clause-does : goal.returns-in-NoTable-clause-does
 returns-in-NoTable-clause-does g c =
     let a = g.W.Devices.standing c.args.world.now in
-    on_device g.W.Devices.standing (after_command c.args.self.now (Some (command.Put c.args.name.now c.args.key c.args.value.now))) c.args.self.now a _ _ c.put.new.pages.dev.now (Ok (reply.Refused reason.Table)) (search rules)
+    on_device g.W.Devices.standing (after_command c.args.self.now (Some (command.Put c.args.name.now c.args.key c.args.value.now))) c.args.self.now a _ _ c.put.new.pages.dev.now (Ok (step.Said (reply.Refused reason.Table))) (search rules)
     (does_stays c.args.self.now a (g.W.Devices.standing c.put.new.pages.dev.now) c.put.new.pages.book.now c.put.new.work c.requires.stands
     (rw (c.over-store.ensures.same.0, c.over-store.ensures.same.1) at c.put.ensures.call.continues) (ap (λ x. (g.W.Devices.standing x).clock) c.over-store.ensures.before)
-    c.in_ok-put.ensures.call.ready.0 (rw (c.over-store.ensures.same.0, c.over-store.ensures.same.1, c.in-NoTable.is) at c.in_ok-put.ensures.keeps) (after_command c.args.self.now (Some (command.Put c.args.name.now c.args.key c.args.value.now))) (reply.Refused reason.Table)
+    c.in_ok-put.ensures.call.ready.0 (rw (c.over-store.ensures.same.0, c.over-store.ensures.same.1, c.in-NoTable.is) at c.in_ok-put.ensures.keeps) (after_command c.args.self.now (Some (command.Put c.args.name.now c.args.key c.args.value.now))) (step.Said (reply.Refused reason.Table))
     (rw (c.over-store.ensures.same.0, c.over-store.ensures.same.1) at c.in_ok-put.ensures.call.steady)
     (λ told s shows. ap (λ p. p.0) (put_no_table c.args.self.now a c.requires.stands s shows c.requires.is_open c.requires.more c.args.name.now c.args.key c.args.value.now (sym c.in-NoTable.is ∙ ((rw (c.over-store.ensures.same.0, c.over-store.ensures.same.1) at c.in_ok-put.ensures.answer) told (store_shown c.args.self.now a s c.requires.stands shows))))))
 
@@ -64,11 +65,11 @@ returns-in-NoTable-clause-replies g c = λ told s shows.
 pub returns-in-Done-clause-does : goal.returns-in-Done-clause-does
 returns-in-Done-clause-does g c =
     let a = g.W.Devices.standing c.args.world.now in
-    on_device g.W.Devices.standing (after_command c.args.self.now (Some (command.Put c.args.name.now c.args.key c.args.value.now))) c.args.self.now a _ _ c.put.new.pages.dev.now (Ok reply.Fine) (search rules)
+    on_device g.W.Devices.standing (after_command c.args.self.now (Some (command.Put c.args.name.now c.args.key c.args.value.now))) c.args.self.now a _ _ c.put.new.pages.dev.now (Ok (step.Said reply.Fine)) (search rules)
     (does_writes c.args.self.now a (g.W.Devices.standing c.put.new.pages.dev.now) c.put.new.pages.book.now c.put.new.work c.requires.stands
     (rw (c.over-store.ensures.same.0, c.over-store.ensures.same.1) at c.put.ensures.call.continues) (ap (λ x. (g.W.Devices.standing x).clock) c.over-store.ensures.before)
     c.next_write.new.self.book.now c.in_ok-put.ensures.call.ready.0 c.requires.is_open c.requires.more c.next_write.ensures.next (rw c.next_write.ensures.device at c.next_write.ensures.ready)
-    (after_command c.args.self.now (Some (command.Put c.args.name.now c.args.key c.args.value.now))) reply.Fine (stepped c.args.name.now (row_put c.args.key c.args.value.now))
+    (after_command c.args.self.now (Some (command.Put c.args.name.now c.args.key c.args.value.now))) (step.Said reply.Fine) (stepped c.args.name.now (row_put c.args.key c.args.value.now))
     (λ steady. (rw c.next_write.ensures.device at c.next_write.ensures.steady) ((rw (c.over-store.ensures.same.0, c.over-store.ensures.same.1) at c.in_ok-put.ensures.call.steady) steady))
     (λ told s shows. ap (λ p. p.0) (put_writes c.args.self.now a c.requires.stands s shows c.requires.is_open c.requires.more c.args.name.now c.args.key c.args.value.now (sym c.in-Done.is ∙ ((rw (c.over-store.ensures.same.0, c.over-store.ensures.same.1) at c.in_ok-put.ensures.answer) told (store_shown c.args.self.now a s c.requires.stands shows)))))
     (λ told s shows. put_holds c.args.self.now a c.requires.stands s shows c.requires.is_open c.requires.more c.args.name.now c.args.key c.args.value.now (current_lines c.put.new.pages.book.now (g.W.Devices.standing c.put.new.pages.dev.now)) (sym c.in-Done.is ∙ ((rw (c.over-store.ensures.same.0, c.over-store.ensures.same.1) at c.in_ok-put.ensures.answer) told (store_shown c.args.self.now a s c.requires.stands shows))) ((rw (c.over-store.ensures.same.0, c.over-store.ensures.same.1, c.in-Done.is) at c.in_ok-put.ensures.changed) told (store_shown c.args.self.now a s c.requires.stands shows))))

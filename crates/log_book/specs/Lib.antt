@@ -1,0 +1,4 @@
+pub mod LogData
+pub mod Open
+pub mod Calls
+pub mod Undoing

@@ -1,0 +1,11 @@
+pub mod StateLaws
+pub mod StoreShown
+pub mod NvmShown
+pub mod DrawsKept
+pub mod DramShown
+pub mod RoomShown
+pub mod BringShown
+pub mod LineShown
+pub mod SoundShown
+pub mod AccessLaws
+pub mod OpenShown

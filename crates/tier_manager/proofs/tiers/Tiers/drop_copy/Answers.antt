@@ -1,7 +1,0 @@
-use Rattle.tier_manager.specs.Fields.{parts_of}
-use Rattle.tier_manager.proofs.CopyLaws.{dropped}
-use Rattle.tier_manager.proofs.tiers.Tiers.drop_copy.Goals as goal
-
-pub returns-clause-parts : goal.returns-clause-parts
-returns-clause-parts c =
-    dropped (parts_of c.args.self.now) (parts_of c.empty_place.new.self) _ c.args.page _ c.place-place.ensures.place c.empty_place.ensures.parts c.clear_dram.ensures.placement

@@ -1,0 +1,14 @@
+pub mod Sizes
+pub mod Fields
+pub mod Calls
+pub mod Places
+pub mod NvmRoom
+pub mod FullRoom
+pub mod Bringing
+pub mod Cleaning
+pub mod Standing
+pub mod Touching
+pub mod Storing
+pub mod Opening
+pub mod Handing
+pub mod Hits
