@@ -5,4 +5,3 @@ pub mod Telling
 pub mod Quiet
 pub mod Cleaning
 pub mod Entering
-pub mod Touching

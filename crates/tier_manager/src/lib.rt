@@ -8,7 +8,6 @@ mod cleaning;
 mod entering;
 mod quiet;
 mod tiers;
-mod touching;
 mod trace;
 
 pub use tiers::Tiers;
