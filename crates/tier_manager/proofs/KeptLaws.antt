@@ -16,7 +16,7 @@ use Rattle.tier_manager.specs.Steady.{WorksThere, IsSteady}
 use Rattle.tier_manager.proofs.SettledLaws.{cleaned_map}
 
 -- the open access still works where its page lies
-still_there : (old new : Tiers) → (parts_of new).map ≡ (parts_of old).map → SameSizes old.pool new.pool → IsSteady old
+pub still_there : (old new : Tiers) → (parts_of new).map ≡ (parts_of old).map → SameSizes old.pool new.pool → IsSteady old
     → IfSome new.pool.access (WorksThere (pages (sizes_of new.pool.geometry)) (parts_of new).map)
 still_there old new map same steady =
     subst (λ (a : Option Access). IfSome a (WorksThere (pages (sizes_of new.pool.geometry)) (parts_of new).map)) (sym same.access)

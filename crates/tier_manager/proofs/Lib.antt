@@ -2,4 +2,15 @@ mod WrittenLaws
 mod DirtyLaws
 mod SettledLaws
 mod CleanLaws
+mod EnterLaws
+mod BegunLaws
 mod KeptLaws
+mod MadeLaws
+mod SteadyTouch
+mod EnterShown
+mod TouchShown
+mod CleanShown
+mod KeptMini
+mod ReadyLaws
+mod TouchedLaws
+mod WroteLaws

@@ -5,3 +5,4 @@ pub mod Telling
 pub mod Quiet
 pub mod Cleaning
 pub mod Entering
+pub mod Touching

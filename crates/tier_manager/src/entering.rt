@@ -1,16 +1,19 @@
 //! The beginning of an access.
-ghost use Rattle.std.specs.Prelude.{◌≡◌, ◌<◌, ◌≤◌, IfOk, IfSome, Some, None, not, true};
+ghost use Rattle.std.specs.Prelude.{◌≡◌, ◌≢◌, ◌<◌, ◌≤◌, IfOk, OnOk, IfSome, Some, None, not, true};
 ghost use Rattle.std.specs.Option.{is_some};
 ghost use Rattle.store_model.specs.Layout.{pages};
 ghost use Rattle.nvm_layout.specs.Sizes.{sizes_of};
 ghost use Rattle.tier_rules.specs.Plans.{dram_question};
 ghost use Rattle.tier_rules.specs.Entering.{begins};
-ghost use Rattle.tier_manager.specs.Fields.{parts_of, SameSizes};
-ghost use Rattle.tier_pool.specs.Standing.{IsStanding};
+ghost use Rattle.tier_pool.specs.Calls.{Fits, Calls};
 ghost use Rattle.tier_pool.specs.FullRoom.{drawn};
 ghost use Rattle.tier_pool.specs.Hits.{frame_hit};
-ghost use Rattle.tier_manager.specs.Entering.{through_nvm, BroughtPast, BroughtIf, BroughtBy, ThroughIf, ThroughBy, ReadInIf, ReadInBy, EnteredBelow, Entered, Begun, Opened};
-ghost use Rattle.tier_pool.specs.Calls.{Fits, Calls};
+ghost use Rattle.tier_pool.specs.Standing.{IsSteady as AreSteady};
+ghost use Rattle.tier_pool.specs.Storing.{LeadsHard, LeadsFacts};
+ghost use Rattle.tier_manager.specs.Entering.{through_nvm, BroughtIf, BroughtBy, ThroughIf, ThroughBy, ReadInBy, EnteredBelow, Entered, Begun, Opened};
+ghost use Rattle.tier_manager.specs.Fields.{parts_of, SameSizes};
+ghost use Rattle.tier_manager.specs.Steady.{IsSteady, LiesAt};
+ghost use Rattle.tier_manager.specs.Telling.{told_of};
 
 use crate::tiers::Tiers;
 use devices::Devices;
@@ -33,8 +36,9 @@ fn dram_question(writes: bool) -> Question
 impl Tiers {
     /// Where the open access works, if it is one of this page and kind.
     fn open_spot(&self, page: u64, writes: bool) -> Option<Spot>
+        requires steady { IsSteady self.now }
         ensures begins { begins (parts_of self.now).access page writes ≡ not (is_some result) }
-        ensures spot { IfSome result (λ spot. IfSome self.now.pool.access (λ access. spot ≡ access.spot)) }
+        ensures lies { IfSome result (λ spot. LiesAt page spot (parts_of self.now).map) }
     {
         match &self.pool.access {
             Some(access) => {
@@ -57,10 +61,15 @@ impl Tiers {
     ) -> Result<Spot, Stop>
         requires fits { Fits self.old.pool.geometry (D.standing dev.old) }
         requires page { page < pages (sizes_of self.old.pool.geometry) }
-        requires standing { IsStanding (parts_of self.old) }
+        requires steady { IsSteady self.old }
         ensures call { Calls (D.standing dev.old) (D.standing dev.new) result }
-        ensures opened { IfOk result (λ spot.
-            Opened page writes spot.place (parts_of self.old) (parts_of self.new)) }
+        ensures leads { LeadsHard self.old.pool self.new.pool (D.standing dev.old) (D.standing dev.new) result }
+        ensures quiet { (parts_of self.old).map.place page ≢ Place.Absent
+            → LeadsFacts self.old.pool self.new.pool (D.standing dev.old) (D.standing dev.new) result }
+        ensures opened { OnOk result (Opened page writes (parts_of self.old) (parts_of self.new)) }
+        ensures lies { IfOk result (λ spot. LiesAt page spot (parts_of self.new).map) }
+        ensures told { told_of self.new ≡ told_of self.old }
+        ensures keeps { OnOk result (IsSteady self.new) }
         ensures same { SameSizes self.old self.new }
     {
         match self.open_spot(page, writes) {
@@ -69,7 +78,7 @@ impl Tiers {
         }
     }
 
-    /// An access begins.
+    /// An access begins. The answer is where it works.
     fn begin_access<D: Devices>(
         &mut self,
         dev: &mut D,
@@ -78,69 +87,88 @@ impl Tiers {
     ) -> Result<Spot, Stop>
         requires fits { Fits self.old.pool.geometry (D.standing dev.old) }
         requires page { page < pages (sizes_of self.old.pool.geometry) }
-        requires standing { IsStanding (parts_of self.old) }
+        requires steady { AreSteady (parts_of self.old) }
         ensures call { Calls (D.standing dev.old) (D.standing dev.new) result }
-        ensures begun { IfOk result (λ spot.
-            Begun page writes spot.place (parts_of self.old) (parts_of self.new)) }
-        ensures frame { IfOk result (λ spot. spot.frame ≡ (parts_of self.new).map.nvm page) }
+        ensures leads { LeadsHard self.old.pool self.new.pool (D.standing dev.old) (D.standing dev.new) result }
+        ensures quiet { (parts_of self.old).map.place page ≢ Place.Absent
+            → LeadsFacts self.old.pool self.new.pool (D.standing dev.old) (D.standing dev.new) result }
+        ensures begun { OnOk result (Begun page writes (parts_of self.old) (parts_of self.new)) }
+        ensures lies { IfOk result (λ spot. LiesAt page spot (parts_of self.new).map) }
+        ensures told { told_of self.new ≡ told_of self.old }
+        ensures keeps { OnOk result (IsSteady self.new) }
         ensures same { SameSizes self.old self.new }
     {
-        let place = self.enter(dev, page, writes)?;
-        Ok(self.work_at(page, writes, place, 0))
+        self.enter(dev, page, writes)?;
+        Ok(self.work_at(page, writes))
     }
 
-    /// The open access is one of this page and kind, works in this copy of the page or in its frame, and told of these lines.
-    pub(crate) fn work_at(&mut self, page: u64, writes: bool, place: Place, told: u64) -> Spot
+    /// Where a page lies: in its copy, or else in its frame.
+    pub(crate) fn spot(&self, page: u64) -> Spot
+        requires page { page < pages (sizes_of self.now.pool.geometry) }
+        ensures place { result.place ≡ (parts_of self.now).map.place page }
+        ensures frame { result.frame ≡ (parts_of self.now).map.nvm page }
+    {
+        Spot {
+            place: self.pool.place(page),
+            frame: self.pool.frame(page),
+        }
+    }
+
+    /// The open access is one of this page and kind, works where the page lies, and told of nothing.
+    fn work_at(&mut self, page: u64, writes: bool) -> Spot
         requires page { page < pages (sizes_of self.old.pool.geometry) }
         ensures parts { parts_of self.new ≡ record (parts_of self.old) { access = Some (page, writes) } }
-        ensures place { result.place ≡ place }
+        ensures of { IfSome self.new.pool.access (λ access. access.page ≡ page) }
+        ensures there { IfSome self.new.pool.access (λ access. access.spot ≡ result) }
+        ensures place { result.place ≡ (parts_of self.old).map.place page }
         ensures frame { result.frame ≡ (parts_of self.old).map.nvm page }
+        ensures told { told_of self.new ≡ told_of self.old }
         ensures same { SameSizes self.old self.new }
     {
-        let frame = self.pool.frame(page);
-        let spot = Spot { place, frame };
+        let spot = self.spot(page);
         self.pool.access = Some(Access {
             page,
             writes,
             spot,
-            told,
+            told: 0,
         });
         spot
     }
 
     /// Entering: the page's copy is touched, or else it may come to a higher tier.
-    fn enter<D: Devices>(&mut self, dev: &mut D, page: u64, writes: bool) -> Result<Place, Stop>
+    fn enter<D: Devices>(&mut self, dev: &mut D, page: u64, writes: bool) -> Result<(), Stop>
         requires fits { Fits self.old.pool.geometry (D.standing dev.old) }
         requires page { page < pages (sizes_of self.old.pool.geometry) }
-        requires standing { IsStanding (parts_of self.old) }
+        requires steady { AreSteady (parts_of self.old) }
         ensures call { Calls (D.standing dev.old) (D.standing dev.new) result }
-        ensures entered { IfOk result (λ place.
-            Entered page writes place (parts_of self.old) (parts_of self.new)) }
+        ensures leads { LeadsHard self.old.pool self.new.pool (D.standing dev.old) (D.standing dev.new) result }
+        ensures quiet { (parts_of self.old).map.place page ≢ Place.Absent
+            → LeadsFacts self.old.pool self.new.pool (D.standing dev.old) (D.standing dev.new) result }
+        ensures entered { OnOk result (Entered page writes (parts_of self.old) (parts_of self.new)) }
+        ensures told { told_of self.new ≡ told_of self.old }
+        ensures keeps { OnOk result (AreSteady (parts_of self.new)) }
         ensures same { SameSizes self.old self.new }
     {
-        let place = self.pool.place(page);
-        match place {
+        match self.pool.place(page) {
             Place::Absent => return self.enter_below(dev, page, writes),
             Place::Full(full) => self.pool.hit_full(full),
             Place::Mini(mini) => self.pool.hit_mini(mini),
         }
-        Ok(place)
+        Ok(())
     }
 
     /// Entering a page that has no copy.
-    fn enter_below<D: Devices>(
-        &mut self,
-        dev: &mut D,
-        page: u64,
-        writes: bool,
-    ) -> Result<Place, Stop>
+    fn enter_below<D: Devices>(&mut self, dev: &mut D, page: u64, writes: bool) -> Result<(), Stop>
         requires fits { Fits self.old.pool.geometry (D.standing dev.old) }
         requires page { page < pages (sizes_of self.old.pool.geometry) }
-        requires standing { IsStanding (parts_of self.old) }
+        requires steady { AreSteady (parts_of self.old) }
         requires absent { (parts_of self.old).map.place page ≡ Place.Absent }
         ensures call { Calls (D.standing dev.old) (D.standing dev.new) result }
-        ensures entered { IfOk result (λ place. let parts = parts_of self.old in
-            EnteredBelow (parts.map.nvm page) page writes place parts (parts_of self.new)) }
+        ensures leads { LeadsHard self.old.pool self.new.pool (D.standing dev.old) (D.standing dev.new) result }
+        ensures entered { OnOk result (let parts = parts_of self.old in
+            EnteredBelow (parts.map.nvm page) page writes parts (parts_of self.new)) }
+        ensures told { told_of self.new ≡ told_of self.old }
+        ensures keeps { OnOk result (AreSteady (parts_of self.new)) }
         ensures same { SameSizes self.old self.new }
     {
         match self.pool.frame(page) {
@@ -156,16 +184,18 @@ impl Tiers {
         page: u64,
         frame: u32,
         writes: bool,
-    ) -> Result<Place, Stop>
+    ) -> Result<(), Stop>
         requires fits { Fits self.old.pool.geometry (D.standing dev.old) }
         requires page { page < pages (sizes_of self.old.pool.geometry) }
         requires frame { frame < self.old.pool.geometry.frames }
-        requires standing { IsStanding (parts_of self.old) }
+        requires steady { AreSteady (parts_of self.old) }
         requires absent { (parts_of self.old).map.place page ≡ Place.Absent }
         ensures call { Calls (D.standing dev.old) (D.standing dev.new) result }
-        ensures entered { IfOk result (λ place.
-            let answer = drawn (dram_question writes) (frame_hit frame (parts_of self.old)) in
-            BroughtBy answer page place (parts_of self.new)) }
+        ensures leads { LeadsHard self.old.pool self.new.pool (D.standing dev.old) (D.standing dev.new) result }
+        ensures entered { OnOk result (let answer = drawn (dram_question writes) (frame_hit frame (parts_of self.old)) in
+            BroughtBy answer page (parts_of self.new)) }
+        ensures told { told_of self.new ≡ told_of self.old }
+        ensures keeps { OnOk result (AreSteady (parts_of self.new)) }
         ensures same { SameSizes self.old self.new }
     {
         self.pool.hit_frame(frame);
@@ -174,60 +204,60 @@ impl Tiers {
     }
 
     /// A page in NVM comes to DRAM, or the access works in its frame.
-    fn bring_if<D: Devices>(&mut self, dev: &mut D, page: u64, brings: bool) -> Result<Place, Stop>
+    fn bring_if<D: Devices>(&mut self, dev: &mut D, page: u64, brings: bool) -> Result<(), Stop>
         requires fits { Fits self.old.pool.geometry (D.standing dev.old) }
         requires page { page < pages (sizes_of self.old.pool.geometry) }
-        requires standing { IsStanding (parts_of self.old) }
+        requires steady { AreSteady (parts_of self.old) }
         requires absent { (parts_of self.old).map.place page ≡ Place.Absent }
         ensures call { Calls (D.standing dev.old) (D.standing dev.new) result }
-        ensures brought { IfOk result (λ place.
-            BroughtIf brings page place (parts_of self.old) (parts_of self.new)) }
+        ensures leads { LeadsHard self.old.pool self.new.pool (D.standing dev.old) (D.standing dev.new) result }
+        ensures brought { OnOk result (BroughtIf brings page (parts_of self.old) (parts_of self.new)) }
+        ensures told { told_of self.new ≡ told_of self.old }
+        ensures keeps { OnOk result (AreSteady (parts_of self.new)) }
         ensures same { SameSizes self.old self.new }
     {
         if brings {
-            self.pool.bring(dev, page)
-        } else {
-            Ok(Place::Absent)
+            self.pool.bring(dev, page)?;
         }
+        Ok(())
     }
 
     /// Entering a page that is on the SSD alone.
-    fn enter_homed<D: Devices>(
-        &mut self,
-        dev: &mut D,
-        page: u64,
-        writes: bool,
-    ) -> Result<Place, Stop>
+    fn enter_homed<D: Devices>(&mut self, dev: &mut D, page: u64, writes: bool) -> Result<(), Stop>
         requires fits { Fits self.old.pool.geometry (D.standing dev.old) }
         requires page { page < pages (sizes_of self.old.pool.geometry) }
-        requires standing { IsStanding (parts_of self.old) }
+        requires steady { AreSteady (parts_of self.old) }
         requires absent { (parts_of self.old).map.place page ≡ Place.Absent }
         requires homeless { (parts_of self.old).map.nvm page ≡ None }
         ensures call { Calls (D.standing dev.old) (D.standing dev.new) result }
-        ensures entered { IfOk result (λ place.
-            ReadInBy (through_nvm (parts_of self.old)) page writes place (parts_of self.new)) }
+        ensures leads { LeadsHard self.old.pool self.new.pool (D.standing dev.old) (D.standing dev.new) result }
+        ensures entered { OnOk result (ReadInBy (through_nvm (parts_of self.old)) page writes (parts_of self.new)) }
+        ensures told { told_of self.new ≡ told_of self.old }
+        ensures keeps { OnOk result (AreSteady (parts_of self.new)) }
         ensures same { SameSizes self.old self.new }
     {
         let through = self.goes_through_nvm();
         if through {
-            self.read_in(dev, page, writes)
-        } else {
-            self.pool.bring_past(dev, page)
+            return self.read_in(dev, page, writes);
         }
+        self.pool.bring_past(dev, page)?;
+        Ok(())
     }
 
     /// A page on the SSD is read into NVM, and may come on to DRAM.
-    fn read_in<D: Devices>(&mut self, dev: &mut D, page: u64, writes: bool) -> Result<Place, Stop>
+    fn read_in<D: Devices>(&mut self, dev: &mut D, page: u64, writes: bool) -> Result<(), Stop>
         requires fits { Fits self.old.pool.geometry (D.standing dev.old) }
         requires page { page < pages (sizes_of self.old.pool.geometry) }
         requires some { 1 ≤ self.old.pool.geometry.frames }
-        requires standing { IsStanding (parts_of self.old) }
+        requires steady { AreSteady (parts_of self.old) }
         requires absent { (parts_of self.old).map.place page ≡ Place.Absent }
         requires homeless { (parts_of self.old).map.nvm page ≡ None }
         ensures call { Calls (D.standing dev.old) (D.standing dev.new) result }
-        ensures entered { IfOk result (λ place.
-            let answer = drawn (dram_question writes) (parts_of self.old) in
-            ThroughBy answer page place (parts_of self.new)) }
+        ensures leads { LeadsHard self.old.pool self.new.pool (D.standing dev.old) (D.standing dev.new) result }
+        ensures entered { OnOk result (let answer = drawn (dram_question writes) (parts_of self.old) in
+            ThroughBy answer page (parts_of self.new)) }
+        ensures told { told_of self.new ≡ told_of self.old }
+        ensures keeps { OnOk result (AreSteady (parts_of self.new)) }
         ensures same { SameSizes self.old self.new }
     {
         let brings = self.pool.decides(dram_question(writes));
@@ -240,23 +270,25 @@ impl Tiers {
         dev: &mut D,
         page: u64,
         brings: bool,
-    ) -> Result<Place, Stop>
+    ) -> Result<(), Stop>
         requires fits { Fits self.old.pool.geometry (D.standing dev.old) }
         requires page { page < pages (sizes_of self.old.pool.geometry) }
         requires some { 1 ≤ self.old.pool.geometry.frames }
-        requires standing { IsStanding (parts_of self.old) }
+        requires steady { AreSteady (parts_of self.old) }
         requires absent { (parts_of self.old).map.place page ≡ Place.Absent }
         requires homeless { (parts_of self.old).map.nvm page ≡ None }
         ensures call { Calls (D.standing dev.old) (D.standing dev.new) result }
-        ensures through { IfOk result (λ place.
-            ThroughIf brings page place (parts_of self.old) (parts_of self.new)) }
+        ensures leads { LeadsHard self.old.pool self.new.pool (D.standing dev.old) (D.standing dev.new) result }
+        ensures through { OnOk result (ThroughIf brings page (parts_of self.old) (parts_of self.new)) }
+        ensures told { told_of self.new ≡ told_of self.old }
+        ensures keeps { OnOk result (AreSteady (parts_of self.new)) }
         ensures same { SameSizes self.old self.new }
     {
-        if brings {
-            return self.pool.bring_through(dev, page);
+        if !brings {
+            return self.pool.fetch_to_nvm(dev, page);
         }
-        self.pool.fetch_to_nvm(dev, page)?;
-        Ok(Place::Absent)
+        self.pool.bring_through(dev, page)?;
+        Ok(())
     }
 
     /// Whether a page on the SSD goes through NVM, where there is any.
@@ -264,6 +296,7 @@ impl Tiers {
         ensures answer { through_nvm (parts_of self.old) ≡ record { yes = result; parts = parts_of self.new } }
         ensures map { (parts_of self.new).map ≡ (parts_of self.old).map }
         ensures some { result ≡ true → 1 ≤ self.new.pool.geometry.frames }
+        ensures told { told_of self.new ≡ told_of self.old }
         ensures same { SameSizes self.old self.new }
     {
         if self.pool.geometry.frames == 0 {

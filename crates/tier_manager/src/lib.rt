@@ -8,6 +8,7 @@ mod cleaning;
 mod entering;
 mod quiet;
 mod tiers;
+mod touching;
 mod trace;
 
 pub use tiers::Tiers;

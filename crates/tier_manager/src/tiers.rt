@@ -6,7 +6,6 @@ ghost use Rattle.tier_rules.specs.Plans.{plan_of};
 ghost use Rattle.tier_rules.specs.Opening.{IsTable};
 ghost use Rattle.tier_rules.specs.Tallies.{log_lines_read};
 ghost use Rattle.tier_pool.specs.Opening.{NamesWithin, IsMadeFor, empty_parts, entries_placed};
-ghost use Rattle.tier_pool.specs.Standing.{IsStanding};
 ghost use Rattle.tier_manager.specs.Sizes.{trace_room};
 
 use crate::trace::Trace;
@@ -26,6 +25,7 @@ pub struct Tiers {
 
 impl Tiers {
     ghost use Rattle.tier_manager.specs.Fields.{parts_of, SameSizes};
+    ghost use Rattle.tier_manager.specs.Steady.{IsSteady};
     ghost use Rattle.tier_manager.specs.Telling.{told_of, nothing_told, told_with, log_reads_told};
 
     /// The tiers as the words of the frame table say: each frame's entry is 0, or the number of its page plus 1. The last word is
@@ -43,7 +43,7 @@ impl Tiers {
         ensures parts { IfOk result (λ made.
             let n = geometry.now.frames in
             parts_of made ≡ entries_placed n words.now (empty_parts (plan_of policy.now) n)) }
-        ensures standing { IfOk result (λ made. IsStanding (parts_of made)) }
+        ensures keeps { IfOk result IsSteady }
         ensures told { IfOk result (λ made. told_of made ≡ nothing_told (trace_room geometry.now trace)) }
         ensures of { IfOk result (λ made. IsMadeFor geometry.now policy.now made.pool) }
     {
@@ -80,6 +80,7 @@ impl Tiers {
         ensures parts { let tally = log_lines_read count (parts_of self.old).tally in
             parts_of self.new ≡ record (parts_of self.old) { tally = tally } }
         ensures told { told_of self.new ≡ log_reads_told count (told_of self.old) }
+        ensures keeps { IsSteady self.old → IsSteady self.new }
         ensures same { SameSizes self.old self.new }
     {
         self.pool.count_log_reads(count);
@@ -91,6 +92,8 @@ impl Tiers {
     /// No access is open.
     pub fn rest(&mut self)
         ensures parts { parts_of self.new ≡ record (parts_of self.old) { access = None } }
+        ensures told { told_of self.new ≡ told_of self.old }
+        ensures keeps { IsSteady self.old → IsSteady self.new }
         ensures same { SameSizes self.old self.new }
     {
         self.pool.access = None;
