@@ -14,7 +14,7 @@ use Rattle.page_alloc.specs.Space.{FitsHeader}
 use Rattle.page_alloc.specs.Stops.{IsFault}
 use Rattle.bplus_tree.specs.declared.outcome.Outcome.{Outcome}
 use Rattle.bplus_tree.specs.declared.outcome.Outcome.TheVariants.{Whole, Short, Cut, Alone}
-use Rattle.bplus_tree.specs.declared.path.Place.{Place}
+use Rattle.bplus_tree.specs.declared.path.Node.{Node}
 use Rattle.bplus_tree.specs.declared.path.Passed.{Passed}
 use Rattle.bplus_tree.specs.Edit.{Edits}
 use Rattle.bplus_tree.specs.Path.{LeadsTo, Leads, MayFollow, StandsAt, StandsAbove, StopsAbove, root_place}
@@ -27,7 +27,7 @@ use Rattle.bplus_tree.proofs.PathLaws.{Climbing, leads-back, leads-height, climb
 use Rattle.bplus_tree.proofs.FullLaws.{not_full_names, names_to, fault_needed, cut_needed, needed_wider}
 
 -- the child that the way goes on to is the one for the key
-way_child : (told : Bool) (lines : Lines) (count key : ℕ) (from : Passed) (to : Place) (free : List ℕ) → IsTrue told → LeadsTo told lines count key from to → StandsAt lines from.place.page from.place.expect free
+way_child : (told : Bool) (lines : Lines) (count key : ℕ) (from : Passed) (to : Node) (free : List ℕ) → IsTrue told → LeadsTo told lines count key from to → StandsAt lines from.place.page from.place.expect free
     → child_for key 0 (children (bytes_of lines from.place.page)) ≡ to.page
 way_child told lines count key from to free t way stands =
     let e = from.place.expect in
@@ -40,24 +40,24 @@ way_child told lines count key from to free t way stands =
     same_first lines to.expect.level key (child_for key 0 (children (bytes_of lines page))) to.page rest
 
 -- a page whose child on the way has none
-way_on : (told : Bool) (lines : Lines) (count key : ℕ) (value : List ℕ) (from : Passed) (to : Place) (free : List ℕ) → IsTrue told → LeadsTo told lines count key from to → StandsAt lines from.place.page from.place.expect free
+way_on : (told : Bool) (lines : Lines) (count key : ℕ) (value : List ℕ) (from : Passed) (to : Node) (free : List ℕ) → IsTrue told → LeadsTo told lines count key from to → StandsAt lines from.place.page from.place.expect free
     → entry_count (bytes_of lines from.place.page) ≡ 240 → IsWayFull lines to.expect.level to.page key value → IsWayFull lines from.place.expect.level from.place.page key value
 way_on told lines count key value from to free t way stands many below =
     let child = way_child told lines count key from to free t way stands in
     subst (λ (l : ℕ). IsWayFull lines l from.place.page key value) (sym way.level) (many, subst (λ (n : ℕ). IsWayFull lines to.expect.level n key value) (sym child) below)
 
 -- the leaf of the key is that of the bottom of the way
-leads_leaf_for : (told : Bool) (lines : Lines) (count key : ℕ) (top bottom : Place) (path : List Passed) (free : List ℕ) → IsTrue told → Leads told lines count key top path bottom → StandsAt lines top.page top.expect free
+leads_leaf_for : (told : Bool) (lines : Lines) (count key : ℕ) (top bottom : Node) (path : List Passed) (free : List ℕ) → IsTrue told → Leads told lines count key top path bottom → StandsAt lines top.page top.expect free
     → leaf_for lines top.expect.level top.page key ≡ leaf_for lines bottom.expect.level bottom.page key
-leads_leaf_for told lines count key top bottom [] free t leads stands = ap (λ (p : Place). leaf_for lines p.expect.level p.page key) leads
+leads_leaf_for told lines count key top bottom [] free t leads stands = ap (λ (p : Node). leaf_for lines p.expect.level p.page key) leads
 leads_leaf_for told lines count key top bottom (passed ∷ path) free t leads stands =
     let next = leads.1 in
     let way = leads.2 in
-    let here = subst (λ (p : Place). StandsAt lines p.page p.expect free) (sym leads.0) stands in
+    let here = subst (λ (p : Node). StandsAt lines p.page p.expect free) (sym leads.0) stands in
     let child = way_child told lines count key passed next free t way here in
     let ih = leads_leaf_for told lines count key next bottom path free t leads.3 (stands_child told lines count key passed next free t way here) in
     let down : leaf_for lines (suc next.expect.level) passed.place.page key ≡ leaf_for lines bottom.expect.level bottom.page key = ap (λ (n : ℕ). leaf_for lines next.expect.level n key) child ∙ ih in
-    subst (λ (p : Place). leaf_for lines p.expect.level p.page key ≡ leaf_for lines bottom.expect.level bottom.page key) leads.0
+    subst (λ (p : Node). leaf_for lines p.expect.level p.page key ≡ leaf_for lines bottom.expect.level bottom.page key) leads.0
     (subst (λ (l : ℕ). leaf_for lines l passed.place.page key ≡ leaf_for lines bottom.expect.level bottom.page key) (sym way.level) down)
 
 -- the leaf at the end of a full way
@@ -69,8 +69,8 @@ overfull_at : (lines : Lines) (key n m : ℕ) (value : List ℕ) → n ≡ m →
 overfull_at lines key n m value same over = subst (λ (k : ℕ). IsOverfull (row_put key value (leaf_rows (bytes_of lines k)))) (sym same) over
 
 -- So far the page at the bottom of the path is cut only where no page on the way from it has room.
-pub record Filling (told : Bool) (count key : ℕ) (value : List ℕ) (old : Lines) (top : Place) (path : List Passed) (outcome : Outcome) : Type 0 where
-  pub bottom : Place
+pub record Filling (told : Bool) (count key : ℕ) (value : List ℕ) (old : Lines) (top : Node) (path : List Passed) (outcome : Outcome) : Type 0 where
+  pub bottom : Node
   pub leads : Leads told old count key top path bottom
   pub full : IsTrue told → (free : List ℕ) → StandsAt old top.page top.expect free → CutsFor (IsWayFull old bottom.expect.level bottom.page key value) outcome
 
@@ -81,7 +81,7 @@ reason_to A B (Cut k r) to cuts = to cuts
 reason_to A B (Alone child) to cuts = tt
 
 -- at the leaf
-pub filling_start : (told : Bool) (count key : ℕ) (value : List ℕ) (old mid : Lines) (top leaf : Place) (path : List Passed) (outcome : Outcome) → leaf.expect.level ≡ 0 → Leads told old count key top path leaf → (IsTrue told → mid ≡ old)
+pub filling_start : (told : Bool) (count key : ℕ) (value : List ℕ) (old mid : Lines) (top leaf : Node) (path : List Passed) (outcome : Outcome) → leaf.expect.level ≡ 0 → Leads told old count key top path leaf → (IsTrue told → mid ≡ old)
     → (IsTrue told → CutsFor (IsOverfull (row_put key value (leaf_rows (bytes_of mid leaf.page)))) outcome) → Filling told count key value old top path outcome
 filling_start told count key value old mid top leaf path outcome ground leads same cuts = record {
   bottom = leaf;
@@ -92,7 +92,7 @@ filling_start told count key value old mid top leaf path outcome ground leads sa
 }
 
 -- the page above a child that was cut is as it was
-same_above : (told : Bool) (count key : ℕ) (old mid : Lines) (passed : Passed) (child : Place) (separator right : ℕ) (step : List Row → List Row) (free : List ℕ) → IsTrue told → LeadsTo told old count key passed child
+same_above : (told : Bool) (count key : ℕ) (old mid : Lines) (passed : Passed) (child : Node) (separator right : ℕ) (step : List Row → List Row) (free : List ℕ) → IsTrue told → LeadsTo told old count key passed child
     → Edits old mid child.page child.expect (Cut separator right) step → StandsAt old passed.place.page passed.place.expect free → bytes_of mid passed.place.page ≡ bytes_of old passed.place.page
 same_above told count key old mid passed child separator right step free t way edits stands =
     let s = stands_child told old count key passed child free t way stands in
@@ -101,7 +101,7 @@ same_above told count key old mid passed child separator right step free t way e
     ap (λ p. page_bytes p) above.same
 
 -- a page up
-filled : (told : Bool) (count key : ℕ) (value : List ℕ) (old mid : Lines) (passed : Passed) (child bottom : Place) (before outcome : Outcome) (step : List Row → List Row) (free : List ℕ) → IsTrue told → LeadsTo told old count key passed child
+filled : (told : Bool) (count key : ℕ) (value : List ℕ) (old mid : Lines) (passed : Passed) (child bottom : Node) (before outcome : Outcome) (step : List Row → List Row) (free : List ℕ) → IsTrue told → LeadsTo told old count key passed child
     → LeadsTo told old count key passed bottom → Edits old mid child.page child.expect before step → StandsAt old passed.place.page passed.place.expect free → MayFollow before outcome
     → CutsFor (IsWayFull old bottom.expect.level bottom.page key value) before → CutsFor (entry_count (bytes_of mid passed.place.page) ≡ 240) outcome → CutsFor (IsWayFull old passed.place.expect.level passed.place.page key value) outcome
 filled told count key value old mid passed child bottom Whole outcome step free t way down edits stands follows below cuts = subst (CutsFor (IsWayFull old passed.place.expect.level passed.place.page key value)) (sym follows) tt
@@ -115,7 +115,7 @@ filled told count key value old mid passed child bottom (Cut separator right) ou
     reason_to (entry_count (bytes_of mid passed.place.page) ≡ 240) (IsWayFull old passed.place.expect.level passed.place.page key value) outcome
     (λ many. way_on told old count key value passed bottom free t down stands (sym (ap (λ (b : List ℕ). entry_count b) same) ∙ many) below) cuts
 
-pub filling_on : (told : Bool) (count key : ℕ) (value : List ℕ) (old mid : Lines) (top : Place) (path : List Passed) (passed : Passed) (before outcome : Outcome) (step : List Row → List Row) (old_room room old_visits visits : ℕ)
+pub filling_on : (told : Bool) (count key : ℕ) (value : List ℕ) (old mid : Lines) (top : Node) (path : List Passed) (passed : Passed) (before outcome : Outcome) (step : List Row → List Row) (old_room room old_visits visits : ℕ)
     → Climbing told count key old mid top (path ++ passed ∷ []) before step old_room room old_visits visits → Filling told count key value old top (path ++ passed ∷ []) before → MayFollow before outcome
     → (IsTrue told → CutsFor (entry_count (bytes_of mid passed.place.page) ≡ 240) outcome) → Filling told count key value old top path outcome
 filling_on told count key value old mid top path passed before outcome step old_room room old_visits visits c f follows cuts =
@@ -130,14 +130,14 @@ filling_on told count key value old mid top path passed before outcome step old_
     }
 
 -- at the top
-pub filling_end : (told : Bool) (count key : ℕ) (value : List ℕ) (old : Lines) (top : Place) (path : List Passed) (outcome : Outcome) → path ≡ [] → Filling told count key value old top path outcome → IsTrue told
+pub filling_end : (told : Bool) (count key : ℕ) (value : List ℕ) (old : Lines) (top : Node) (path : List Passed) (outcome : Outcome) → path ≡ [] → Filling told count key value old top path outcome → IsTrue told
     → (free : List ℕ) → StandsAt old top.page top.expect free → CutsFor (IsWayFull old top.expect.level top.page key value) outcome
 filling_end told count key value old top path outcome none f t free stands =
     let is : top ≡ f.bottom = subst (λ (p : List Passed). Leads told old count key top p f.bottom) none f.leads in
-    subst (λ (p : Place). CutsFor (IsWayFull old p.expect.level p.page key value) outcome) (sym is) (f.full t free stands)
+    subst (λ (p : Node). CutsFor (IsWayFull old p.expect.level p.page key value) outcome) (sym is) (f.full t free stands)
 
 -- the stops at the leaf
-pub leaf_needed : {T : Type 0} (told : Bool) (count key : ℕ) (value : List ℕ) (old mid : Lines) (top leaf : Place) (path : List Passed) (free : List ℕ) (result : Result T Stop) → leaf.expect.level ≡ 0 → Leads told old count key top path leaf
+pub leaf_needed : {T : Type 0} (told : Bool) (count key : ℕ) (value : List ℕ) (old mid : Lines) (top leaf : Node) (path : List Passed) (free : List ℕ) (result : Result T Stop) → leaf.expect.level ≡ 0 → Leads told old count key top path leaf
     → IsTrue told → mid ≡ old → StandsAt old top.page top.expect free
     → (IsWellFormed (bytes_of mid leaf.page) leaf.expect → IfErr result (IsNeeded (IsOverfull (row_put key value (leaf_rows (bytes_of mid leaf.page)))) ⊥)) → IfErr result (MustCut old top.expect.level top.page key value)
 leaf_needed told count key value old mid top leaf path free result ground leads t same stands needed =
@@ -151,14 +151,14 @@ leaf_needed told count key value old mid top leaf path free result ground leads 
     (overfull_at old key (leaf_for old top.expect.level top.page key) leaf.page value leaf_is) (λ over never. absurd never) result at
 
 -- a page at level 3 is the top
-high_top : (told : Bool) (lines : Lines) (count key : ℕ) (top place : Place) (path : List Passed) → Leads told lines count key top path place → top.expect.level ≤ 3 → place.expect.level ≡ 3 → top ≡ place
+high_top : (told : Bool) (lines : Lines) (count key : ℕ) (top place : Node) (path : List Passed) → Leads told lines count key top path place → top.expect.level ≤ 3 → place.expect.level ≡ 3 → top ≡ place
 high_top told lines count key top place [] leads few high = leads
 high_top told lines count key top place (p ∷ path) leads few high =
     let height = leads-height told lines count key top place (p ∷ path) leads in
     absurd (omega (arith, height, few, high))
 
 -- the stops of a page above a child
-needed_at : {T : Type 0} (told : Bool) (count key : ℕ) (value : List ℕ) (old mid : Lines) (top : Place) (path : List Passed) (passed : Passed) (before : Outcome) (step : List Row → List Row) (old_room room old_visits visits : ℕ) (free : List ℕ) (result : Result T Stop)
+needed_at : {T : Type 0} (told : Bool) (count key : ℕ) (value : List ℕ) (old mid : Lines) (top : Node) (path : List Passed) (passed : Passed) (before : Outcome) (step : List Row → List Row) (old_room room old_visits visits : ℕ) (free : List ℕ) (result : Result T Stop)
     → IsLocal key step → IsTrue told → Climbing told count key old mid top (path ++ passed ∷ []) before step old_room room old_visits visits → Filling told count key value old top (path ++ passed ∷ []) before → top.expect.level ≤ 3
     → StandsAt old top.page top.expect free → (((k r : ℕ) → before ≢ Cut k r) → IfErr result IsFault)
     → (IsWellFormed (bytes_of mid passed.place.page) passed.place.expect → IfErr result (NeededAbove mid passed before)) → IfErr result (MustCut old top.expect.level top.page key value)
@@ -181,9 +181,9 @@ needed_at told count key value old mid top path passed (Cut separator right) ste
     let leaf_is = leads_leaf_for told old count key top passed.place path free t back.0 stands in
     needed_wider (entry_count (bytes_of mid page) ≡ 240) (IsOverfull (leaf_after old top.expect.level top.page key value)) (e.level ≡ 3) (IsWayFull old top.expect.level top.page key value)
     (λ many. overfull_at old key (leaf_for old top.expect.level top.page key) (leaf_for old e.level page key) value leaf_is (full_leaf old e.level page key value (up many)))
-    (λ many high. subst (λ (p : Place). IsWayFull old p.expect.level p.page key value) (sym (high_top told old count key top passed.place path back.0 few high)) (up many)) result (needed well)
+    (λ many high. subst (λ (p : Node). IsWayFull old p.expect.level p.page key value) (sym (high_top told old count key top passed.place path back.0 few high)) (up many)) result (needed well)
 
-pub climb_needed : {T : Type 0} (told : Bool) (count key : ℕ) (value : List ℕ) (old mid : Lines) (top : Place) (path : List Passed) (passed : Passed) (before : Outcome) (step : List Row → List Row) (old_room room old_visits visits : ℕ) (free : List ℕ)
+pub climb_needed : {T : Type 0} (told : Bool) (count key : ℕ) (value : List ℕ) (old mid : Lines) (top : Node) (path : List Passed) (passed : Passed) (before : Outcome) (step : List Row → List Row) (old_room room old_visits visits : ℕ) (free : List ℕ)
     (result : Result T Stop) → IsLocal key step → IsTrue told → Climbing told count key old mid top (path ++ passed ∷ []) before step old_room room old_visits visits → Filling told count key value old top (path ++ passed ∷ []) before
     → top.expect.level ≤ 3 → StandsAt old top.page top.expect free → FitsHeader count (old 0 0)
     → ((rest : List ℕ) → StandsAbove mid passed before rest → FitsHeader count (mid 0 0) → IfErr result (StopsAbove count mid passed before rest))
@@ -199,12 +199,12 @@ names_at passed Short result names = not_full_names passed.place.page (passed.pl
 names_at passed (Cut k r) result names = names
 names_at passed (Alone child) result names = not_full_names passed.place.page (passed.place.expect.level ≡ 3) result names
 
-pub climb_names : {T : Type 0} (told : Bool) (count key : ℕ) (old mid : Lines) (top : Place) (path : List Passed) (passed : Passed) (before : Outcome) (step : List Row → List Row) (old_room room old_visits visits : ℕ) (result : Result T Stop)
+pub climb_names : {T : Type 0} (told : Bool) (count key : ℕ) (old mid : Lines) (top : Node) (path : List Passed) (passed : Passed) (before : Outcome) (step : List Row → List Row) (old_room room old_visits visits : ℕ) (result : Result T Stop)
     → Climbing told count key old mid top (path ++ passed ∷ []) before step old_room room old_visits visits → top.expect.level ≤ 3 → IfErr result (NamesAbove passed before) → IfErr result (NamesFull top.page (top.expect.level ≡ 3))
 climb_names told count key old mid top path passed before step old_room room old_visits visits result c few names =
     let back = leads-back told old count key top c.bottom path passed c.leads in
     let is = λ (high : passed.place.expect.level ≡ 3). high_top told old count key top passed.place path back.0 few high in
-    names_to passed.place.page top.page (passed.place.expect.level ≡ 3) (top.expect.level ≡ 3) result (λ high. sym (ap (λ (p : Place). p.page) (is high))) (λ high. ap (λ (p : Place). p.expect.level) (is high) ∙ high) (names_at passed before result names)
+    names_to passed.place.page top.page (passed.place.expect.level ≡ 3) (top.expect.level ≡ 3) result (λ high. sym (ap (λ (p : Node). p.page) (is high))) (λ high. ap (λ (p : Node). p.expect.level) (is high) ∙ high) (names_at passed before result names)
 
 pub uncut_not_full : {T : Type 0} (passed : Passed) (before : Outcome) (result : Result T Stop) → ((k r : ℕ) → before ≢ Cut k r) → IfErr result (NamesAbove passed before) → IfErr result NotFull
 uncut_not_full passed Whole result uncut names = names
@@ -213,17 +213,17 @@ uncut_not_full passed (Cut k r) result uncut names = absurd (uncut k r refl)
 uncut_not_full passed (Alone child) result uncut names = names
 
 -- the same in the words of a root
-pub root_names : {T : Type 0} (n : ℕ) (root : Root) (top : Place) (result : Result T Stop) → top ≡ root_place root n → 1 ≤ root.levels → IfErr result (NamesFull top.page (top.expect.level ≡ 3)) → IfErr result (NamesRoot root)
+pub root_names : {T : Type 0} (n : ℕ) (root : Root) (top : Node) (result : Result T Stop) → top ≡ root_place root n → 1 ≤ root.levels → IfErr result (NamesFull top.page (top.expect.level ≡ 3)) → IfErr result (NamesRoot root)
 root_names n root top result is some names =
-    let level : top.expect.level ≡ root.levels - 1 = ap (λ (p : Place). p.expect.level) is in
-    names_to top.page root.page (top.expect.level ≡ 3) (root.levels ≡ 4) result (λ high. ap (λ (p : Place). p.page) is) (λ high. omega (arith, high, level, some)) names
+    let level : top.expect.level ≡ root.levels - 1 = ap (λ (p : Node). p.expect.level) is in
+    names_to top.page root.page (top.expect.level ≡ 3) (root.levels ≡ 4) result (λ high. ap (λ (p : Node). p.page) is) (λ high. omega (arith, high, level, some)) names
 
-pub root_needed : {T : Type 0} (n key : ℕ) (value : List ℕ) (lines : Lines) (root : Root) (top : Place) (result : Result T Stop) → top ≡ root_place root n → IfErr result (MustCut lines top.expect.level top.page key value)
+pub root_needed : {T : Type 0} (n key : ℕ) (value : List ℕ) (lines : Lines) (root : Root) (top : Node) (result : Result T Stop) → top ≡ root_place root n → IfErr result (MustCut lines top.expect.level top.page key value)
     → IfErr result (MustCut lines (root.levels - 1) root.page key value)
-root_needed n key value lines root top result is needed = subst (λ (p : Place). IfErr result (MustCut lines p.expect.level p.page key value)) is needed
+root_needed n key value lines root top result is needed = subst (λ (p : Node). IfErr result (MustCut lines p.expect.level p.page key value)) is needed
 
 -- and where the page for a new root is taken
-pub take_needed : {T : Type 0} (n key : ℕ) (value : List ℕ) (lines : Lines) (root : Root) (top : Place) (result : Result T Stop) → top ≡ root_place root n → IsWayFull lines top.expect.level top.page key value → IfErr result NotFull
+pub take_needed : {T : Type 0} (n key : ℕ) (value : List ℕ) (lines : Lines) (root : Root) (top : Node) (result : Result T Stop) → top ≡ root_place root n → IsWayFull lines top.expect.level top.page key value → IfErr result NotFull
     → IfErr result (MustCut lines (root.levels - 1) root.page key value)
 take_needed n key value lines root top result is full other =
     root_needed n key value lines root top result is

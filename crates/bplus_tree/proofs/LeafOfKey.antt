@@ -9,7 +9,7 @@ use Rattle.page_format.specs.Node.{leaf_rows, children, IsWellFormed}
 use Rattle.bplus_tree.specs.declared.outcome.Outcome.{Outcome}
 use Rattle.bplus_tree.specs.declared.outcome.Outcome.TheVariants.{Whole}
 use Rattle.tree_search.specs.declared.root.Root.{Root}
-use Rattle.bplus_tree.specs.declared.path.Place.{Place}
+use Rattle.bplus_tree.specs.declared.path.Node.{Node}
 use Rattle.bplus_tree.specs.declared.path.Passed.{Passed}
 use Rattle.tree_search.specs.Tree.{IsTree, IsRooted, tree_rows, path, child_for, leaf_for}
 use Rattle.bplus_tree.specs.Path.{Leads, root_place}
@@ -36,12 +36,12 @@ leaf_next count lines level page key leaf s d below =
     let first = same_first lines level key (child_for key 0 (children (bytes_of lines page))) s.page rest in
     record { is = ap (λ (n : ℕ). leaf_for lines level n key) first ∙ below.is; rows = d.rows ∙ below.rows }
 
-pub leads_leaf : (told : Bool) (lines : Lines) (count key : ℕ) (top bottom : Place) (path : List Passed) → IsTrue told
+pub leads_leaf : (told : Bool) (lines : Lines) (count key : ℕ) (top bottom : Node) (path : List Passed) → IsTrue told
     → IsTree top.expect.pages lines top.expect.level top.page top.expect.low top.expect.high top.expect.root → Leads told lines count key top path bottom → bottom.expect.level ≡ 0
     → IsLeafOf lines top.expect.level top.page key bottom.page
 leads_leaf told lines count key top bottom [] t tree leads level =
-    let same = ap (λ (p : Place). p.page) leads in
-    let ground_level : top.expect.level ≡ 0 = ap (λ (p : Place). p.expect.level) leads ∙ level in
+    let same = ap (λ (p : Node). p.page) leads in
+    let ground_level : top.expect.level ≡ 0 = ap (λ (p : Node). p.expect.level) leads ∙ level in
     subst (λ (l : ℕ). IsLeafOf lines l top.page key bottom.page) (sym ground_level) (record { is = same; rows = ap (λ (n : ℕ). row_get key (leaf_rows (bytes_of lines n))) same })
 leads_leaf told lines count key top bottom (passed ∷ path) t tree leads level =
     let next = leads.1 in
@@ -49,7 +49,7 @@ leads_leaf told lines count key top bottom (passed ∷ path) t tree leads level 
     let s : Span = record { page = next.page; low = next.expect.low; high = next.expect.high } in
     let from = passed.place in
     let own : IsTree from.expect.pages lines from.expect.level from.page from.expect.low from.expect.high from.expect.root =
-    subst (λ (p : Place). IsTree p.expect.pages lines p.expect.level p.page p.expect.low p.expect.high p.expect.root) (sym leads.0) tree in
+    subst (λ (p : Node). IsTree p.expect.pages lines p.expect.level p.page p.expect.low p.expect.high p.expect.root) (sym leads.0) tree in
     let found = way.found t (well_formed_top from.expect.pages lines from.expect.level from.page from.expect.low from.expect.high from.expect.root own) in
     let d = descends from.expect.pages lines next.expect.level from.page from.expect.low from.expect.high from.expect.root key way.at s
     (subst (λ (l : ℕ). IsTree from.expect.pages lines l from.page from.expect.low from.expect.high from.expect.root) way.level own) found (omega (arith, way.after, way.above)) (omega (arith, way.within, way.before)) way.above way.within in
@@ -58,20 +58,20 @@ leads_leaf told lines count key top bottom (passed ∷ path) t tree leads level 
     (subst (λ (b : Bool). IsTree from.expect.pages lines next.expect.level next.page next.expect.low next.expect.high b) (sym way.root) d.tree) in
     let ih = leads_leaf told lines count key next bottom path t below leads.3 level in
     let here = leaf_next from.expect.pages lines next.expect.level from.page key bottom.page s d ih in
-    subst (λ (p : Place). IsLeafOf lines p.expect.level p.page key bottom.page) leads.0 (subst (λ (l : ℕ). IsLeafOf lines l from.page key bottom.page) (sym way.level) here)
+    subst (λ (p : Node). IsLeafOf lines p.expect.level p.page key bottom.page) leads.0 (subst (λ (l : ℕ). IsLeafOf lines l from.page key bottom.page) (sym way.level) here)
 
 -- the leaf at the end of the way is well formed
-pub leads_well : (told : Bool) (lines : Lines) (count key : ℕ) (top bottom : Place) (path : List Passed) → IsTrue told
+pub leads_well : (told : Bool) (lines : Lines) (count key : ℕ) (top bottom : Node) (path : List Passed) → IsTrue told
     → IsTree top.expect.pages lines top.expect.level top.page top.expect.low top.expect.high top.expect.root → Leads told lines count key top path bottom → IsWellFormed (bytes_of lines bottom.page) bottom.expect
 leads_well told lines count key top bottom [] t tree leads =
-    subst (λ (p : Place). IsWellFormed (bytes_of lines p.page) p.expect) leads (well_formed_top top.expect.pages lines top.expect.level top.page top.expect.low top.expect.high top.expect.root tree)
+    subst (λ (p : Node). IsWellFormed (bytes_of lines p.page) p.expect) leads (well_formed_top top.expect.pages lines top.expect.level top.page top.expect.low top.expect.high top.expect.root tree)
 leads_well told lines count key top bottom (passed ∷ path) t tree leads =
     let next = leads.1 in
     let way = leads.2 in
     let s : Span = record { page = next.page; low = next.expect.low; high = next.expect.high } in
     let from = passed.place in
     let own : IsTree from.expect.pages lines from.expect.level from.page from.expect.low from.expect.high from.expect.root =
-    subst (λ (p : Place). IsTree p.expect.pages lines p.expect.level p.page p.expect.low p.expect.high p.expect.root) (sym leads.0) tree in
+    subst (λ (p : Node). IsTree p.expect.pages lines p.expect.level p.page p.expect.low p.expect.high p.expect.root) (sym leads.0) tree in
     let found = way.found t (well_formed_top from.expect.pages lines from.expect.level from.page from.expect.low from.expect.high from.expect.root own) in
     let d = descends from.expect.pages lines next.expect.level from.page from.expect.low from.expect.high from.expect.root key way.at s
     (subst (λ (l : ℕ). IsTree from.expect.pages lines l from.page from.expect.low from.expect.high from.expect.root) way.level own) found (omega (arith, way.after, way.above)) (omega (arith, way.within, way.before)) way.above way.within in
@@ -80,7 +80,7 @@ leads_well told lines count key top bottom (passed ∷ path) t tree leads =
     (subst (λ (b : Bool). IsTree from.expect.pages lines next.expect.level next.page next.expect.low next.expect.high b) (sym way.root) d.tree) in
     leads_well told lines count key next bottom path t below leads.3
 
-pub again_start : {A : Type 0} (key size : ℕ) (top leaf : Place) (path : List Passed) (old mid new : Standing A) (outcome : Outcome) → Leads old.told old.current old.count key top path leaf → leaf.expect.level ≡ 0
+pub again_start : {A : Type 0} (key size : ℕ) (top leaf : Node) (path : List Passed) (old mid new : Standing A) (outcome : Outcome) → Leads old.told old.current old.count key top path leaf → leaf.expect.level ≡ 0
     → (IsTrue old.told → mid.current ≡ old.current) → WritesNothing old mid
     → (IsTrue old.told → IsWellFormed (bytes_of mid.current leaf.page) leaf.expect → HoldsLength key size (leaf_rows (bytes_of mid.current leaf.page)) → (outcome ≡ Whole) × WritesRecord leaf.page key mid new) → PutsAgain top key size old new outcome
 again_start key size top leaf path old mid new outcome leads level same nothing wrote = record {
@@ -99,7 +99,7 @@ again_start key size top leaf path old mid new outcome leads level same nothing 
 }
 
 -- the pages above such a page stay
-pub again_on : {A : Type 0} (key size : ℕ) (top : Place) (old mid new : Standing A) (before after : Outcome) → PutsAgain top key size old mid before → (before ≡ Whole → new ≡ mid) → (before ≡ Whole → after ≡ Whole) → PutsAgain top key size old new after
+pub again_on : {A : Type 0} (key size : ℕ) (top : Node) (old mid new : Standing A) (before after : Outcome) → PutsAgain top key size old mid before → (before ≡ Whole → new ≡ mid) → (before ≡ Whole → after ≡ Whole) → PutsAgain top key size old new after
 again_on key size top old mid new before after so_far kept follows = record {
   is = λ told tree holds.
       let w = so_far.is told tree holds in
@@ -107,11 +107,11 @@ again_on key size top old mid new before after so_far kept follows = record {
 }
 
 -- the same from a root
-pub root_again : {A : Type 0} (root : Root) (top : Place) (n key size : ℕ) (old new : Standing A) (outcome : Outcome) → n ≡ old.count → top ≡ root_place root n → PutsAgain top key size old new outcome → IsTrue old.told
+pub root_again : {A : Type 0} (root : Root) (top : Node) (n key size : ℕ) (old new : Standing A) (outcome : Outcome) → n ≡ old.count → top ≡ root_place root n → PutsAgain top key size old new outcome → IsTrue old.told
     → (rows : List Row) (used : List ℕ) → IsRooted old.count old.current root rows used → HoldsLength key size rows
     → (outcome ≡ Whole) × WritesRecord (leaf_for old.current (root.levels - 1) root.page key) key old new
 root_again root top n key size old new outcome is_count is_top puts told rows used rooted holds =
-    let at_top = subst (λ (p : Place). PutsAgain p key size old new outcome) is_top puts in
+    let at_top = subst (λ (p : Node). PutsAgain p key size old new outcome) is_top puts in
     at_top.is told (subst (λ (m : ℕ). IsTree m old.current (root.levels - 1) root.page 0 last_key true) (sym is_count) rooted.tree.is_tree)
     (record { held = holds.held; is = ap (row_get key) (sym rooted.tree.rows_are) ∙ holds.is; long = holds.long })
 

@@ -14,7 +14,7 @@ use Rattle.page_alloc.specs.Written.{Differs, WritesOnly, WritesNothing, lines_c
 use Rattle.page_alloc.proofs.TouchedLaws.{only_then, only_nothing, nothing_read}
 use Rattle.bplus_tree.specs.declared.outcome.Outcome.{Outcome}
 use Rattle.bplus_tree.specs.declared.outcome.Outcome.TheVariants.{Whole}
-use Rattle.bplus_tree.specs.declared.path.Place.{Place}
+use Rattle.bplus_tree.specs.declared.path.Node.{Node}
 use Rattle.bplus_tree.specs.declared.path.Passed.{Passed}
 use Rattle.bplus_tree.specs.Edit.{spent}
 use Rattle.bplus_tree.specs.Path.{Leads, root_place}
@@ -48,20 +48,20 @@ fits_or : {A B : Type 0} (rows : List Row) → (A → B) → FitsLeaf A rows →
 fits_or rows to fits = (fits.0, elim fits.1 [ inl a ↦ inl (to a) | inr enough ↦ inr enough ])
 
 -- the way from a leaf goes nowhere
-leads_ground : (told : Bool) (lines : Lines) (count key : ℕ) (top bottom : Place) (path : List Passed) → Leads told lines count key top path bottom → top.expect.level ≡ 0 → top ≡ bottom
+leads_ground : (told : Bool) (lines : Lines) (count key : ℕ) (top bottom : Node) (path : List Passed) → Leads told lines count key top path bottom → top.expect.level ≡ 0 → top ≡ bottom
 leads_ground told lines count key top bottom [] leads ground = leads
 leads_ground told lines count key top bottom (passed ∷ path) leads ground =
-    let clash : suc leads.1.expect.level ≡ 0 = sym leads.2.level ∙ ap (λ (p : Place). p.expect.level) leads.0 ∙ ground in
+    let clash : suc leads.1.expect.level ≡ 0 = sym leads.2.level ∙ ap (λ (p : Node). p.expect.level) leads.0 ∙ ground in
     absurd (cc)
 
-pub lines_start : {A : Type 0} (key : ℕ) (value : List ℕ) (top leaf : Place) (path : List Passed) (old mid new : Standing A) (outcome : Outcome) → Leads old.told old.current old.count key top path leaf → leaf.expect.level ≡ 0
+pub lines_start : {A : Type 0} (key : ℕ) (value : List ℕ) (top leaf : Node) (path : List Passed) (old mid new : Standing A) (outcome : Outcome) → Leads old.told old.current old.count key top path leaf → leaf.expect.level ≡ 0
     → (IsTrue old.told → mid.current ≡ old.current) → mid.room ≡ old.room → WritesNothing old mid
     → (IsTrue old.told → IsWellFormed (bytes_of mid.current leaf.page) leaf.expect → FitsLeaf (leaf.expect.root ≡ true) (row_put key value (leaf_rows (bytes_of mid.current leaf.page))) → (outcome ≡ Whole) × WritesChange leaf.page mid new) → PutsChange top key value old new outcome
 lines_start key value top leaf path old mid new outcome leads level same same_room nothing wrote = record {
   is = λ told tree fits.
       let at = leads_leaf old.told old.current old.count key top leaf path told tree leads level in
       let is_root : (top.expect.level ≡ 0) × (top.expect.root ≡ true) → leaf.expect.root ≡ true =
-      λ h. sym (ap (λ (p : Place). p.expect.root) (leads_ground old.told old.current old.count key top leaf path leads h.0)) ∙ h.1 in
+      λ h. sym (ap (λ (p : Node). p.expect.root) (leads_ground old.told old.current old.count key top leaf path leads h.0)) ∙ h.1 in
       let there : FitsLeaf (leaf.expect.root ≡ true) (row_put key value (leaf_rows (bytes_of old.current leaf.page))) =
       subst (λ (n : ℕ). FitsLeaf (leaf.expect.root ≡ true) (row_put key value (leaf_rows (bytes_of old.current n)))) at.is (fits_or (leaf_after old.current top.expect.level top.page key value) is_root fits) in
       let well = subst (λ (lines : Lines). IsWellFormed (bytes_of lines leaf.page) leaf.expect) (sym (same told)) (leads_well old.told old.current old.count key top leaf path told tree leads) in
@@ -70,7 +70,7 @@ lines_start key value top leaf path old mid new outcome leads level same same_ro
 }
 
 -- the pages above such a leaf stay
-pub lines_on : {A : Type 0} (key : ℕ) (value : List ℕ) (top : Place) (old mid new : Standing A) (before after : Outcome) → PutsChange top key value old mid before → (before ≡ Whole → new ≡ mid) → (before ≡ Whole → after ≡ Whole)
+pub lines_on : {A : Type 0} (key : ℕ) (value : List ℕ) (top : Node) (old mid new : Standing A) (before after : Outcome) → PutsChange top key value old mid before → (before ≡ Whole → new ≡ mid) → (before ≡ Whole → after ≡ Whole)
     → PutsChange top key value old new after
 lines_on key value top old mid new before after so_far kept follows = record {
   is = λ told tree fits.
@@ -79,10 +79,10 @@ lines_on key value top old mid new before after so_far kept follows = record {
 }
 
 -- the same from a root
-pub root_lines : {A : Type 0} (root : Root) (top : Place) (n key : ℕ) (value : List ℕ) (old new : Standing A) (outcome : Outcome) → n ≡ old.count → top ≡ root_place root n → PutsChange top key value old new outcome → IsTrue old.told
+pub root_lines : {A : Type 0} (root : Root) (top : Node) (n key : ℕ) (value : List ℕ) (old new : Standing A) (outcome : Outcome) → n ≡ old.count → top ≡ root_place root n → PutsChange top key value old new outcome → IsTrue old.told
     → (rows : List Row) (used : List ℕ) → IsRooted old.count old.current root rows used → FitsLeaf (root.levels ≡ 1) (leaf_after old.current (root.levels - 1) root.page key value)
     → (outcome ≡ Whole) × WritesChange (leaf_for old.current (root.levels - 1) root.page key) old new
 root_lines root top n key value old new outcome is_count is_top puts told rows used rooted fits =
-    let at_top = subst (λ (p : Place). PutsChange p key value old new outcome) is_top puts in
+    let at_top = subst (λ (p : Node). PutsChange p key value old new outcome) is_top puts in
     at_top.is told (subst (λ (m : ℕ). IsTree m old.current (root.levels - 1) root.page 0 last_key true) (sym is_count) rooted.tree.is_tree)
     (fits_or (leaf_after old.current (root.levels - 1) root.page key value) (λ one. (omega (arith, one), refl)) fits)

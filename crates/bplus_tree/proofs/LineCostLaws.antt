@@ -28,7 +28,7 @@ use Rattle.tree_search.specs.Tree.{IsTree, IsRooted, leaf_for}
 use Rattle.tree_search.proofs.CostLaws.{leaf_lines, inner_lines}
 use Rattle.bplus_tree.specs.declared.outcome.Outcome.{Outcome}
 use Rattle.bplus_tree.specs.declared.outcome.Outcome.TheVariants.{Whole}
-use Rattle.bplus_tree.specs.declared.path.Place.{Place}
+use Rattle.bplus_tree.specs.declared.path.Node.{Node}
 use Rattle.bplus_tree.specs.declared.path.Passed.{Passed}
 use Rattle.bplus_tree.specs.Edit.{Edits}
 use Rattle.bplus_tree.specs.Path.{Leads, root_place}
@@ -39,14 +39,14 @@ use Rattle.bplus_tree.proofs.LineChangeLaws.{change_later}
 use Rattle.bplus_tree.proofs.ByLines.{whole_edits}
 
 -- a leaf is a root where the way to it goes nowhere and the top is one
-leaf_root : (told : Bool) (lines : Lines) (count key : ℕ) (top bottom : Place) (path : List Passed) → Leads told lines count key top path bottom → bottom.expect.level ≡ 0 → bottom.expect.root ≡ ((top.expect.level == 0) && top.expect.root)
+leaf_root : (told : Bool) (lines : Lines) (count key : ℕ) (top bottom : Node) (path : List Passed) → Leads told lines count key top path bottom → bottom.expect.level ≡ 0 → bottom.expect.root ≡ ((top.expect.level == 0) && top.expect.root)
 leaf_root told lines count key top bottom [] leads level =
-    let ground : top.expect.level ≡ 0 = ap (λ (p : Place). p.expect.level) leads ∙ level in
-    sym (ap (λ (p : Place). p.expect.root) leads) ∙ sym (ap (λ (b : Bool). b && top.expect.root) (eq-eqb top.expect.level 0 ground))
+    let ground : top.expect.level ≡ 0 = ap (λ (p : Node). p.expect.level) leads ∙ level in
+    sym (ap (λ (p : Node). p.expect.root) leads) ∙ sym (ap (λ (b : Bool). b && top.expect.root) (eq-eqb top.expect.level 0 ground))
 leaf_root told lines count key top bottom (passed ∷ path) leads level =
     let next = leads.1 in
     let way = leads.2 in
-    let above : top.expect.level ≡ suc next.expect.level = sym (ap (λ (p : Place). p.expect.level) leads.0) ∙ way.level in
+    let above : top.expect.level ≡ suc next.expect.level = sym (ap (λ (p : Node). p.expect.level) leads.0) ∙ way.level in
     let below = leaf_root told lines count key next bottom path leads.3 level in
     below ∙ ap (λ (b : Bool). (next.expect.level == 0) && b) way.root ∙ none (next.expect.level == 0) ∙ sym (ap (λ (b : Bool). b && top.expect.root) (ne_eqb top.expect.level 0 (λ e. omega (arith, e, above))))
   where
@@ -55,7 +55,7 @@ leaf_root told lines count key top bottom (passed ∷ path) leads level =
     none false = refl
 
 -- from the leaf
-pub goes_start : {A : Type 0} (key : ℕ) (allows : Bool → List ℕ → Bool) (cost : List ℕ → ℕ) (top leaf : Place) (path : List Passed) (old mid new : Standing A) (outcome : Outcome) → Leads old.told old.current old.count key top path leaf → leaf.expect.level ≡ 0
+pub goes_start : {A : Type 0} (key : ℕ) (allows : Bool → List ℕ → Bool) (cost : List ℕ → ℕ) (top leaf : Node) (path : List Passed) (old mid new : Standing A) (outcome : Outcome) → Leads old.told old.current old.count key top path leaf → leaf.expect.level ≡ 0
     → (IsTrue old.told → mid.current ≡ old.current) → mid.room ≡ old.room → WritesNothing old mid
     → (IsTrue old.told → IsTree top.expect.pages old.current top.expect.level top.page top.expect.low top.expect.high top.expect.root → Costs (10 * top.expect.level) old mid)
     → (IsTrue old.told → IsWellFormed (bytes_of mid.current leaf.page) leaf.expect → allows leaf.expect.root (bytes_of mid.current leaf.page) ≡ true → (outcome ≡ Whole) × ByLines leaf.page (28 + cost (bytes_of mid.current leaf.page)) mid new)
@@ -75,7 +75,7 @@ goes_start key allows cost top leaf path old mid new outcome leads level same sa
 }
 
 -- the pages above such a leaf stay
-pub goes_on : {A : Type 0} (key : ℕ) (allows : Bool → List ℕ → Bool) (cost : List ℕ → ℕ) (top : Place) (old mid new : Standing A) (before after : Outcome) → GoesByLines top key allows cost old mid before → (before ≡ Whole → new ≡ mid) → (before ≡ Whole → after ≡ Whole)
+pub goes_on : {A : Type 0} (key : ℕ) (allows : Bool → List ℕ → Bool) (cost : List ℕ → ℕ) (top : Node) (old mid new : Standing A) (before after : Outcome) → GoesByLines top key allows cost old mid before → (before ≡ Whole → new ≡ mid) → (before ≡ Whole → after ≡ Whole)
     → GoesByLines top key allows cost old new after
 goes_on key allows cost top old mid new before after so_far kept follows = record {
   is = λ told tree ok.
@@ -88,12 +88,12 @@ by_fewer : {A : Type 0} (leaf m n : ℕ) (old new : Standing A) → m ≤ n → 
 by_fewer leaf m n old new less by = record { touched = Costs-weaker less by.touched; written = by.written }
 
 -- the same from a root
-pub goes_root : {A : Type 0} (root : Root) (top : Place) (n key : ℕ) (allows : Bool → List ℕ → Bool) (cost : List ℕ → ℕ) (old new : Standing A) (outcome : Outcome) → n ≡ old.count → top ≡ root_place root n → 1 ≤ root.levels
+pub goes_root : {A : Type 0} (root : Root) (top : Node) (n key : ℕ) (allows : Bool → List ℕ → Bool) (cost : List ℕ → ℕ) (old new : Standing A) (outcome : Outcome) → n ≡ old.count → top ≡ root_place root n → 1 ≤ root.levels
     → GoesByLines top key allows cost old new outcome → IsTrue old.told → (rows : List Row) (used : List ℕ) → IsRooted old.count old.current root rows used
     → allows (root.levels == 1) (bytes_of old.current (leaf_of old.current root key)) ≡ true
     → (outcome ≡ Whole) × ByLines (leaf_of old.current root key) (10 * root.levels + 18 + cost (bytes_of old.current (leaf_of old.current root key))) old new
 goes_root root top n key allows cost old new outcome is_count is_top some goes told rows used rooted ok =
-    let at_top = subst (λ (p : Place). GoesByLines p key allows cost old new outcome) is_top goes in
+    let at_top = subst (λ (p : Node). GoesByLines p key allows cost old new outcome) is_top goes in
     let leaf = leaf_of old.current root key in
     let w = at_top.is told (subst (λ (m : ℕ). IsTree m old.current (root.levels - 1) root.page 0 last_key true) (sym is_count) rooted.tree.is_tree)
     (subst (λ (b : Bool). allows b (bytes_of old.current leaf) ≡ true) (same root.levels some) ok) in
@@ -181,7 +181,7 @@ absent_by page most old new reads costs = record {
 }
 
 -- a page on the way is well formed, and stays so
-pub stays_well : (told : Bool) (old now : Lines) (count key : ℕ) (top place : Place) (path : List Passed) → IsTrue told → IsTree top.expect.pages old top.expect.level top.page top.expect.low top.expect.high top.expect.root
+pub stays_well : (told : Bool) (old now : Lines) (count key : ℕ) (top place : Node) (path : List Passed) → IsTrue told → IsTree top.expect.pages old top.expect.level top.page top.expect.low top.expect.high top.expect.root
     → Leads told old count key top path place → now ≡ old → IsWellFormed (bytes_of now place.page) place.expect
 stays_well told old now count key top place path t tree leads same = subst (λ (lines : Lines). IsWellFormed (bytes_of lines place.page) place.expect) (sym same) (leads_well told old count key top place path t tree leads)
 

@@ -8,7 +8,7 @@ use Rattle.page_format.specs.declared.spot.Spot.TheVariants.{Child}
 use Rattle.page_format.specs.Search.{IsSafeSpot}
 use Rattle.page_format.specs.Spans.{spans}
 use Rattle.page_format.specs.Node.{children, IsWellFormed, entry_count}
-use Rattle.bplus_tree.specs.declared.path.Place.{Place}
+use Rattle.bplus_tree.specs.declared.path.Node.{Node}
 use Rattle.bplus_tree.specs.declared.path.Passed.{Passed}
 use Rattle.rows.specs.Rows.{Row}
 use Rattle.bplus_tree.specs.declared.outcome.Outcome.{Outcome}
@@ -31,22 +31,22 @@ use Rattle.bplus_tree.proofs.Editing.{IsLocal, at_level, short_below, edits_kept
 use Rattle.bplus_tree.proofs.Storing.{edits_cut}
 
 -- a page further
-pub leads-further : (told : Bool) (lines : Lines) (count key : ℕ) (top place next : Place) (path : List Passed) (passed : Passed) → passed.place ≡ place → LeadsTo told lines count key passed next
+pub leads-further : (told : Bool) (lines : Lines) (count key : ℕ) (top place next : Node) (path : List Passed) (passed : Passed) → passed.place ≡ place → LeadsTo told lines count key passed next
     → Leads told lines count key top path place → Leads told lines count key top (path ++ passed ∷ []) next
 leads-further told lines count key top place next [] passed is step leads = (is ∙ sym leads, next, step, refl)
 leads-further told lines count key top place next (p ∷ path) passed is step leads =
     (leads.0, leads.1, leads.2, leads-further told lines count key leads.1 place next path passed is step leads.3)
 
 -- a page back
-pub leads-back : (told : Bool) (lines : Lines) (count key : ℕ) (top bottom : Place) (path : List Passed) (passed : Passed) → Leads told lines count key top (path ++ passed ∷ []) bottom
+pub leads-back : (told : Bool) (lines : Lines) (count key : ℕ) (top bottom : Node) (path : List Passed) (passed : Passed) → Leads told lines count key top (path ++ passed ∷ []) bottom
     → Leads told lines count key top path passed.place × LeadsTo told lines count key passed bottom
-leads-back told lines count key top bottom [] passed leads = (sym leads.0, subst (λ (to : Place). LeadsTo told lines count key passed to) leads.3 leads.2)
+leads-back told lines count key top bottom [] passed leads = (sym leads.0, subst (λ (to : Node). LeadsTo told lines count key passed to) leads.3 leads.2)
 leads-back told lines count key top bottom (p ∷ path) passed leads =
     let back = leads-back told lines count key leads.1 bottom path passed leads.3 in
     ((leads.0, leads.1, leads.2, back.0), back.1)
 
 -- so far the way leads to this place, by reads alone
-pub record Descended {A : Type 0} (count key : ℕ) (top place : Place) (path : List Passed) (old now : Standing A) : Type 0 where
+pub record Descended {A : Type 0} (count key : ℕ) (top place : Node) (path : List Passed) (old now : Standing A) : Type 0 where
   pub is_place : IsPlace count place
   pub above : place.expect.low ≤ key
   pub within : key ≤ place.expect.high
@@ -57,11 +57,11 @@ pub record Descended {A : Type 0} (count key : ℕ) (top place : Place) (path : 
   pub few : now.visits ≤ old.visits + length path
 
 -- the child that the search in a page names
-pub record IsNext (told : Bool) (lines : Lines) (count key : ℕ) (from : Passed) (to : Place) : Type 0 where
+pub record IsNext (told : Bool) (lines : Lines) (count key : ℕ) (from : Passed) (to : Node) : Type 0 where
   pub step : LeadsTo told lines count key from to
   pub place : IsPlace count to
 
-pub next_place : (told : Bool) (lines : Lines) (count key at child low high : ℕ) (place : Place) (expect : Expect) → IsPlace count place
+pub next_place : (told : Bool) (lines : Lines) (count key at child low high : ℕ) (place : Node) (expect : Expect) → IsPlace count place
     → expect ≡ record { level = place.expect.level - 1; low = low; high = high; root = false; pages = place.expect.pages } → IsSafeSpot place.expect key (Child at child low high)
     → (IsTrue told → IsWellFormed (bytes_of lines place.page) place.expect → slice_get (spans (children (bytes_of lines place.page)) place.expect.high) at ≡ Some (record { page = child; low = low; high = high }))
     → IsNext told lines count key (record { place = place; low = low }) (record { page = child; expect = expect })
@@ -90,7 +90,7 @@ next_place told lines count key at child low high place expect is_place is safe 
     })
 
 -- one page further down
-pub descended_on : {A : Type 0} (count key at child low high : ℕ) (top place : Place) (expect : Expect) (path : List Passed) (old mid new : Standing A) → Descended count key top place path old mid
+pub descended_on : {A : Type 0} (count key at child low high : ℕ) (top place : Node) (expect : Expect) (path : List Passed) (old mid new : Standing A) → Descended count key top place path old mid
     → expect ≡ record { level = place.expect.level - 1; low = low; high = high; root = false; pages = place.expect.pages } → IsSafeSpot place.expect key (Child at child low high)
     → (IsTrue old.told → IsWellFormed (bytes_of mid.current place.page) place.expect → slice_get (spans (children (bytes_of mid.current place.page)) place.expect.high) at ≡ Some (record { page = child; low = low; high = high }))
     → (IsTrue old.told → new.current ≡ mid.current) → new.room ≡ mid.room → new.visits ≤ mid.visits + 1
@@ -113,16 +113,16 @@ descended_on count key at child low high top place expect path old mid new befor
     }
 
 -- the child's level is the top's less the pages between
-pub leads-height : (told : Bool) (lines : Lines) (count key : ℕ) (top bottom : Place) (path : List Passed) → Leads told lines count key top path bottom → bottom.expect.level + length path ≡ top.expect.level
-leads-height told lines count key top bottom [] leads = let same = ap (λ (p : Place). p.expect.level) leads in omega (arith, same)
+pub leads-height : (told : Bool) (lines : Lines) (count key : ℕ) (top bottom : Node) (path : List Passed) → Leads told lines count key top path bottom → bottom.expect.level + length path ≡ top.expect.level
+leads-height told lines count key top bottom [] leads = let same = ap (λ (p : Node). p.expect.level) leads in omega (arith, same)
 leads-height told lines count key top bottom (p ∷ path) leads =
     let ih = leads-height told lines count key leads.1 bottom path leads.3 in
-    let same = ap (λ (q : Place). q.expect.level) leads.0 in
+    let same = ap (λ (q : Node). q.expect.level) leads.0 in
     omega (arith, ih, same, leads.2.level)
 
 -- So far the tree under the bottom of the path is changed as it is to be, and the pages on the path are as they were.
-pub record Climbing (told : Bool) (count key : ℕ) (old now : Lines) (top : Place) (path : List Passed) (outcome : Outcome) (step : List Row → List Row) (old_room room old_visits visits : ℕ) : Type 0 where
-  pub bottom : Place
+pub record Climbing (told : Bool) (count key : ℕ) (old now : Lines) (top : Node) (path : List Passed) (outcome : Outcome) (step : List Row → List Row) (old_room room old_visits visits : ℕ) : Type 0 where
+  pub bottom : Node
   pub leads : Leads told old count key top path bottom
   pub safe : IsSafe count bottom.expect outcome
   pub below : StaysBelow bottom.expect outcome
@@ -133,12 +133,12 @@ pub record Climbing (told : Bool) (count key : ℕ) (old now : Lines) (top : Pla
   pub height : bottom.expect.level + length path ≡ top.expect.level
   pub few : visits ≤ old_visits + top.expect.level + 9 + 13 * bottom.expect.level
 
-child_expect_of : (told : Bool) (lines : Lines) (count key : ℕ) (from : Passed) (to : Place) → LeadsTo told lines count key from to
+child_expect_of : (told : Bool) (lines : Lines) (count key : ℕ) (from : Passed) (to : Node) → LeadsTo told lines count key from to
     → to.expect ≡ record { level = from.place.expect.level - 1; low = to.expect.low; high = to.expect.high; root = false; pages = from.place.expect.pages }
 child_expect_of told lines count key from to step = expect_is to.expect (from.place.expect.level - 1) from.place.expect.pages false (omega (arith, step.level)) step.root step.pages
 
 -- what stands for the page above
-settled : (told : Bool) (count key : ℕ) (old mid new : Lines) (passed : Passed) (child : Place) (before outcome : Outcome) (step : List Row → List Row) → IsLocal key step → IsTrue told → LeadsTo told old count key passed child
+settled : (told : Bool) (count key : ℕ) (old mid new : Lines) (passed : Passed) (child : Node) (before outcome : Outcome) (step : List Row → List Row) → IsLocal key step → IsTrue told → LeadsTo told old count key passed child
     → IsSafe count child.expect before → Edits old mid child.page child.expect before step → Settles mid new passed before outcome → MayFollow before outcome
     → Edits old new passed.place.page passed.place.expect outcome step
 settled told count key old mid new passed child Whole outcome step local t way safe edits same follows =
@@ -179,7 +179,7 @@ spent_above level old mid new (Cut key right) (Cut k r) spent follows room = ome
 spent_above level old mid new (Cut key right) (Alone child) spent follows room = omega (arith, spent, room)
 
 -- a page up
-pub climb_on : (told : Bool) (count key : ℕ) (old mid new : Lines) (top : Place) (path : List Passed) (passed : Passed) (before outcome : Outcome) (step : List Row → List Row) (old_room mid_room room old_visits mid_visits visits : ℕ)
+pub climb_on : (told : Bool) (count key : ℕ) (old mid new : Lines) (top : Node) (path : List Passed) (passed : Passed) (before outcome : Outcome) (step : List Row → List Row) (old_room mid_room room old_visits mid_visits visits : ℕ)
     → IsLocal key step → Climbing told count key old mid top (path ++ passed ∷ []) before step old_room mid_room old_visits mid_visits
     → IsSafe count passed.place.expect outcome → StaysBelow passed.place.expect outcome → (IsTrue told → Settles mid new passed before outcome) → MayFollow before outcome
     → mid_room ≤ room + room_above before → visits ≤ mid_visits + 13 → Climbing told count key old new top path outcome step old_room room old_visits visits
@@ -200,7 +200,7 @@ climb_on told count key old mid new top path passed before outcome step old_room
     }
 
 -- what the page above may ask of the last one on the path, and of the room
-pub safe_above : (told : Bool) (lines : Lines) (count key : ℕ) (passed : Passed) (child : Place) (outcome : Outcome) → LeadsTo told lines count key passed child → IsSafe count child.expect outcome → IsSafe count passed.place.expect outcome
+pub safe_above : (told : Bool) (lines : Lines) (count key : ℕ) (passed : Passed) (child : Node) (outcome : Outcome) → LeadsTo told lines count key passed child → IsSafe count child.expect outcome → IsSafe count passed.place.expect outcome
 safe_above told lines count key passed child Whole way safe = tt
 safe_above told lines count key passed child Short way safe = tt
 safe_above told lines count key passed child (Cut separator right) way safe = (omega (arith, safe.0, way.after), omega (arith, safe.1, way.before), safe.2, safe.3)
@@ -219,7 +219,7 @@ pub record CanSettle (count : ℕ) (passed : Passed) (outcome : Outcome) (room :
   pub safe : IsSafe count passed.place.expect outcome
   pub enough : room_above outcome ≤ room
 
-pub can_settle : (told : Bool) (count key : ℕ) (old mid : Lines) (top : Place) (path : List Passed) (passed : Passed) (outcome : Outcome) (step : List Row → List Row) (old_room room old_visits visits : ℕ)
+pub can_settle : (told : Bool) (count key : ℕ) (old mid : Lines) (top : Node) (path : List Passed) (passed : Passed) (outcome : Outcome) (step : List Row → List Row) (old_room room old_visits visits : ℕ)
     → Climbing told count key old mid top (path ++ passed ∷ []) outcome step old_room room old_visits visits → (((k r : ℕ) → outcome ≢ Cut k r) ⊎ (129 * top.expect.level + 129 ≤ old_room)) → 189 * top.expect.level + 33 ≤ old_room
     → CanSettle count passed outcome room
 can_settle told count key old mid top path passed outcome step old_room room old_visits visits c cut join =
@@ -232,7 +232,7 @@ can_settle told count key old mid top path passed outcome step old_room room old
     }
 
 -- at the leaf
-pub climb_start : (told : Bool) (count key : ℕ) (old mid new : Lines) (top leaf : Place) (path : List Passed) (outcome : Outcome) (step : List Row → List Row) (old_room mid_room room old_visits mid_visits visits : ℕ)
+pub climb_start : (told : Bool) (count key : ℕ) (old mid new : Lines) (top leaf : Node) (path : List Passed) (outcome : Outcome) (step : List Row → List Row) (old_room mid_room room old_visits mid_visits visits : ℕ)
     → leaf.expect.level ≡ 0 → leaf.expect.pages ≡ count → Leads told old count key top path leaf → (IsTrue told → mid ≡ old) → mid_room ≡ old_room → mid_visits ≤ old_visits + top.expect.level + 1
     → IsSafe count leaf.expect outcome → StaysBelow leaf.expect outcome → (IsTrue told → Edits mid new leaf.page leaf.expect outcome step)
     → (IsTrue told → (free : List ℕ) → StandsAt old leaf.page leaf.expect free → ChangesUnder step key old new leaf.expect.level leaf.page leaf.expect.root outcome) → IsSpent 0 mid_room room outcome → visits ≤ mid_visits + 8
@@ -256,25 +256,25 @@ emptied [] none = refl
 emptied (passed ∷ path) none = absurd (none (omega arith))
 
 -- at the top
-pub record Climbed (told : Bool) (count : ℕ) (old now : Lines) (top : Place) (outcome : Outcome) (step : List Row → List Row) (old_room room : ℕ) : Type 0 where
+pub record Climbed (told : Bool) (count : ℕ) (old now : Lines) (top : Node) (outcome : Outcome) (step : List Row → List Row) (old_room room : ℕ) : Type 0 where
   pub safe : IsSafe count top.expect outcome
   pub below : StaysBelow top.expect outcome
   pub edits : IsTrue told → Edits old now top.page top.expect outcome step
   pub takes : IsTrue told → TakesFor count old now top.page top.expect outcome
   pub spent : IsSpent top.expect.level old_room room outcome
 
-pub climb_end : (told : Bool) (count key : ℕ) (old now : Lines) (top : Place) (path : List Passed) (outcome : Outcome) (step : List Row → List Row) (old_room room old_visits visits : ℕ) → path ≡ []
+pub climb_end : (told : Bool) (count key : ℕ) (old now : Lines) (top : Node) (path : List Passed) (outcome : Outcome) (step : List Row → List Row) (old_room room old_visits visits : ℕ) → path ≡ []
     → Climbing told count key old now top path outcome step old_room room old_visits visits → Climbed told count old now top outcome step old_room room
 climb_end told count key old now top path outcome step old_room room old_visits visits none c =
     let is : top ≡ c.bottom = subst (λ (p : List Passed). Leads told old count key top p c.bottom) none c.leads in
-    subst (λ (p : Place). Climbed told count old now p outcome step old_room room) (sym is) (record { safe = c.safe; below = c.below; edits = c.edits; takes = c.takes; spent = c.spent })
+    subst (λ (p : Node). Climbed told count old now p outcome step old_room room) (sym is) (record { safe = c.safe; below = c.below; edits = c.edits; takes = c.takes; spent = c.spent })
 
-pub climb_under : (told : Bool) (count key : ℕ) (old now : Lines) (top : Place) (path : List Passed) (outcome : Outcome) (step : List Row → List Row) (old_room room old_visits visits : ℕ) → path ≡ []
+pub climb_under : (told : Bool) (count key : ℕ) (old now : Lines) (top : Node) (path : List Passed) (outcome : Outcome) (step : List Row → List Row) (old_room room old_visits visits : ℕ) → path ≡ []
     → Climbing told count key old now top path outcome step old_room room old_visits visits → IsTrue told → (free : List ℕ) → StandsAt old top.page top.expect free → ChangesUnder step key old now top.expect.level top.page top.expect.root outcome
 climb_under told count key old now top path outcome step old_room room old_visits visits none c t free stands =
     let is : top ≡ c.bottom = subst (λ (p : List Passed). Leads told old count key top p c.bottom) none c.leads in
-    let here = subst (λ (p : Place). StandsAt old p.page p.expect free) is stands in
-    subst (λ (p : Place). ChangesUnder step key old now p.expect.level p.page p.expect.root outcome) (sym is) (c.under t free here)
+    let here = subst (λ (p : Node). StandsAt old p.page p.expect free) is stands in
+    subst (λ (p : Node). ChangesUnder step key old now p.expect.level p.page p.expect.root outcome) (sym is) (c.under t free here)
 
 pub uncut_below : (e : Expect) (outcome : Outcome) → ((k r : ℕ) → outcome ≢ Cut k r) → StaysBelow e outcome
 uncut_below e Whole uncut = tt
@@ -289,13 +289,13 @@ uncut_above (Cut key right) outcome uncut follows k r e = uncut key right refl
 uncut_above (Alone child) outcome uncut follows k r e = let whole = follows in absurd (cc)
 
 -- a change at the top, in the words of its root
-pub at_root : (count n : ℕ) (old new : Lines) (root : Root) (top : Place) (outcome : Outcome) (step : List Row → List Row) → n ≡ count → top ≡ root_place root n → Edits old new top.page top.expect outcome step
+pub at_root : (count n : ℕ) (old new : Lines) (root : Root) (top : Node) (outcome : Outcome) (step : List Row → List Row) → n ≡ count → top ≡ root_place root n → Edits old new top.page top.expect outcome step
     → Edits old new root.page (root_place root count).expect outcome step
 at_root count n old new root top outcome step is_count is edits =
-    subst (λ (m : ℕ). Edits old new root.page (root_place root m).expect outcome step) is_count (subst (λ (p : Place). Edits old new p.page p.expect outcome step) is edits)
+    subst (λ (m : ℕ). Edits old new root.page (root_place root m).expect outcome step) is_count (subst (λ (p : Node). Edits old new p.page p.expect outcome step) is edits)
 
 -- a page above a child that was not cut stops by faults alone
-faults_at : {T : Type 0} (told : Bool) (count key : ℕ) (old mid : Lines) (passed : Passed) (child : Place) (before : Outcome) (step : List Row → List Row) (free : List ℕ) (result : Result T Stop) → IsLocal key step → IsTrue told
+faults_at : {T : Type 0} (told : Bool) (count key : ℕ) (old mid : Lines) (passed : Passed) (child : Node) (before : Outcome) (step : List Row → List Row) (free : List ℕ) (result : Result T Stop) → IsLocal key step → IsTrue told
     → LeadsTo told old count key passed child → Edits old mid child.page child.expect before step → StandsAt old passed.place.page passed.place.expect free → FitsHeader count (mid 0 0)
     → ((k r : ℕ) → before ≢ Cut k r) → ((rest : List ℕ) → StandsAbove mid passed before rest → FitsHeader count (mid 0 0) → IfErr result (StopsAbove count mid passed before rest)) → IfErr result IsFault
 faults_at told count key old mid passed child Whole step free result local t way edits stands fits uncut sound = sound [] tt fits
@@ -313,7 +313,7 @@ faults_at told count key old mid passed child Short step free result local t way
     sound s.rest (level, mendable) fits
 
 -- the stops of a page above a child
-stops_at : {T : Type 0} (told : Bool) (count key : ℕ) (old mid : Lines) (passed : Passed) (child : Place) (before : Outcome) (step : List Row → List Row) (free : List ℕ) (most : ℕ) (Full : Type 0) (result : Result T Stop) → IsLocal key step → IsTrue told
+stops_at : {T : Type 0} (told : Bool) (count key : ℕ) (old mid : Lines) (passed : Passed) (child : Node) (before : Outcome) (step : List Row → List Row) (free : List ℕ) (most : ℕ) (Full : Type 0) (result : Result T Stop) → IsLocal key step → IsTrue told
     → LeadsTo told old count key passed child → Edits old mid child.page child.expect before step → TakesFor count old mid child.page child.expect before → StandsAt old passed.place.page passed.place.expect free → FitsHeader count (mid 0 0)
     → child.expect.level + 1 ≤ most → (IsFullAt old passed.place.page passed.place.expect → Full)
     → ((rest : List ℕ) → StandsAbove mid passed before rest → FitsHeader count (mid 0 0) → IfErr result (StopsAbove count mid passed before rest))
@@ -338,7 +338,7 @@ stops_at told count key old mid passed child (Cut separator right) step free mos
     (sound b.rest (well, b.moves.is_free, above.parted) fits)
 
 -- the header at the bottom of the path is in order
-header_now : (told : Bool) (count key : ℕ) (old mid : Lines) (passed : Passed) (child : Place) (before : Outcome) (step : List Row → List Row) (free : List ℕ) → IsTrue told
+header_now : (told : Bool) (count key : ℕ) (old mid : Lines) (passed : Passed) (child : Node) (before : Outcome) (step : List Row → List Row) (free : List ℕ) → IsTrue told
     → LeadsTo told old count key passed child → Edits old mid child.page child.expect before step → StandsAt old passed.place.page passed.place.expect free → FitsHeader count (old 0 0) → FitsHeader count (mid 0 0)
 header_now told count key old mid passed child before step free t way edits stands fits =
     let s = stands_child told old count key passed child free t way stands in
@@ -347,11 +347,11 @@ header_now told count key old mid passed child before step free t way edits stan
     subst (λ (n : ℕ). FitsHeader n (mid 0 0)) is_count (moved_header b.moves (subst (λ (n : ℕ). FitsHeader n (old 0 0)) (sym is_count) fits))
 
 -- a full page at level 3 is the top
-full_top : (told : Bool) (lines : Lines) (count key : ℕ) (top place : Place) (path : List Passed) (free : List ℕ) → Leads told lines count key top path place → top.expect.level ≤ 3 → StandsAt lines top.page top.expect free
+full_top : (told : Bool) (lines : Lines) (count key : ℕ) (top place : Node) (path : List Passed) (free : List ℕ) → Leads told lines count key top path place → top.expect.level ≤ 3 → StandsAt lines top.page top.expect free
     → IsFullAt lines place.page place.expect → 1000000 < length (tree_rows lines top.expect.level top.page)
 full_top told lines count key top place [] free leads few stands full =
-    let level : top.expect.level ≡ 3 = ap (λ (p : Place). p.expect.level) leads ∙ full.0 in
-    let many : entry_count (bytes_of lines top.page) ≡ 240 = ap (λ (p : Place). entry_count (bytes_of lines p.page)) leads ∙ full.1 in
+    let level : top.expect.level ≡ 3 = ap (λ (p : Node). p.expect.level) leads ∙ full.0 in
+    let many : entry_count (bytes_of lines top.page) ≡ 240 = ap (λ (p : Node). entry_count (bytes_of lines p.page)) leads ∙ full.1 in
     let e = top.expect in
     subst (λ (l : ℕ). 1000000 < length (tree_rows lines l top.page)) (sym level)
     (full_root_rows e.pages lines top.page e.low e.high e.root (subst (λ (l : ℕ). IsTree e.pages lines l top.page e.low e.high e.root) level stands.tree) many)
@@ -359,7 +359,7 @@ full_top told lines count key top place (p ∷ path) free leads few stands full 
     let height = leads-height told lines count key top place (p ∷ path) leads in
     absurd (omega (arith, height, few, full.0))
 
-pub climb_stops : {T : Type 0} (told : Bool) (count key : ℕ) (old mid : Lines) (top : Place) (path : List Passed) (passed : Passed) (before : Outcome) (step : List Row → List Row) (old_room room old_visits visits : ℕ) (free : List ℕ) (result : Result T Stop)
+pub climb_stops : {T : Type 0} (told : Bool) (count key : ℕ) (old mid : Lines) (top : Node) (path : List Passed) (passed : Passed) (before : Outcome) (step : List Row → List Row) (old_room room old_visits visits : ℕ) (free : List ℕ) (result : Result T Stop)
     → IsLocal key step → IsTrue told → Climbing told count key old mid top (path ++ passed ∷ []) before step old_room room old_visits visits → top.expect.level ≤ 3 → StandsAt old top.page top.expect free → FitsHeader count (old 0 0)
     → ((rest : List ℕ) → StandsAbove mid passed before rest → FitsHeader count (mid 0 0) → IfErr result (StopsAbove count mid passed before rest))
     → IfErr result (StopsFor (spare_pages count old free ≤ top.expect.level) (1000000 < length (tree_rows old top.expect.level top.page)))
@@ -370,7 +370,7 @@ climb_stops told count key old mid top path passed before step old_room room old
     (header_now told count key old mid passed c.bottom before step free t back.1 (c.edits t) here fits) (omega (arith, c.height, length-append path (passed ∷ [])))
     (λ full. full_top told old count key top passed.place path free back.0 few stands full) sound
 
-pub climb_faults : {T : Type 0} (told : Bool) (count key : ℕ) (old mid : Lines) (top : Place) (path : List Passed) (passed : Passed) (before : Outcome) (step : List Row → List Row) (old_room room old_visits visits : ℕ) (free : List ℕ) (result : Result T Stop)
+pub climb_faults : {T : Type 0} (told : Bool) (count key : ℕ) (old mid : Lines) (top : Node) (path : List Passed) (passed : Passed) (before : Outcome) (step : List Row → List Row) (old_room room old_visits visits : ℕ) (free : List ℕ) (result : Result T Stop)
     → IsLocal key step → IsTrue told → Climbing told count key old mid top (path ++ passed ∷ []) before step old_room room old_visits visits → StandsAt old top.page top.expect free → FitsHeader count (old 0 0)
     → ((k r : ℕ) → before ≢ Cut k r) → ((rest : List ℕ) → StandsAbove mid passed before rest → FitsHeader count (mid 0 0) → IfErr result (StopsAbove count mid passed before rest)) → IfErr result IsFault
 climb_faults told count key old mid top path passed before step old_room room old_visits visits free result local t c stands fits uncut sound =

@@ -5,7 +5,7 @@ use Rattle.line_pages.specs.declared.stop.Stop.{Stop}
 use Rattle.line_pages.specs.Lines.{Lines}
 use Rattle.rows.specs.Rows.{Row, row_put, last_key}
 use Rattle.tree_search.specs.declared.root.Root.{Root}
-use Rattle.bplus_tree.specs.declared.path.Place.{Place}
+use Rattle.bplus_tree.specs.declared.path.Node.{Node}
 use Rattle.bplus_tree.specs.declared.outcome.Outcome.TheVariants.{Cut}
 use Rattle.page_alloc.specs.Space.{IsFreeList, FitsHeader}
 use Rattle.tree_search.specs.Tree.{tree_rows}
@@ -32,10 +32,10 @@ length-row_put key value (row ∷ rows) =
     ]
 
 -- the tree of a root, as the place at the top of the way has it
-pub root_stands : (count n : ℕ) (lines : Lines) (root : Root) (top : Place) (rows : List Row) (used free : List ℕ) → n ≡ count → top ≡ root_place root n → StandsIn count lines root rows used free
+pub root_stands : (count n : ℕ) (lines : Lines) (root : Root) (top : Node) (rows : List Row) (used free : List ℕ) → n ≡ count → top ≡ root_place root n → StandsIn count lines root rows used free
     → StandsAt lines top.page top.expect free
 root_stands count n lines root top rows used free is_count is s =
-    subst (λ (p : Place). StandsAt lines p.page p.expect free) (sym is) (subst (λ (m : ℕ). StandsAt lines root.page (root_place root m).expect free) (sym is_count) (record {
+    subst (λ (p : Node). StandsAt lines p.page p.expect free) (sym is) (subst (λ (m : ℕ). StandsAt lines root.page (root_place root m).expect free) (sym is_count) (record {
       tree = s.rooted.tree.is_tree;
       is_free = s.is_free;
       parted = subst (λ (u : List ℕ). ArePart lines (u ++ free)) s.rooted.tree.used_are s.parted;
@@ -50,27 +50,27 @@ few_at_hand count lines root rows used free after s more few =
     let most = page_most count lines (root.levels - 1) root.page 0 last_key true tree.is_tree in
     omega (arith, most, ap length tree.used_are, ap length tree.rows_are, more, few)
 
-pub put_lack : {T : Type 0} (count n : ℕ) (lines : Lines) (root : Root) (top : Place) (rows : List Row) (used free : List ℕ) (key : ℕ) (value : List ℕ) (result : Result T Stop) → n ≡ count → top ≡ root_place root n → StandsIn count lines root rows used free
+pub put_lack : {T : Type 0} (count n : ℕ) (lines : Lines) (root : Root) (top : Node) (rows : List Row) (used free : List ℕ) (key : ℕ) (value : List ℕ) (result : Result T Stop) → n ≡ count → top ≡ root_place root n → StandsIn count lines root rows used free
     → IfErr result (StopsFor (spare_pages count lines free ≤ top.expect.level) (1000000 < length (tree_rows lines top.expect.level top.page)))
     → IfErr result (IsLack (pages_at_hand count lines used free) (length (row_put key value rows)) (length rows))
 put_lack count n lines root top rows used free key value result is_count is s stops =
-    let level : top.expect.level ≡ root.levels - 1 = ap (λ (p : Place). p.expect.level) is in
+    let level : top.expect.level ≡ root.levels - 1 = ap (λ (p : Node). p.expect.level) is in
     stops_wider (spare_pages count lines free ≤ top.expect.level) (pages_at_hand count lines used free < length (row_put key value rows) / 2 + 8)
     (1000000 < length (tree_rows lines top.expect.level top.page)) (1000000 < length rows)
     (λ few. few_at_hand count lines root rows used free (length (row_put key value rows)) s (length-row_put key value rows) (omega (arith, few, level, s.rooted.few_levels)))
     (λ many.
-    let there = subst (λ (p : Place). 1000000 < length (tree_rows lines p.expect.level p.page)) is many in
+    let there = subst (λ (p : Node). 1000000 < length (tree_rows lines p.expect.level p.page)) is many in
     omega (arith, there, ap length s.rooted.tree.rows_are)) result stops
 
 -- the same where the page for a new root is taken
-pub take_lack : {T : Type 0} (count n m : ℕ) (lines mid : Lines) (root : Root) (top : Place) (rows : List Row) (used free : List ℕ) (key : ℕ) (value : List ℕ) (separator right : ℕ) (result : Result T Stop) → n ≡ count → top ≡ root_place root n → m ≡ count
+pub take_lack : {T : Type 0} (count n m : ℕ) (lines mid : Lines) (root : Root) (top : Node) (rows : List Row) (used free : List ℕ) (key : ℕ) (value : List ℕ) (separator right : ℕ) (result : Result T Stop) → n ≡ count → top ≡ root_place root n → m ≡ count
     → StandsIn count lines root rows used free → Edits lines mid top.page top.expect (Cut separator right) (row_put key value) → TakesFor count lines mid top.page top.expect (Cut separator right)
     → (FitsHeader m (mid 0 0) → (free : List ℕ) → IsFreeList mid free → IfErr result (IsShort (spare_pages m mid free) 0))
     → IfErr result (IsLack (pages_at_hand count lines used free) (length (row_put key value rows)) (length rows))
 take_lack count n m lines mid root top rows used free key value separator right result is_count is is_mid s edits takes sound =
     let stands = root_stands count n lines root top rows used free is_count is s in
-    let pages : top.expect.pages ≡ count = ap (λ (p : Place). p.expect.pages) is ∙ is_count in
-    let level : top.expect.level ≡ root.levels - 1 = ap (λ (p : Place). p.expect.level) is in
+    let pages : top.expect.pages ≡ count = ap (λ (p : Node). p.expect.pages) is ∙ is_count in
+    let level : top.expect.level ≡ root.levels - 1 = ap (λ (p : Node). p.expect.level) is in
     let b = edits free stands.tree stands.is_free stands.parted stands.within in
     let taken = takes free b.rest separator right refl stands b.moves.is_free in
     let header = subst (λ (k : ℕ). FitsHeader k (mid 0 0)) pages (moved_header b.moves (subst (λ (k : ℕ). FitsHeader k (lines 0 0)) (sym pages) s.header)) in

@@ -8,7 +8,7 @@ use Rattle.page_format.specs.Spans.{spans}
 use Rattle.page_format.specs.Node.{Child, children, IsWellFormed}
 use Rattle.bplus_tree.specs.declared.outcome.Outcome.{Outcome}
 use Rattle.bplus_tree.specs.declared.outcome.Outcome.TheVariants.{Whole, Short, Cut, Alone}
-use Rattle.bplus_tree.specs.declared.path.Place.{Place}
+use Rattle.bplus_tree.specs.declared.path.Node.{Node}
 use Rattle.bplus_tree.specs.declared.path.Passed.{Passed}
 use Rattle.page_alloc.specs.Space.{free_head, IsFreeList, FitsHeader}
 use Rattle.page_alloc.specs.Counted.{times}
@@ -26,12 +26,12 @@ use Rattle.page_alloc.proofs.LackLaws.{stops_wider, at_hand-kept}
 use Rattle.tree_search.proofs.SearchLaws.{well_formed_top}
 
 -- the child that the way goes on to, in the page that it leaves
-pub record WayDown (lines : Lines) (from : Place) (to : Place) (free : List ℕ) : Type 0 where
+pub record WayDown (lines : Lines) (from : Node) (to : Node) (free : List ℕ) : Type 0 where
   pub stands : StandsAt lines from.page (at_level from.expect (suc to.expect.level)) free
   pub spot : Located (children (bytes_of lines from.page)) from.expect.high (record { page = to.page; low = to.expect.low; high = to.expect.high })
   pub below : IsTree from.expect.pages lines to.expect.level to.page to.expect.low to.expect.high false
 
-pub way_down : (told : Bool) (lines : Lines) (count key : ℕ) (from : Passed) (to : Place) (free : List ℕ) → IsTrue told → LeadsTo told lines count key from to → StandsAt lines from.place.page from.place.expect free
+pub way_down : (told : Bool) (lines : Lines) (count key : ℕ) (from : Passed) (to : Node) (free : List ℕ) → IsTrue told → LeadsTo told lines count key from to → StandsAt lines from.place.page from.place.expect free
     → WayDown lines from.place to free
 way_down told lines count key from to free t way stands =
     let e = from.place.expect in
@@ -45,7 +45,7 @@ way_down told lines count key from to free t way stands =
       below = Each-get (IsChildTree e.pages lines level) (spans (children (bytes_of lines page)) e.high) way.at (record { page = to.page; low = to.expect.low; high = to.expect.high }) inner.tree.1 spot;
     }
 
-pub stands_child : (told : Bool) (lines : Lines) (count key : ℕ) (from : Passed) (to : Place) (free : List ℕ) → IsTrue told → LeadsTo told lines count key from to → StandsAt lines from.place.page from.place.expect free
+pub stands_child : (told : Bool) (lines : Lines) (count key : ℕ) (from : Passed) (to : Node) (free : List ℕ) → IsTrue told → LeadsTo told lines count key from to → StandsAt lines from.place.page from.place.expect free
     → StandsAt lines to.page to.expect free
 stands_child told lines count key from to free t way stands =
     let level = to.expect.level in
@@ -58,11 +58,11 @@ stands_child told lines count key from to free t way stands =
       within = omega (arith, stands.within, way.pages);
     }
 
-pub leads_stands : (told : Bool) (lines : Lines) (count key : ℕ) (top bottom : Place) (path : List Passed) (free : List ℕ) → IsTrue told → Leads told lines count key top path bottom
+pub leads_stands : (told : Bool) (lines : Lines) (count key : ℕ) (top bottom : Node) (path : List Passed) (free : List ℕ) → IsTrue told → Leads told lines count key top path bottom
     → StandsAt lines top.page top.expect free → StandsAt lines bottom.page bottom.expect free
-leads_stands told lines count key top bottom [] free t leads stands = subst (λ (p : Place). StandsAt lines p.page p.expect free) leads stands
+leads_stands told lines count key top bottom [] free t leads stands = subst (λ (p : Node). StandsAt lines p.page p.expect free) leads stands
 leads_stands told lines count key top bottom (passed ∷ path) free t leads stands =
-    let here = subst (λ (p : Place). StandsAt lines p.page p.expect free) (sym leads.0) stands in
+    let here = subst (λ (p : Node). StandsAt lines p.page p.expect free) (sym leads.0) stands in
     leads_stands told lines count key leads.1 bottom path free t leads.3 (stands_child told lines count key passed leads.1 free t leads.2 here)
 
 -- the page above a child that was changed
@@ -70,7 +70,7 @@ pub record AboveChild (old mid : Lines) (page : ℕ) (rest : List ℕ) : Type 0 
   pub parted : ArePart mid (page ∷ rest)
   pub same : mid page ≡ old page
 
-pub above_child : (told : Bool) (old mid : Lines) (count key : ℕ) (from : Passed) (to : Place) (used' free rest : List ℕ) (n : ℕ) → IsTrue told → LeadsTo told old count key from to → StandsAt old from.place.page from.place.expect free
+pub above_child : (told : Bool) (old mid : Lines) (count key : ℕ) (from : Passed) (to : Node) (used' free rest : List ℕ) (n : ℕ) → IsTrue told → LeadsTo told old count key from to → StandsAt old from.place.page from.place.expect free
     → Moves n old mid (tree_pages old to.expect.level to.page) used' free rest → AboveChild old mid from.place.page rest
 above_child told old mid count key from to used' free rest n t way stands m =
     let page = from.place.page in
@@ -96,7 +96,7 @@ above_child told old mid count key from to used' free rest n t way stands m =
     }
 
 -- how many pages are taken for a leaf that is cut
-pub takes_leaf : (count : ℕ) (old new : Lines) (leaf : Place) (outcome : Outcome) (step : List Row → List Row) → leaf.expect.level ≡ 0 → leaf.expect.pages ≡ count → Edits old new leaf.page leaf.expect outcome step
+pub takes_leaf : (count : ℕ) (old new : Lines) (leaf : Node) (outcome : Outcome) (step : List Row → List Row) → leaf.expect.level ≡ 0 → leaf.expect.pages ≡ count → Edits old new leaf.page leaf.expect outcome step
     → TakesFor count old new leaf.page leaf.expect outcome
 takes_leaf count old new leaf outcome step level is_count edits free rest key right is stands is_rest =
     let b = subst (λ (o : Outcome). Became leaf.expect.pages old new leaf.expect.level leaf.page leaf.expect.low leaf.expect.high leaf.expect.root o (step (tree_rows old leaf.expect.level leaf.page)) free) is
@@ -108,7 +108,7 @@ takes_leaf count old new leaf outcome step level is_count edits free rest key ri
     omega (arith, now)
 
 -- and for the pages above it
-pub takes_above : (told : Bool) (count key : ℕ) (old mid new : Lines) (passed : Passed) (child : Place) (before outcome : Outcome) (step : List Row → List Row) → IsTrue told → passed.place.expect.pages ≡ count → LeadsTo told old count key passed child
+pub takes_above : (told : Bool) (count key : ℕ) (old mid new : Lines) (passed : Passed) (child : Node) (before outcome : Outcome) (step : List Row → List Row) → IsTrue told → passed.place.expect.pages ≡ count → LeadsTo told old count key passed child
     → Edits old mid child.page child.expect before step → TakesFor count old mid child.page child.expect before → Settles mid new passed before outcome → MayFollow before outcome
     → TakesFor count old new passed.place.page passed.place.expect outcome
 takes_above told count key old mid new passed child Whole outcome step t is_count way edits takes settles follows free rest k r is stands is_rest = let whole = follows in absurd (cc)
@@ -129,7 +129,7 @@ takes_above told count key old mid new passed child (Cut separator right) outcom
     omega (arith, now, taken, way.level)
 
 -- the stops at a leaf
-pub leaf_stops : {T : Type 0} (count n : ℕ) (old first : Lines) (leaf : Place) (free : List ℕ) (most : ℕ) (Full : Type 0) (result : Result T Stop) → leaf.expect.level ≡ 0 → n ≡ count → first ≡ old
+pub leaf_stops : {T : Type 0} (count n : ℕ) (old first : Lines) (leaf : Node) (free : List ℕ) (most : ℕ) (Full : Type 0) (result : Result T Stop) → leaf.expect.level ≡ 0 → n ≡ count → first ≡ old
     → StandsAt old leaf.page leaf.expect free → FitsHeader count (old 0 0)
     → ((free : List ℕ) → IsWellFormed (bytes_of first leaf.page) leaf.expect → IsFreeList first free → ArePart first (leaf.page ∷ free) → FitsHeader n (first 0 0) → IfErr result (IsShort (spare_pages n first free) 0))
     → IfErr result (StopsFor (spare_pages count old free ≤ most) Full)

@@ -15,7 +15,7 @@ use Rattle.page_alloc.specs.Space.{high_of, IsFreeList}
 use Rattle.page_alloc.specs.Moves.{ArePart, Moves}
 use Rattle.bplus_tree.specs.declared.outcome.Outcome.{Outcome}
 use Rattle.bplus_tree.specs.declared.outcome.Outcome.TheVariants.{Whole, Short, Cut, Alone}
-use Rattle.bplus_tree.specs.declared.path.Place.{Place}
+use Rattle.bplus_tree.specs.declared.path.Node.{Node}
 use Rattle.bplus_tree.specs.declared.path.Passed.{Passed}
 use Rattle.bplus_tree.specs.Edit.{Became, Edits, MendsPages, own}
 use Rattle.bplus_tree.specs.Path.{LeadsTo, Settles, MayFollow, StandsAt, root_place}
@@ -37,7 +37,7 @@ expect_is e level pages root is_level is_root is_pages =
     ∙ ap (λ (n : ℕ). at_expect level e.low e.high root n) is_pages
 
 -- at the leaf
-pub leaf_under : (key : ℕ) (leaf : Place) (old mid new : Lines) (outcome : Outcome) (step : List Row → List Row) → leaf.expect.level ≡ 0 → mid ≡ old → Edits mid new leaf.page leaf.expect outcome step
+pub leaf_under : (key : ℕ) (leaf : Node) (old mid new : Lines) (outcome : Outcome) (step : List Row → List Row) → leaf.expect.level ≡ 0 → mid ≡ old → Edits mid new leaf.page leaf.expect outcome step
     → (IsWellFormed (bytes_of mid leaf.page) leaf.expect → FitsLeaf (leaf.expect.root ≡ true) (step (rows_at mid leaf.page)) → outcome ≡ Whole)
     → ((free : List ℕ) → IsFreeList mid free → ArePart mid (leaf.page ∷ free) → high_of mid ≤ leaf.expect.pages → CutsLeaf (step (rows_at mid leaf.page)) new leaf.page outcome)
     → (free : List ℕ) → StandsAt old leaf.page leaf.expect free → ChangesUnder step key old new leaf.expect.level leaf.page leaf.expect.root outcome
@@ -56,7 +56,7 @@ leaf_under key leaf old mid new outcome step level same edits fits cuts free sta
     )
 
 -- the child that the way goes on to is that of the key
-child_is : (told : Bool) (lines : Lines) (count key : ℕ) (from : Passed) (to : Place) (free : List ℕ) → IsTrue told → LeadsTo told lines count key from to → StandsAt lines from.place.page from.place.expect free
+child_is : (told : Bool) (lines : Lines) (count key : ℕ) (from : Passed) (to : Node) (free : List ℕ) → IsTrue told → LeadsTo told lines count key from to → StandsAt lines from.place.page from.place.expect free
     → child_for key 0 (children (bytes_of lines from.place.page)) ≡ to.page
 child_is told lines count key from to free t way stands =
     let e = from.place.expect in
@@ -70,7 +70,7 @@ child_is told lines count key from to free t way stands =
     same_first lines level key (child_for key 0 (children (bytes_of lines page))) to.page rest
 
 -- what becomes of the page above
-above_of : (told : Bool) (count key : ℕ) (old mid new : Lines) (passed : Passed) (child : Place) (before outcome : Outcome) (step : List Row → List Row) (free : List ℕ) → IsLocal key step → IsTrue told → LeadsTo told old count key passed child
+above_of : (told : Bool) (count key : ℕ) (old mid new : Lines) (passed : Passed) (child : Node) (before outcome : Outcome) (step : List Row → List Row) (free : List ℕ) → IsLocal key step → IsTrue told → LeadsTo told old count key passed child
     → Edits old mid child.page child.expect before step → Settles mid new passed before outcome → MayFollow before outcome → StandsAt old passed.place.page passed.place.expect free
     → ChangesUnder step key old mid child.expect.level child.page child.expect.root before → HoldsAbove mid new child.expect.level passed.place.page passed.place.expect.root child.expect.low before outcome
 above_of told count key old mid new passed child Whole outcome step free local t way edits settles follows stands under = (settles, follows)
@@ -97,7 +97,7 @@ above_of told count key old mid new passed child Short outcome step free local t
     subst (λ (n : ℕ). row_bytes (rows_at mid n) < leaf_floor) s.child_is (subst (λ (rows : List Row). row_bytes rows < leaf_floor) (sym leaf.0.0) leaf.0.2))
 
 -- a page up
-pub under_on : (told : Bool) (count key : ℕ) (old mid new : Lines) (passed : Passed) (child : Place) (before outcome : Outcome) (step : List Row → List Row) (free : List ℕ) → IsLocal key step → IsTrue told → LeadsTo told old count key passed child
+pub under_on : (told : Bool) (count key : ℕ) (old mid new : Lines) (passed : Passed) (child : Node) (before outcome : Outcome) (step : List Row → List Row) (free : List ℕ) → IsLocal key step → IsTrue told → LeadsTo told old count key passed child
     → Edits old mid child.page child.expect before step → Settles mid new passed before outcome → MayFollow before outcome → StandsAt old passed.place.page passed.place.expect free
     → ChangesUnder step key old mid child.expect.level child.page child.expect.root before → ChangesUnder step key old new passed.place.expect.level passed.place.page passed.place.expect.root outcome
 under_on told count key old mid new passed child before outcome step free local t way edits settles follows stands under =
@@ -119,12 +119,12 @@ under_on told count key old mid new passed child before outcome step free local 
     )
 
 -- from the root
-pub root_pages : (count n key : ℕ) (old mid new : Lines) (root root' : Root) (top : Place) (outcome : Outcome) (step : List Row → List Row) → n ≡ count → top ≡ root_place root n → Edits old mid top.page top.expect outcome step
+pub root_pages : (count n key : ℕ) (old mid new : Lines) (root root' : Root) (top : Node) (outcome : Outcome) (step : List Row → List Row) → n ≡ count → top ≡ root_place root n → Edits old mid top.page top.expect outcome step
     → ((free : List ℕ) → StandsAt old top.page top.expect free → ChangesUnder step key old mid top.expect.level top.page top.expect.root outcome)
     → ((rest : List ℕ) → IsFreeList mid rest → RootHolds mid new root root' outcome) → ChangesPages count key old new root root' step
 root_pages count n key old mid new root root' top outcome step is_count is edits under above rows used free rooted is_free part within =
     let stands : StandsAt old top.page top.expect free =
-    subst (λ (p : Place). StandsAt old p.page p.expect free) (sym is) (subst (λ (m : ℕ). StandsAt old root.page (root_place root m).expect free) (sym is_count) (record {
+    subst (λ (p : Node). StandsAt old p.page p.expect free) (sym is) (subst (λ (m : ℕ). StandsAt old root.page (root_place root m).expect free) (sym is_count) (record {
       tree = rooted.tree.is_tree;
       is_free = is_free;
       parted = subst (λ (u : List ℕ). ArePart old (u ++ free)) rooted.tree.used_are part;
@@ -134,6 +134,6 @@ root_pages count n key old mid new root root' top outcome step is_count is edits
     record {
       between = mid;
       outcome = outcome;
-      under = subst (λ (p : Place). ChangesUnder step key old mid p.expect.level p.page p.expect.root outcome) is (under free stands);
+      under = subst (λ (p : Node). ChangesUnder step key old mid p.expect.level p.page p.expect.root outcome) is (under free stands);
       top = above b.rest b.moves.is_free;
     }

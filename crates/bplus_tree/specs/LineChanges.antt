@@ -6,7 +6,7 @@ use Rattle.line_pages.specs.Lines.{Lines}
 use Rattle.line_pages.specs.Bytes.{bytes_of}
 use Rattle.line_pages.specs.Standing.{Standing}
 use Rattle.tree_search.specs.declared.root.Root.{Root}
-use Rattle.bplus_tree.specs.declared.path.Place.{Place}
+use Rattle.bplus_tree.specs.declared.path.Node.{Node}
 use Rattle.bplus_tree.specs.declared.outcome.Outcome.{Outcome}
 use Rattle.bplus_tree.specs.declared.outcome.Outcome.TheVariants.{Whole}
 use Rattle.tree_search.specs.Tree.{IsTree, IsRooted, leaf_for}
@@ -24,7 +24,7 @@ leaf_after lines level page key value = row_put key value (leaf_rows (bytes_of l
 
 -- A put under a page, where the leaf of the key is neither cut nor joined: the page is as full as it has to be, and the lines
 -- of the leaf that change are written alone.
-pub record PutsChange {A : Type 0} (top : Place) (key : ℕ) (value : List ℕ) (old new : Standing A) (outcome : Outcome) : Type 0 where
+pub record PutsChange {A : Type 0} (top : Node) (key : ℕ) (value : List ℕ) (old new : Standing A) (outcome : Outcome) : Type 0 where
   pub is : IsTrue old.told → IsTree top.expect.pages old.current top.expect.level top.page top.expect.low top.expect.high top.expect.root
       → FitsLeaf ((top.expect.level ≡ 0) × (top.expect.root ≡ true)) (leaf_after old.current top.expect.level top.page key value)
       → (outcome ≡ Whole) × WritesChange (leaf_for old.current top.expect.level top.page key) old new

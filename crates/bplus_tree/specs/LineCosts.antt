@@ -11,7 +11,7 @@ use Rattle.leaf_lines.specs.Put.{fits_beside, put_cost}
 use Rattle.leaf_lines.specs.Removal.{keeps_floor, removal_cost}
 use Rattle.tree_search.specs.declared.root.Root.{Root}
 use Rattle.tree_search.specs.Tree.{IsTree, IsRooted, leaf_for}
-use Rattle.bplus_tree.specs.declared.path.Place.{Place}
+use Rattle.bplus_tree.specs.declared.path.Node.{Node}
 use Rattle.bplus_tree.specs.declared.outcome.Outcome.{Outcome}
 use Rattle.bplus_tree.specs.declared.outcome.Outcome.TheVariants.{Whole}
 use Rattle.bplus_tree.specs.LineChanges.{WritesChange}
@@ -35,7 +35,7 @@ keeps_without key root bytes = keeps_floor root (row_delete key (leaf_rows bytes
 
 -- A change under a page goes by the lines of the key's leaf where that leaf allows it: the page is as full as it has to be, and the
 -- lines are touched that the search takes, 10 of an inner page and 28 of the leaf, and those of the change.
-pub record GoesByLines {A : Type 0} (top : Place) (key : ℕ) (allows : Bool → List ℕ → Bool) (cost : List ℕ → ℕ) (old new : Standing A) (outcome : Outcome) : Type 0 where
+pub record GoesByLines {A : Type 0} (top : Node) (key : ℕ) (allows : Bool → List ℕ → Bool) (cost : List ℕ → ℕ) (old new : Standing A) (outcome : Outcome) : Type 0 where
   pub is : IsTrue old.told → IsTree top.expect.pages old.current top.expect.level top.page top.expect.low top.expect.high top.expect.root
       → allows ((top.expect.level == 0) && top.expect.root) (bytes_of old.current (leaf_for old.current top.expect.level top.page key)) ≡ true
       → (outcome ≡ Whole)

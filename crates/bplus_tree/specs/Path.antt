@@ -10,7 +10,7 @@ use Rattle.page_format.specs.Node.{children, entry_count, IsWellFormed}
 use Rattle.tree_search.specs.declared.root.Root.{Root}
 use Rattle.bplus_tree.specs.declared.outcome.Outcome.{Outcome}
 use Rattle.bplus_tree.specs.declared.outcome.Outcome.TheVariants.{Whole, Short, Cut, Alone}
-use Rattle.bplus_tree.specs.declared.path.Place.{Place}
+use Rattle.bplus_tree.specs.declared.path.Node.{Node}
 use Rattle.bplus_tree.specs.declared.path.Passed.{Passed}
 use Rattle.line_pages.specs.declared.stop.Stop.{Stop}
 use Rattle.page_alloc.specs.Space.{high_of, IsFreeList}
@@ -20,11 +20,11 @@ use Rattle.page_alloc.specs.Stops.{IsFault, StopsFor, spare_pages}
 use Rattle.bplus_tree.specs.Edit.{IsMendable, Mends, MendsPages, AddsChild}
 
 -- the place of a root
-abbrev pub root_place : Root → ℕ → Place
+abbrev pub root_place : Root → ℕ → Node
 root_place root count = record { page = root.page; expect = record { level = root.levels - 1; low = 0; high = last_key; root = true; pages = count } }
 
 -- A page of the store, which is a root exactly where its bounds are those of all keys.
-pub record IsPlace (count : ℕ) (place : Place) : Type 0 where
+pub record IsPlace (count : ℕ) (place : Node) : Type 0 where
   pub some : 1 ≤ place.page
   pub page : place.page < count
   pub pages : place.expect.pages ≡ count
@@ -32,7 +32,7 @@ pub record IsPlace (count : ℕ) (place : Place) : Type 0 where
   pub span : place.expect.root ≡ true → is_root_span place.expect.low place.expect.high ≡ true
 
 -- The way of a key goes from a page to this child of it, whose bounds have the key between them.
-pub record LeadsTo (told : Bool) (lines : Lines) (count key : ℕ) (from : Passed) (to : Place) : Type 0 where
+pub record LeadsTo (told : Bool) (lines : Lines) (count key : ℕ) (from : Passed) (to : Node) : Type 0 where
   pub place : IsPlace count from.place
   pub level : from.place.expect.level ≡ suc to.expect.level
   pub pages : to.expect.pages ≡ from.place.expect.pages
@@ -47,9 +47,9 @@ pub record LeadsTo (told : Bool) (lines : Lines) (count key : ℕ) (from : Passe
       → slice_get (spans (children (bytes_of lines from.place.page)) from.place.expect.high) at ≡ Some (record { page = to.page; low = to.expect.low; high = to.expect.high })
 
 -- The way of a key goes from the top over these pages to the bottom.
-abbrev pub Leads : Bool → Lines → ℕ → ℕ → Place → List Passed → Place → Type 0
+abbrev pub Leads : Bool → Lines → ℕ → ℕ → Node → List Passed → Node → Type 0
 Leads told lines count key top [] bottom = top ≡ bottom
-Leads told lines count key top (passed ∷ rest) bottom = (passed.place ≡ top) × (next : Place) × LeadsTo told lines count key passed next × Leads told lines count key next rest bottom
+Leads told lines count key top (passed ∷ rest) bottom = (passed.place ≡ top) × (next : Node) × LeadsTo told lines count key passed next × Leads told lines count key next rest bottom
 
 -- what was done to a page above a child that became this
 abbrev pub Settles : Lines → Lines → Passed → Outcome → Outcome → Type 0

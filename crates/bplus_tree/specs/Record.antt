@@ -4,7 +4,7 @@ use Rattle.rows.specs.Rows.{Row}
 use Rattle.line_pages.specs.Bytes.{bytes_of}
 use Rattle.line_pages.specs.Standing.{Standing}
 use Rattle.tree_search.specs.declared.root.Root.{Root}
-use Rattle.bplus_tree.specs.declared.path.Place.{Place}
+use Rattle.bplus_tree.specs.declared.path.Node.{Node}
 use Rattle.bplus_tree.specs.declared.outcome.Outcome.{Outcome}
 use Rattle.bplus_tree.specs.declared.outcome.Outcome.TheVariants.{Whole}
 use Rattle.tree_search.specs.Tree.{IsTree, IsRooted, tree_rows, leaf_for}
@@ -17,7 +17,7 @@ WritesRecord leaf key old new = WritesOnly leaf (Meets (record_at key (bytes_of 
 
 -- A put under a page, where the key has a value of that length: the page is as full as before, and lines of the key's record
 -- alone are written.
-pub record PutsAgain {A : Type 0} (top : Place) (key size : ℕ) (old new : Standing A) (outcome : Outcome) : Type 0 where
+pub record PutsAgain {A : Type 0} (top : Node) (key size : ℕ) (old new : Standing A) (outcome : Outcome) : Type 0 where
   pub is : IsTrue old.told → IsTree top.expect.pages old.current top.expect.level top.page top.expect.low top.expect.high top.expect.root → HoldsLength key size (tree_rows old.current top.expect.level top.page)
       → (outcome ≡ Whole) × WritesRecord (leaf_for old.current top.expect.level top.page key) key old new
 

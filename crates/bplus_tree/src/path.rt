@@ -35,7 +35,7 @@ use tree_search::{Root, child_expect, root_expect};
 
 /// A page of a tree, and what is expected of it.
 #[derive(Clone, Copy)]
-pub(crate) struct Place {
+pub(crate) struct Node {
     pub page: u64,
     pub expect: Expect,
 }
@@ -43,7 +43,7 @@ pub(crate) struct Place {
 /// An inner page on the way down to a key, and the first key of the child that the way went on to.
 #[derive(Clone, Copy)]
 pub(crate) struct Passed {
-    pub place: Place,
+    pub place: Node,
     pub low: u64,
 }
 
@@ -52,7 +52,7 @@ impl Default for Passed {
 
     fn default() -> Passed {
         Passed {
-            place: Place {
+            place: Node {
                 page: 0,
                 expect: Expect {
                     level: 0,
@@ -71,11 +71,11 @@ impl Default for Passed {
 type Path = ArrayVec<Passed, 3>;
 
 /// The place of a root.
-pub fn top_of(root: &Root, count: u64) -> Place
+pub fn top_of(root: &Root, count: u64) -> Node
     requires { 1 ≤ root.now.levels }
     ensures { result ≡ root_place root.now count }
 {
-    Place {
+    Node {
         page: root.page,
         expect: root_expect(root, count),
     }
@@ -84,11 +84,11 @@ pub fn top_of(root: &Root, count: u64) -> Place
 /// Goes down to the leaf of a key, and keeps the path.
 fn descend<P: Pages>(
     pages: &mut P,
-    top: Place,
+    top: Node,
     key: u64,
     path: &mut Path,
     work: &mut Work,
-) -> Result<Place, Stop>
+) -> Result<Node, Stop>
     requires ready { P.is_ready pages.old }
     requires top { IsPlace (P.standing pages.old).count top }
     requires few_levels { top.expect.level ≤ 3 }
@@ -124,7 +124,7 @@ fn descend<P: Pages>(
             Spot::Child(_, child, low, high) => {
                 path.push(Passed { place, low });
                 let expect = child_expect(&place.expect, low, high);
-                place = Place {
+                place = Node {
                     page: child,
                     expect,
                 };
@@ -189,7 +189,7 @@ fn settle<P: Pages>(
 /// A put into the tree under a page.
 pub fn put_in<P: Pages>(
     pages: &mut P,
-    top: Place,
+    top: Node,
     key: u64,
     value: &[u8],
     work: &mut Work,
@@ -278,7 +278,7 @@ pub fn put_in<P: Pages>(
 /// A delete in the tree under a page.
 pub fn delete_in<P: Pages>(
     pages: &mut P,
-    top: Place,
+    top: Node,
     key: u64,
     work: &mut Work,
 ) -> Result<Outcome, Stop>

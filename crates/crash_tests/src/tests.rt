@@ -77,13 +77,15 @@ fn read_two<D: Devices>(book: &mut Book, dev: &mut D) -> Result<[Line; 2], Fail>
 /// Begins a transaction, and writes lines 0 and 5 of page 3.
 fn change<D: Devices>(store: &mut Store<'_, D>, words: [u64; 2]) -> Result<(), Fail>
     requires ready { IsReady store.old.book.now (D.standing store.old.dev.now) }
-    requires since { (D.standing store.old.before.value).clock ≤ (D.standing store.old.dev.now).clock }
+    requires since { (D.standing store.old.before.value).clock
+        ≤ (D.standing store.old.dev.now).clock }
     requires closed { store.old.book.now.is_open ≡ false }
     requires low { reach store.old.book.now ≤ 2 ^ 61 + 2 ^ 45 }
     ensures ready { OnOk result (IsReady store.new.book.now (D.standing store.new.dev.now)) }
     ensures is_open { OnOk result (store.new.book.now.is_open ≡ true) }
     ensures rises { OnOk result (reach store.new.book.now ≤ reach store.old.book.now + 1921) }
-    ensures same_references { (store.new.book.ghost_name ≡ store.old.book.ghost_name) × (store.new.dev.ghost_name ≡ store.old.dev.ghost_name) }
+    ensures same_references { (store.new.book.ghost_name ≡ store.old.book.ghost_name)
+        × (store.new.dev.ghost_name ≡ store.old.dev.ghost_name) }
 {
     if store.page_count() <= 3 {
         return Err("no page 3")?;

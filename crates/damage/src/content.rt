@@ -18,7 +18,8 @@ pub(crate) fn put_content(
 )
     requires room { array_vec_len out.old + 135 ≤ 160 }
     requires line { at < length (contents evidence.now page.now) }
-    ensures items { out.new.items ≡ out.old.items ++ slice_index_or (contents evidence.now page.now) at [] }
+    ensures items { out.new.items
+        ≡ out.old.items ++ slice_index_or (contents evidence.now page.now) at [] }
     ensures len { array_vec_len out.new ≤ array_vec_len out.old + 135 }
 {
     if at == 0 {
@@ -81,7 +82,8 @@ fn put_heading(out: &mut ArrayVec<u8, 160>, evidence: &Evidence)
 fn put_dump(out: &mut ArrayVec<u8, 160>, evidence: &Evidence, page: &PageBuf, at: usize)
     requires room { array_vec_len out.old + 135 ≤ 160 }
     requires line { at < length (dump evidence.now page.now) }
-    ensures items { out.new.items ≡ out.old.items ++ slice_index_or (dump evidence.now page.now) at [] }
+    ensures items { out.new.items
+        ≡ out.old.items ++ slice_index_or (dump evidence.now page.now) at [] }
     ensures len { array_vec_len out.new ≤ array_vec_len out.old + 135 }
 {
     match evidence {

@@ -61,7 +61,9 @@ impl MemWorld {
     ) -> Result<MemWorld, NoMemory>
         requires sound { IsSound past }
         requires starts { Starts past.lines past.current.ssd_blocks (image_of past.base) past }
-        ensures fresh { IfOk result (λ made. IsFresh past.lines past.current.ssd_blocks (image_of past.base) settings.now script.now (world made)) }
+        ensures fresh { IfOk result
+            (λ made. IsFresh past.lines past.current.ssd_blocks
+            (image_of past.base) settings.now script.now (world made)) }
         ensures uncalled { IfOk result (λ made. IsUncalled fail.now made) }
     {
         let settings = stream_of(alloc, settings)?;
@@ -94,7 +96,8 @@ impl MemWorld {
         script: &[u8],
         fail: &[Fault],
     ) -> Result<MemWorld, NoMemory>
-        ensures fresh { IfOk result (λ made. IsFresh nvm_lines ssd_blocks zero_image settings.now script.now (world made)) }
+        ensures fresh { IfOk result
+            (λ made. IsFresh nvm_lines ssd_blocks zero_image settings.now script.now (world made)) }
         ensures uncalled { IfOk result (λ made. IsUncalled fail.now made) }
     {
         let past = Past::zeros(alloc, nvm_lines, ssd_blocks)?;
@@ -111,7 +114,9 @@ impl MemWorld {
         fail: &[Fault],
     ) -> Result<MemWorld, NoMemory>
         requires { (b : ℕ) → IsSome (get nat_cmp images.now.ssd b) → b < images.now.ssd_blocks }
-        ensures fresh { IfOk result (λ made. IsFresh (length images.now.nvm.items) images.now.ssd_blocks (image_of images.now) settings.now script.now (world made)) }
+        ensures fresh { IfOk result
+            (λ made. IsFresh (length images.now.nvm.items) images.now.ssd_blocks
+            (image_of images.now) settings.now script.now (world made)) }
         ensures uncalled { IfOk result (λ made. IsUncalled fail.now made) }
     {
         let past = Past::of_images(alloc, images)?;
@@ -143,7 +148,12 @@ impl MemWorld {
         ssd: BlockChoice,
     ) -> Result<Images, NoMemory>
         requires { events ≤ self.now.events }
-        ensures { IfOk result (λ images. IsLeftBy ((world self.now).at (moment_after self.now.past.entries.items events)) (synced_at (image_of self.now.past.base) (take (moment_after self.now.past.entries.items events) self.now.past.entries.items)) (world self.now).lines (world self.now).blocks nvm ssd images) }
+        ensures { IfOk result
+            (λ images. IsLeftBy ((world self.now).at
+            (moment_after self.now.past.entries.items events))
+            (synced_at (image_of self.now.past.base)
+            (take (moment_after self.now.past.entries.items events) self.now.past.entries.items))
+            (world self.now).lines (world self.now).blocks nvm ssd images) }
     {
         let moment = moment_of(&self.past.entries, events);
         self.past.images_at(alloc, moment, nvm, ssd)
@@ -152,7 +162,8 @@ impl MemWorld {
     /// How many bytes were sent after the first `events` events, at most as many as there are.
     pub fn sent_at(&self, events: u64) -> usize
         requires { events ≤ self.now.events }
-        ensures { result ≡ length (sent_at (world self.now) (moment_after self.now.past.entries.items events)) }
+        ensures { result
+            ≡ length (sent_at (world self.now) (moment_after self.now.past.entries.items events)) }
     {
         let moment = moment_of(&self.past.entries, events);
         self.past.sent_by(moment)

@@ -33,7 +33,8 @@ fn put_block(
     into: &mut BTreeMap<u64, PageBuf>,
 ) -> Result<(), NoMemory>
     requires { block < blocks_of ssd.now }
-    ensures { OnOk result (Updates nat_cmp into.old into.new block (Some (left_of ssd.now choice block))) }
+    ensures { OnOk result
+        (Updates nat_cmp into.old into.new block (Some (left_of ssd.now choice block))) }
 {
     let mut page = PageBuf::zero();
     ssd.image_block(block, choice, &mut page);
@@ -52,7 +53,8 @@ fn put_first(
 ) -> Result<(), NoMemory>
     requires { (b : ℕ) → IsSome (get nat_cmp base.now b) → b < blocks_of ssd.now }
     ensures puts { OnOk result (PutsLeft ssd.now choice into.old into.new) }
-    ensures all { OnOk result ((b : ℕ) → IsSome (get nat_cmp base.now b) → IsSome (get nat_cmp into.new b)) }
+    ensures all { OnOk result
+        ((b : ℕ) → IsSome (get nat_cmp base.now b) → IsSome (get nat_cmp into.new b)) }
 {
     for (block, _) in base {
         put_block(ssd, choice, *block, into)?;
@@ -69,7 +71,8 @@ fn put_step(
 ) -> Result<(), NoMemory>
     requires { fits (blocks_of ssd.now) step.now ≡ true }
     ensures puts { OnOk result (PutsLeft ssd.now choice into.old into.new) }
-    ensures all { OnOk result ((b : ℕ) → (spares b step.now ≡ true) ⊎ IsSome (get nat_cmp into.new b)) }
+    ensures all { OnOk result
+        ((b : ℕ) → (spares b step.now ≡ true) ⊎ IsSome (get nat_cmp into.new b)) }
 {
     match step {
         Step::WriteBlock { block, page: _ } => put_block(ssd, choice, *block, into),
@@ -86,7 +89,8 @@ fn put_written(
 ) -> Result<(), NoMemory>
     requires { all_fit (blocks_of ssd.now) entries.now ≡ true }
     ensures puts { OnOk result (PutsLeft ssd.now choice into.old into.new) }
-    ensures all { OnOk result ((b : ℕ) → (all_spare b entries.now ≡ true) ⊎ IsSome (get nat_cmp into.new b)) }
+    ensures all { OnOk result
+        ((b : ℕ) → (all_spare b entries.now ≡ true) ⊎ IsSome (get nat_cmp into.new b)) }
 {
     for entry in entries {
         put_step(&entry.step, ssd, choice, into)?;
@@ -133,8 +137,12 @@ impl Past {
     fn states_at(&self, alloc: Global, moment: usize) -> Result<States, NoMemory>
         requires sound { IsSound self.now }
         requires moment { moment ≤ length self.now.entries.items }
-        ensures state { IfOk result (λ made. state_of made.nvm made.ssd ≡ replay (image_of self.now.base) (take moment self.now.entries.items)) }
-        ensures synced { IfOk result (λ made. synced_of made.ssd ≡ synced_at (image_of self.now.base) (take moment self.now.entries.items)) }
+        ensures state { IfOk result
+            (λ made. state_of made.nvm made.ssd
+            ≡ replay (image_of self.now.base) (take moment self.now.entries.items)) }
+        ensures synced { IfOk result
+            (λ made. synced_of made.ssd
+            ≡ synced_at (image_of self.now.base) (take moment self.now.entries.items)) }
         ensures lines { IfOk result (λ made. lines_of made.nvm ≡ self.now.lines) }
         ensures disk_size { IfOk result (λ made. blocks_of made.ssd ≡ self.now.current.ssd_blocks) }
     {
@@ -153,7 +161,11 @@ impl Past {
     ) -> Result<Images, NoMemory>
         requires sound { IsSound self.now }
         requires moment { moment ≤ length self.now.entries.items }
-        ensures { IfOk result (λ images. IsLeftBy (replay (image_of self.now.base) (take moment self.now.entries.items)) (synced_at (image_of self.now.base) (take moment self.now.entries.items)) self.now.lines self.now.current.ssd_blocks nvm ssd images) }
+        ensures { IfOk result
+            (λ images. IsLeftBy (replay (image_of self.now.base)
+            (take moment self.now.entries.items))
+            (synced_at (image_of self.now.base) (take moment self.now.entries.items)) self.now.lines
+            self.now.current.ssd_blocks nvm ssd images) }
     {
         let made = self.states_at(alloc, moment)?;
         let entries = &self.entries[..moment];

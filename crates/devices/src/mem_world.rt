@@ -52,7 +52,8 @@ impl Devices for MemWorld {
         requires { line < (world self.old).lines }
         ensures goes { Goes (world self.old) (world self.new) }
         ensures stays { Stays (world self.old) (world self.new) }
-        ensures value { IsTrue (world self.old).told → IfOk result (λ found. found ≡ line_at (now (world self.old)) line) }
+        ensures value { IsTrue (world self.old).told
+            → IfOk result (λ found. found ≡ line_at (now (world self.old)) line) }
         ensures cause { NvmCause (world self.old) (world self.new) result }
         ensures exactly { FailsOnlyAt Nvm self.old self.new result }
         ensures calls { Calls true false false false false self.old self.new }
@@ -66,7 +67,8 @@ impl Devices for MemWorld {
         requires line { line < (world self.old).lines }
         requires word { word < 8 }
         ensures goes { Goes (world self.old) (world self.new) }
-        ensures makes { Makes (store_word line word value) (world self.old) (world self.new) result }
+        ensures makes { Makes (store_word line word value) (world self.old)
+            (world self.new) result }
         ensures cause { NvmCause (world self.old) (world self.new) result }
         ensures exactly { FailsExactly Nvm self.old self.new result }
         ensures undone { OnErr result (Same self.old.past self.new.past) }
@@ -135,7 +137,8 @@ impl Devices for MemWorld {
         requires { block < (world self.old).blocks }
         ensures goes { Goes (world self.old) (world self.new) }
         ensures stays { Stays (world self.old) (world self.new) }
-        ensures value { IsTrue (world self.old).told → OnOk result (into.new ≡ ((now (world self.old)).ssd block).bytes) }
+        ensures value { IsTrue (world self.old).told
+            → OnOk result (into.new ≡ ((now (world self.old)).ssd block).bytes) }
         ensures cause { SsdCause (world self.old) (world self.new) result }
         ensures counts { Counts (world self.old) (world self.new) }
         ensures exactly { FailsOnlyAt Ssd self.old self.new result }
@@ -152,7 +155,8 @@ impl Devices for MemWorld {
     fn write_block(&mut self, block: u64, from: &PageBuf) -> Result<(), Failed>
         requires { block < (world self.old).blocks }
         ensures goes { Goes (world self.old) (world self.new) }
-        ensures makes { Makes (write_block block from.now) (world self.old) (world self.new) result }
+        ensures makes { Makes (write_block block from.now) (world self.old)
+            (world self.new) result }
         ensures cause { SsdCause (world self.old) (world self.new) result }
         ensures reads { (world self.new).block_reads ≡ (world self.old).block_reads }
         ensures exactly { FailsExactly Ssd self.old self.new result }
@@ -200,8 +204,10 @@ impl World for MemWorld {
         requires { 0 < length into.old }
         ensures call { WorldCall (world self.old) (world self.new) }
         ensures bound { IfOk result (λ count. count ≤ length into.new) }
-        ensures cause { OwnCause (world self.old).outside.settings_faults (world self.new).outside.settings_faults result }
-        ensures reads { ReadsNext (world self.old).told (world self.old).outside.settings (world self.new).outside.settings result into.new }
+        ensures cause { OwnCause (world self.old).outside.settings_faults
+            (world self.new).outside.settings_faults result }
+        ensures reads { ReadsNext (world self.old).told (world self.old).outside.settings
+            (world self.new).outside.settings result into.new }
         ensures rest { OnlyChanges true false false (world self.old) (world self.new) }
         ensures exactly { FailsOnlyAt Settings self.old self.new result }
         ensures undone { OnErr result (ReadsNothing self.old self.new into.old into.new) }
@@ -221,8 +227,10 @@ impl World for MemWorld {
         requires { 0 < length into.old }
         ensures call { WorldCall (world self.old) (world self.new) }
         ensures bound { IfOk result (λ count. count ≤ length into.new) }
-        ensures cause { OwnCause (world self.old).outside.source_faults (world self.new).outside.source_faults result }
-        ensures reads { ReadsNext (world self.old).told (world self.old).outside.input (world self.new).outside.input result into.new }
+        ensures cause { OwnCause (world self.old).outside.source_faults
+            (world self.new).outside.source_faults result }
+        ensures reads { ReadsNext (world self.old).told (world self.old).outside.input
+            (world self.new).outside.input result into.new }
         ensures rest { OnlyChanges false true false (world self.old) (world self.new) }
         ensures exactly { FailsOnlyAt Source self.old self.new result }
         ensures undone { OnErr result (ReadsNothing self.old self.new into.old into.new) }
@@ -242,7 +250,8 @@ impl World for MemWorld {
         requires { 0 < length bytes.now }
         ensures call { WorldCall (world self.old) (world self.new) }
         ensures bound { IfOk result (λ count. (1 ≤ count) × (count ≤ length bytes.now)) }
-        ensures cause { OwnCause (world self.old).outside.sink_faults (world self.new).outside.sink_faults result }
+        ensures cause { OwnCause (world self.old).outside.sink_faults
+            (world self.new).outside.sink_faults result }
         ensures sends { Sends (world self.old) (world self.new) bytes.now result }
         ensures rest { OnlyChanges false false true (world self.old) (world self.new) }
         ensures exactly { FailsExactly Sink self.old self.new result }

@@ -31,7 +31,8 @@ pub(crate) struct Past {
 
 /// Keeps one call more.
 fn note(entries: &mut Vec<Entry>, event: u64, step: Step) -> Result<(), NoMemory>
-    ensures ok { OnOk result (entries.new.items ≡ entries.old.items ++ record { event = event; step = step } ∷ []) }
+    ensures ok { OnOk result
+        (entries.new.items ≡ entries.old.items ++ record { event = event; step = step } ∷ []) }
     ensures err { OnErr result (entries.new.items ≡ entries.old.items) }
 {
     if entries.push(Entry { event, step }).is_err() {
@@ -44,7 +45,8 @@ fn note(entries: &mut Vec<Entry>, event: u64, step: Step) -> Result<(), NoMemory
 fn set_word(line: &mut Line, word: usize, value: u64)
     requires { word < 8 }
     ensures this { slice_index line.new.words word ≡ value }
-    ensures others { (w : ℕ) → w ≢ word → slice_index line.new.words w ≡ slice_index line.old.words w }
+    ensures others { (w : ℕ) → w ≢ word
+        → slice_index line.new.words w ≡ slice_index line.old.words w }
 {
     line.words[word] = value;
 }
@@ -109,7 +111,9 @@ impl Past {
     pub(crate) fn of_images(alloc: Global, images: &Images) -> Result<Past, NoMemory>
         requires { (b : ℕ) → IsSome (get nat_cmp images.now.ssd b) → b < images.now.ssd_blocks }
         ensures sound { IfOk result (λ made. IsSound made) }
-        ensures starts { IfOk result (λ made. Starts (length images.now.nvm.items) images.now.ssd_blocks (image_of images.now) made) }
+        ensures starts { IfOk result
+            (λ made. Starts (length images.now.nvm.items) images.now.ssd_blocks
+            (image_of images.now) made) }
     {
         let base = copy_images(alloc, images)?;
         let current = copy_images(alloc, images)?;
@@ -265,7 +269,8 @@ impl Past {
     /// How many bytes were sent by a moment.
     pub(crate) fn sent_by(&self, moment: usize) -> usize
         requires { IsSound self.now }
-        ensures { result ≡ length (sent_by (changes_of self.now.sendings.items self.now.sent.items) moment) }
+        ensures { result
+            ≡ length (sent_by (changes_of self.now.sendings.items self.now.sent.items) moment) }
     {
         let mut sent_end = 0;
         for sending in &self.sendings {

@@ -18,8 +18,10 @@ use std::collections::BTreeMap;
 /// Makes one call again.
 fn make_again(step: &Step, nvm: &mut NvmState, ssd: &mut SsdState) -> Result<(), NoMemory>
     requires { is_within (lines_of nvm.old) (blocks_of ssd.old) step.now ≡ true }
-    ensures made { OnOk result (state_of nvm.new ssd.new ≡ made step.now (state_of nvm.old ssd.old)) }
-    ensures synced { OnOk result (synced_of ssd.new ≡ synced_by step.now (state_of nvm.old ssd.old) (synced_of ssd.old)) }
+    ensures made { OnOk result
+        (state_of nvm.new ssd.new ≡ made step.now (state_of nvm.old ssd.old)) }
+    ensures synced { OnOk result
+        (synced_of ssd.new ≡ synced_by step.now (state_of nvm.old ssd.old) (synced_of ssd.old)) }
     ensures lines { lines_of nvm.new ≡ lines_of nvm.old }
     ensures blocks { blocks_of ssd.new ≡ blocks_of ssd.old }
 {
@@ -42,8 +44,11 @@ pub(crate) fn make_all(
     ssd: &mut SsdState,
 ) -> Result<(), NoMemory>
     requires { are_within (lines_of nvm.old) (blocks_of ssd.old) entries.now ≡ true }
-    ensures made { OnOk result (state_of nvm.new ssd.new ≡ replay_from (state_of nvm.old ssd.old) entries.now) }
-    ensures synced { OnOk result (synced_of ssd.new ≡ synced_from (state_of nvm.old ssd.old) (synced_of ssd.old) entries.now) }
+    ensures made { OnOk result
+        (state_of nvm.new ssd.new ≡ replay_from (state_of nvm.old ssd.old) entries.now) }
+    ensures synced { OnOk result
+        (synced_of ssd.new ≡ synced_from (state_of nvm.old ssd.old)
+        (synced_of ssd.old) entries.now) }
     ensures lines { lines_of nvm.new ≡ lines_of nvm.old }
     ensures blocks { blocks_of ssd.new ≡ blocks_of ssd.old }
 {
@@ -56,7 +61,8 @@ pub(crate) fn make_all(
 /// Puts a line into an NVM of zeros, to be fenced.
 fn place_line(nvm: &mut NvmState, line: u64, value: &Line) -> Result<(), NoMemory>
     requires { line < lines_of nvm.old }
-    ensures placed { OnOk result (memory_of nvm.new ≡ with_marks line (with_line line value.now (memory_of nvm.old))) }
+    ensures placed { OnOk result
+        (memory_of nvm.new ≡ with_marks line (with_line line value.now (memory_of nvm.old))) }
     ensures size { lines_of nvm.new ≡ lines_of nvm.old }
 {
     nvm.store_line(line, value)?;

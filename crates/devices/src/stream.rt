@@ -17,7 +17,8 @@ impl Stream {
     pub(crate) fn take_next(&mut self, into: &mut [u8]) -> usize
         requires { 0 < length into.old }
         ensures bound { result ≤ length into.new }
-        ensures takes { TakesNext (drop self.old.taken self.old.bytes.items) (drop self.new.taken self.new.bytes.items) result into.new }
+        ensures takes { TakesNext (drop self.old.taken self.old.bytes.items)
+            (drop self.new.taken self.new.bytes.items) result into.new }
     {
         let count = min(into.len(), self.bytes.len() - self.taken);
         into[..count].copy_from_slice(&self.bytes[self.taken..self.taken + count]);

@@ -33,7 +33,8 @@ pub trait Devices {
         requires { line < (standing self.old).lines }
         ensures goes { Goes (standing self.old) (standing self.new) }
         ensures stays { Stays (standing self.old) (standing self.new) }
-        ensures value { IsTrue (standing self.old).told → IfOk result (λ found. found ≡ line_at (now (standing self.old)) line) }
+        ensures value { IsTrue (standing self.old).told
+            → IfOk result (λ found. found ≡ line_at (now (standing self.old)) line) }
         ensures cause { NvmCause (standing self.old) (standing self.new) result };
 
     /// Appends a version to one word. A call that fails may have done so.
@@ -41,14 +42,16 @@ pub trait Devices {
         requires line { line < (standing self.old).lines }
         requires word { word < 8 }
         ensures goes { Goes (standing self.old) (standing self.new) }
-        ensures makes { Makes (store_word line word value) (standing self.old) (standing self.new) result }
+        ensures makes { Makes (store_word line word value) (standing self.old)
+            (standing self.new) result }
         ensures cause { NvmCause (standing self.old) (standing self.new) result };
 
     /// Appends a version to each of the eight words of a line, in any order. A call that fails may have done so to any.
     fn store_line(&mut self, line: u64, value: &Line) -> Result<(), Failed>
         requires { line < (standing self.old).lines }
         ensures goes { Goes (standing self.old) (standing self.new) }
-        ensures makes { Makes (store_line line value.now) (standing self.old) (standing self.new) result }
+        ensures makes { Makes (store_line line value.now) (standing self.old)
+            (standing self.new) result }
         ensures cause { NvmCause (standing self.old) (standing self.new) result };
 
     /// Marks the last version of each word of a line. A call that fails may have marked any.
@@ -70,7 +73,8 @@ pub trait Devices {
         requires { block < (standing self.old).blocks }
         ensures goes { Goes (standing self.old) (standing self.new) }
         ensures stays { Stays (standing self.old) (standing self.new) }
-        ensures value { IsTrue (standing self.old).told → OnOk result (into.new ≡ ((now (standing self.old)).ssd block).bytes) }
+        ensures value { IsTrue (standing self.old).told
+            → OnOk result (into.new ≡ ((now (standing self.old)).ssd block).bytes) }
         ensures cause { SsdCause (standing self.old) (standing self.new) result }
         ensures counts { Counts (standing self.old) (standing self.new) };
 
@@ -78,7 +82,8 @@ pub trait Devices {
     fn write_block(&mut self, block: u64, from: &PageBuf) -> Result<(), Failed>
         requires { block < (standing self.old).blocks }
         ensures goes { Goes (standing self.old) (standing self.new) }
-        ensures makes { Makes (write_block block from.now) (standing self.old) (standing self.new) result }
+        ensures makes { Makes (write_block block from.now) (standing self.old)
+            (standing self.new) result }
         ensures cause { SsdCause (standing self.old) (standing self.new) result }
         ensures reads { (standing self.new).block_reads ≡ (standing self.old).block_reads };
 
@@ -99,27 +104,37 @@ pub trait World: Devices {
         requires { 0 < length into.old }
         ensures call { WorldCall (Self.standing self.old) (Self.standing self.new) }
         ensures bound { IfOk result (λ count. count ≤ length into.new) }
-        ensures cause { OwnCause (Self.standing self.old).outside.settings_faults (Self.standing self.new).outside.settings_faults result }
-        ensures reads { ReadsNext (Self.standing self.old).told (Self.standing self.old).outside.settings (Self.standing self.new).outside.settings result into.new }
-        ensures rest { OnlyChanges true false false (Self.standing self.old) (Self.standing self.new) };
+        ensures cause { OwnCause (Self.standing self.old).outside.settings_faults
+            (Self.standing self.new).outside.settings_faults result }
+        ensures reads { ReadsNext (Self.standing self.old).told
+            (Self.standing self.old).outside.settings
+            (Self.standing self.new).outside.settings result into.new }
+        ensures rest { OnlyChanges true false false (Self.standing self.old)
+            (Self.standing self.new) };
 
     /// The next bytes of the script, at most as many as `into` takes; 0 is the end.
     fn read(&mut self, into: &mut [u8]) -> Result<usize, Failed>
         requires { 0 < length into.old }
         ensures call { WorldCall (Self.standing self.old) (Self.standing self.new) }
         ensures bound { IfOk result (λ count. count ≤ length into.new) }
-        ensures cause { OwnCause (Self.standing self.old).outside.source_faults (Self.standing self.new).outside.source_faults result }
-        ensures reads { ReadsNext (Self.standing self.old).told (Self.standing self.old).outside.input (Self.standing self.new).outside.input result into.new }
-        ensures rest { OnlyChanges false true false (Self.standing self.old) (Self.standing self.new) };
+        ensures cause { OwnCause (Self.standing self.old).outside.source_faults
+            (Self.standing self.new).outside.source_faults result }
+        ensures reads { ReadsNext (Self.standing self.old).told
+            (Self.standing self.old).outside.input
+            (Self.standing self.new).outside.input result into.new }
+        ensures rest { OnlyChanges false true false (Self.standing self.old)
+            (Self.standing self.new) };
 
     /// Sends at least one of the bytes and at most all, and answers how many. `Failed` sends nothing.
     fn write(&mut self, bytes: &[u8]) -> Result<usize, Failed>
         requires { 0 < length bytes.now }
         ensures call { WorldCall (Self.standing self.old) (Self.standing self.new) }
         ensures bound { IfOk result (λ count. (1 ≤ count) × (count ≤ length bytes.now)) }
-        ensures cause { OwnCause (Self.standing self.old).outside.sink_faults (Self.standing self.new).outside.sink_faults result }
+        ensures cause { OwnCause (Self.standing self.old).outside.sink_faults
+            (Self.standing self.new).outside.sink_faults result }
         ensures sends { Sends (Self.standing self.old) (Self.standing self.new) bytes.now result }
-        ensures rest { OnlyChanges false false true (Self.standing self.old) (Self.standing self.new) };
+        ensures rest { OnlyChanges false false true (Self.standing self.old)
+            (Self.standing self.new) };
 
     // nothing was sent after the clock
     ghost timed: { (world : Self) → IsTimed (Self.standing world) };

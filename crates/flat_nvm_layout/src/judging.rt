@@ -26,7 +26,8 @@ ghost use Rattle.flat_nvm_layout.specs.Opening.{IsAnswer, finding, gates_finding
 
 /// What these words are, on devices of these sizes.
 pub(crate) fn judged(found: &Found, lines: u64, blocks: u64) -> Result<Super, SuperError>
-    ensures { IsAnswer found.now.name found.now.words (finding lines blocks (super_from found.now.name found.now.words)) result }
+    ensures { IsAnswer found.now.name found.now.words
+        (finding lines blocks (super_from found.now.name found.now.words)) result }
 {
     if found.name != MAGIC {
         return Err(SuperError::NotAStore);
@@ -42,7 +43,8 @@ fn fitted(geometry: Geometry, found: &Found, lines: u64, blocks: u64) -> Result<
     requires name { found.now.name ≡ MAGIC }
     requires sizes { sizes_of geometry ≡ (super_from found.now.name found.now.words).sizes }
     requires allowed { is_allowed (sizes_of geometry) ≡ true }
-    ensures { IsAnswer found.now.name found.now.words (finding lines blocks (super_from found.now.name found.now.words)) result }
+    ensures { IsAnswer found.now.name found.now.words
+        (finding lines blocks (super_from found.now.name found.now.words)) result }
 {
     if lines < geometry.nvm_lines() || blocks < geometry.ssd_blocks() {
         return Err(SuperError::TooSmall);
@@ -54,7 +56,8 @@ fn fitted(geometry: Geometry, found: &Found, lines: u64, blocks: u64) -> Result<
 fn gated(geometry: Geometry, found: &Found) -> Result<Super, SuperError>
     requires name { found.now.name ≡ MAGIC }
     requires sizes { sizes_of geometry ≡ (super_from found.now.name found.now.words).sizes }
-    ensures { IsAnswer found.now.name found.now.words (gates_finding (super_from found.now.name found.now.words)) result }
+    ensures { IsAnswer found.now.name found.now.words
+        (gates_finding (super_from found.now.name found.now.words)) result }
 {
     let start = found.words[5];
     let tail = found.words[7];
@@ -77,7 +80,8 @@ fn gated(geometry: Geometry, found: &Found) -> Result<Super, SuperError>
 
 /// The geometry of the first five words, where it is allowed.
 fn geometry_of(words: &[u64; 8]) -> Option<Geometry>
-    ensures some { IfSome result (λ g. (sizes_of g ≡ sizes_from words.now) × (is_allowed (sizes_of g) ≡ true)) }
+    ensures some { IfSome result
+        (λ g. (sizes_of g ≡ sizes_from words.now) × (is_allowed (sizes_of g) ≡ true)) }
     ensures none { result ≡ None → is_allowed (sizes_from words.now) ≡ false }
 {
     if !in_ranges(words) {
@@ -115,7 +119,9 @@ fn is_between(low: u64, high: u64, number: u64) -> bool
 
 /// Whether each page has its frame, and the ring takes the longest transaction.
 fn fits(geometry: &Geometry) -> bool
-    ensures { result ≡ (nat_le (pages (sizes_of geometry.now)) geometry.now.frames && nat_le (1920 * geometry.now.writes + 1) (64 * geometry.now.log_blocks)) }
+    ensures { result
+        ≡ (nat_le (pages (sizes_of geometry.now)) geometry.now.frames && nat_le
+        (1920 * geometry.now.writes + 1) (64 * geometry.now.log_blocks)) }
 {
     geometry.pages() <= geometry.frames as u64
         && 1920 * geometry.writes as u64 + 1 <= 64 * geometry.log_blocks as u64

@@ -29,11 +29,14 @@ ghost use Rattle.flat_nvm_layout.specs.Opening.{Answers, IsOpen, SuperCause, wor
 /// sizes of the devices, the end of the offsets, the gates. The first that fails is answered (`SuperError`).
 pub fn read_super<D: Devices>(dev: &mut D) -> Result<Super, SuperError>
     // What is found.
-    ensures answers { 4 ≤ (D.standing dev.old).lines → result ≢ Err SuperError.Nvm → Answers (D.standing dev.old) result }
+    ensures answers { 4 ≤ (D.standing dev.old).lines → result ≢ Err SuperError.Nvm
+        → Answers (D.standing dev.old) result }
 
     // What a superblock is that is opened.
-    ensures opened { IsTrue (D.standing dev.old).told → IfOk result (λ gates. super_of (current (now (D.standing dev.old))) ≡ gates_of gates) }
-    ensures sound { IfOk result (λ gates. IsOpen (D.standing dev.old).lines (D.standing dev.old).blocks gates) }
+    ensures opened { IsTrue (D.standing dev.old).told
+        → IfOk result (λ gates. super_of (current (now (D.standing dev.old))) ≡ gates_of gates) }
+    ensures sound { IfOk result
+        (λ gates. IsOpen (D.standing dev.old).lines (D.standing dev.old).blocks gates) }
 
     // Why it fails.
     ensures small { (D.standing dev.old).lines < 4 → result ≡ Err SuperError.TooSmall }
@@ -60,8 +63,10 @@ fn load_found<D: Devices>(dev: &mut D) -> Result<Found, Failed>
     ensures goes { Goes (D.standing dev.old) (D.standing dev.new) }
     ensures stays { Stays (D.standing dev.old) (D.standing dev.new) }
     ensures cause { NvmCause (D.standing dev.old) (D.standing dev.new) result }
-    ensures name { IsTrue (D.standing dev.old).told → IfOk result (λ found. found.name ≡ (current (now (D.standing dev.old))).nvm 0 0) }
-    ensures words { IsTrue (D.standing dev.old).told → IfOk result (λ found. found.words ≡ words_of (current (now (D.standing dev.old)))) }
+    ensures name { IsTrue (D.standing dev.old).told
+        → IfOk result (λ found. found.name ≡ (current (now (D.standing dev.old))).nvm 0 0) }
+    ensures words { IsTrue (D.standing dev.old).told
+        → IfOk result (λ found. found.words ≡ words_of (current (now (D.standing dev.old)))) }
 {
     let head = dev.load(0)?;
     let gates = load_gates(dev)?;
@@ -81,9 +86,12 @@ fn load_gates<D: Devices>(dev: &mut D) -> Result<(u64, u64, u64), Failed>
     ensures goes { Goes (D.standing dev.old) (D.standing dev.new) }
     ensures stays { Stays (D.standing dev.old) (D.standing dev.new) }
     ensures cause { NvmCause (D.standing dev.old) (D.standing dev.new) result }
-    ensures start { IsTrue (D.standing dev.old).told → IfOk result (λ gates. gates.0 ≡ (current (now (D.standing dev.old))).nvm 1 0) }
-    ensures drained { IsTrue (D.standing dev.old).told → IfOk result (λ gates. gates.1 ≡ (current (now (D.standing dev.old))).nvm 2 0) }
-    ensures tail { IsTrue (D.standing dev.old).told → IfOk result (λ gates. gates.2 ≡ (current (now (D.standing dev.old))).nvm 3 0) }
+    ensures start { IsTrue (D.standing dev.old).told
+        → IfOk result (λ gates. gates.0 ≡ (current (now (D.standing dev.old))).nvm 1 0) }
+    ensures drained { IsTrue (D.standing dev.old).told
+        → IfOk result (λ gates. gates.1 ≡ (current (now (D.standing dev.old))).nvm 2 0) }
+    ensures tail { IsTrue (D.standing dev.old).told
+        → IfOk result (λ gates. gates.2 ≡ (current (now (D.standing dev.old))).nvm 3 0) }
 {
     let start = dev.load(1)?;
     let drained = dev.load(2)?;

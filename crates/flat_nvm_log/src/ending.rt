@@ -18,7 +18,9 @@ pub(crate) fn end_at<D: Devices>(
     requires place { place < (D.standing dev.old).lines }
     ensures goes { Goes (D.standing dev.old) (D.standing dev.new) }
     ensures cause { NvmCause (D.standing dev.old) (D.standing dev.new) result }
-    ensures makes { MakesAll (store_line place head.now ∷ flush place ∷ fence ∷ store_word 3 0 tail ∷ flush 3 ∷ fence ∷ []) (D.standing dev.old) (D.standing dev.new) result }
+    ensures makes { MakesAll
+        (store_line place head.now ∷ flush place ∷ fence ∷ store_word 3 0 tail ∷ flush 3 ∷ fence
+        ∷ []) (D.standing dev.old) (D.standing dev.new) result }
 {
     put_line(dev, place, head)?;
     dev.fence()?;

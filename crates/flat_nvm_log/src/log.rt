@@ -86,15 +86,19 @@ impl Log {
 
         // What it does to the log, in memory, on the device, and in every image.
         ensures moved { IsMoved self.old self.new 3 result }
-        ensures makes { MakesAll (append_calls (sizes_of self.old.geometry) self.old.tail (record_lines change.now)) (D.standing dev.old) (D.standing dev.new) result }
-        ensures puts { PutsEntry self.old self.new 3 (record_entry change.now) (D.standing dev.old) (D.standing dev.new) result }
+        ensures makes { MakesAll
+            (append_calls (sizes_of self.old.geometry) self.old.tail (record_lines change.now))
+            (D.standing dev.old) (D.standing dev.new) result }
+        ensures puts { PutsEntry self.old self.new 3 (record_entry change.now) (D.standing dev.old)
+            (D.standing dev.new) result }
 
         // Why it fails.
         ensures cause { NvmCause (D.standing dev.old) (D.standing dev.new) result }
 
         // What stays, however far it gets.
         ensures goes { Goes (D.standing dev.old) (D.standing dev.new) }
-        ensures keeps { RecordKeeps self.old change.now (D.standing dev.old) (D.standing dev.new) result }
+        ensures keeps { RecordKeeps self.old change.now (D.standing dev.old)
+            (D.standing dev.new) result }
     {
         let tail = self.tail;
         let places = (
@@ -119,8 +123,11 @@ impl Log {
 
         // What it does to the log, in memory, on the device, and in every image.
         ensures moved { IsMoved self.old self.new 1 result }
-        ensures makes { MakesAll (append_calls (sizes_of self.old.geometry) self.old.tail (end_lines kind)) (D.standing dev.old) (D.standing dev.new) result }
-        ensures puts { PutsEntry self.old self.new 1 (end_entry kind) (D.standing dev.old) (D.standing dev.new) result }
+        ensures makes { MakesAll
+            (append_calls (sizes_of self.old.geometry) self.old.tail (end_lines kind))
+            (D.standing dev.old) (D.standing dev.new) result }
+        ensures puts { PutsEntry self.old self.new 1 (end_entry kind) (D.standing dev.old)
+            (D.standing dev.new) result }
 
         // Why it fails.
         ensures cause { NvmCause (D.standing dev.old) (D.standing dev.new) result }
@@ -144,8 +151,10 @@ impl Log {
 
         // What it does to the log, in memory, on the device, and in every image.
         ensures emptied { IsEmptied self.old self.new result }
-        ensures makes { MakesAll (start_calls self.old.tail) (D.standing dev.old) (D.standing dev.new) result }
-        ensures empties { EmptiesLog self.old self.new (D.standing dev.old) (D.standing dev.new) result }
+        ensures makes { MakesAll (start_calls self.old.tail) (D.standing dev.old)
+            (D.standing dev.new) result }
+        ensures empties { EmptiesLog self.old self.new (D.standing dev.old)
+            (D.standing dev.new) result }
 
         // Why it fails.
         ensures cause { NvmCause (D.standing dev.old) (D.standing dev.new) result }
@@ -164,7 +173,10 @@ impl Log {
         requires above { self.now.start ≤ offset }
         requires below { offset < self.now.tail }
         requires fits { nvm_lines (sizes_of self.now.geometry) ≤ (D.standing dev.old).lines }
-        ensures value { IsTrue (D.standing dev.old).told → IfOk result (λ found. found ≡ log_line (sizes_of self.now.geometry) self.now.start (current (now (D.standing dev.old))) offset) }
+        ensures value { IsTrue (D.standing dev.old).told
+            → IfOk result
+            (λ found. found ≡ log_line (sizes_of self.now.geometry) self.now.start
+            (current (now (D.standing dev.old))) offset) }
         ensures cause { NvmCause (D.standing dev.old) (D.standing dev.new) result }
         ensures goes { Goes (D.standing dev.old) (D.standing dev.new) }
         ensures stays { Stays (D.standing dev.old) (D.standing dev.new) }

@@ -12,7 +12,8 @@ use nvm_model::Line;
 pub fn put_line<D: Devices>(dev: &mut D, line: u64, value: &Line) -> Result<(), Failed>
     requires { line < (D.standing dev.old).lines }
     ensures goes { Goes (D.standing dev.old) (D.standing dev.new) }
-    ensures makes { MakesAll (line_put line value.now) (D.standing dev.old) (D.standing dev.new) result }
+    ensures makes { MakesAll (line_put line value.now) (D.standing dev.old)
+        (D.standing dev.new) result }
     ensures cause { NvmCause (D.standing dev.old) (D.standing dev.new) result }
 {
     dev.store_line(line, value)?;
@@ -24,7 +25,8 @@ pub fn put_line<D: Devices>(dev: &mut D, line: u64, value: &Line) -> Result<(), 
 pub fn put_gate<D: Devices>(dev: &mut D, line: u64, value: u64) -> Result<(), Failed>
     requires { line < (D.standing dev.old).lines }
     ensures goes { Goes (D.standing dev.old) (D.standing dev.new) }
-    ensures makes { MakesAll (gate_put line value) (D.standing dev.old) (D.standing dev.new) result }
+    ensures makes { MakesAll (gate_put line value) (D.standing dev.old)
+        (D.standing dev.new) result }
     ensures cause { NvmCause (D.standing dev.old) (D.standing dev.new) result }
 {
     dev.store_word(line, 0, value)?;
@@ -44,8 +46,10 @@ pub(crate) fn put_three<D: Devices>(
     requires second { places.1 < (D.standing dev.old).lines }
     requires third { places.2 < (D.standing dev.old).lines }
     ensures goes { Goes (D.standing dev.old) (D.standing dev.new) }
-    ensures makes { MakesAll (store_line places.0 head.now ∷ flush places.0 ∷ store_line places.1 before.now ∷ flush places.1
-        ∷ store_line places.2 after.now ∷ flush places.2 ∷ fence ∷ []) (D.standing dev.old) (D.standing dev.new) result }
+    ensures makes { MakesAll
+        (store_line places.0 head.now ∷ flush places.0 ∷ store_line places.1 before.now
+        ∷ flush places.1 ∷ store_line places.2 after.now ∷ flush places.2 ∷ fence ∷ [])
+        (D.standing dev.old) (D.standing dev.new) result }
     ensures cause { NvmCause (D.standing dev.old) (D.standing dev.new) result }
 {
     put_line(dev, places.0, head)?;
@@ -68,9 +72,11 @@ pub(crate) fn append_at<D: Devices>(
     requires second { places.1 < (D.standing dev.old).lines }
     requires third { places.2 < (D.standing dev.old).lines }
     ensures goes { Goes (D.standing dev.old) (D.standing dev.new) }
-    ensures makes { MakesAll (store_line places.0 head.now ∷ flush places.0 ∷ store_line places.1 before.now ∷ flush places.1
-        ∷ store_line places.2 after.now ∷ flush places.2 ∷ fence ∷ store_word 3 0 tail ∷ flush 3 ∷ fence ∷ [])
-        (D.standing dev.old) (D.standing dev.new) result }
+    ensures makes { MakesAll
+        (store_line places.0 head.now ∷ flush places.0 ∷ store_line places.1 before.now
+        ∷ flush places.1 ∷ store_line places.2 after.now ∷ flush places.2 ∷ fence
+        ∷ store_word 3 0 tail ∷ flush 3 ∷ fence ∷ []) (D.standing dev.old)
+        (D.standing dev.new) result }
     ensures cause { NvmCause (D.standing dev.old) (D.standing dev.new) result }
 {
     put_three(dev, places, head, before, after)?;

@@ -20,11 +20,13 @@ use nvm_model::Line;
 pub fn format<D: Devices>(dev: &mut D, geometry: &Geometry) -> Result<(), FormatError>
     // What stays, whatever is answered, and why it fails.
     ensures goes { Goes (D.standing dev.old) (D.standing dev.new) }
-    ensures small { (result ≡ Err FormatError.TooSmall) ↔ IsTooSmall (sizes_of geometry.now) (D.standing dev.old) }
+    ensures small { (result ≡ Err FormatError.TooSmall) ↔ IsTooSmall (sizes_of geometry.now)
+        (D.standing dev.old) }
     ensures cause { FormatCause (D.standing dev.old) (D.standing dev.new) result }
 
     // The store at each moment, and at the end.
-    ensures formats { MakesEmpty (sizes_of geometry.now) 0 (D.standing dev.old) (D.standing dev.new) result }
+    ensures formats { MakesEmpty (sizes_of geometry.now) 0 (D.standing dev.old)
+        (D.standing dev.new) result }
 {
     format_at(dev, geometry, 0)
 }
@@ -40,11 +42,13 @@ pub fn format_at<D: Devices>(
 ) -> Result<(), FormatError>
     // What stays, whatever is answered, and why it fails.
     ensures goes { Goes (D.standing dev.old) (D.standing dev.new) }
-    ensures small { (result ≡ Err FormatError.TooSmall) ↔ IsTooSmall (sizes_of geometry.now) (D.standing dev.old) }
+    ensures small { (result ≡ Err FormatError.TooSmall) ↔ IsTooSmall (sizes_of geometry.now)
+        (D.standing dev.old) }
     ensures cause { FormatCause (D.standing dev.old) (D.standing dev.new) result }
 
     // The store at each moment, and at the end.
-    ensures formats { MakesEmpty (sizes_of geometry.now) first (D.standing dev.old) (D.standing dev.new) result }
+    ensures formats { MakesEmpty (sizes_of geometry.now) first (D.standing dev.old)
+        (D.standing dev.new) result }
 {
     if dev.nvm_lines() < geometry.nvm_lines() || dev.ssd_blocks() < geometry.ssd_blocks() {
         return Err(FormatError::TooSmall);
@@ -59,7 +63,8 @@ pub fn format_at<D: Devices>(
 fn make_empty<D: Devices>(dev: &mut D, geometry: &Geometry, first: u64) -> Result<(), Failed>
     requires { nvm_lines (sizes_of geometry.now) ≤ (D.standing dev.old).lines }
     ensures goes { Goes (D.standing dev.old) (D.standing dev.new) }
-    ensures makes { MakesAll (format_calls (sizes_of geometry.now) first) (D.standing dev.old) (D.standing dev.new) result }
+    ensures makes { MakesAll (format_calls (sizes_of geometry.now) first) (D.standing dev.old)
+        (D.standing dev.new) result }
     ensures cause { NvmCause (D.standing dev.old) (D.standing dev.new) result }
 {
     put_gate(dev, 0, 0)?;
@@ -71,7 +76,8 @@ fn make_empty<D: Devices>(dev: &mut D, geometry: &Geometry, first: u64) -> Resul
 fn prepare<D: Devices>(dev: &mut D, geometry: &Geometry, first: u64) -> Result<(), Failed>
     requires { nvm_lines (sizes_of geometry.now) ≤ (D.standing dev.old).lines }
     ensures goes { Goes (D.standing dev.old) (D.standing dev.new) }
-    ensures makes { MakesAll (prepare_calls (sizes_of geometry.now) first) (D.standing dev.old) (D.standing dev.new) result }
+    ensures makes { MakesAll (prepare_calls (sizes_of geometry.now) first) (D.standing dev.old)
+        (D.standing dev.new) result }
     ensures cause { NvmCause (D.standing dev.old) (D.standing dev.new) result }
 {
     put_pages(dev, geometry)?;
@@ -83,7 +89,8 @@ fn prepare<D: Devices>(dev: &mut D, geometry: &Geometry, first: u64) -> Result<(
 fn put_pages<D: Devices>(dev: &mut D, geometry: &Geometry) -> Result<(), Failed>
     requires { nvm_lines (sizes_of geometry.now) ≤ (D.standing dev.old).lines }
     ensures goes { Goes (D.standing dev.old) (D.standing dev.new) }
-    ensures makes { MakesAll (pages_puts (sizes_of geometry.now)) (D.standing dev.old) (D.standing dev.new) result }
+    ensures makes { MakesAll (pages_puts (sizes_of geometry.now)) (D.standing dev.old)
+        (D.standing dev.new) result }
     ensures cause { NvmCause (D.standing dev.old) (D.standing dev.new) result }
 {
     let page = geometry.frame_line(0, 0);
@@ -95,7 +102,8 @@ fn put_pages<D: Devices>(dev: &mut D, geometry: &Geometry) -> Result<(), Failed>
 fn put_super<D: Devices>(dev: &mut D, geometry: &Geometry, first: u64) -> Result<(), Failed>
     requires { 4 ≤ (D.standing dev.old).lines }
     ensures goes { Goes (D.standing dev.old) (D.standing dev.new) }
-    ensures makes { MakesAll (super_puts (sizes_of geometry.now) first) (D.standing dev.old) (D.standing dev.new) result }
+    ensures makes { MakesAll (super_puts (sizes_of geometry.now) first) (D.standing dev.old)
+        (D.standing dev.new) result }
     ensures cause { NvmCause (D.standing dev.old) (D.standing dev.new) result }
 {
     put_line(dev, 0, &sizes(geometry))?;

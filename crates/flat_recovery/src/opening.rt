@@ -48,11 +48,14 @@ pub fn recover<D: Devices>(alloc: Global, dev: &mut D) -> Result<Parts, OpenErro
     ensures cause { OpenCause (D.standing dev.old) (D.standing dev.new) result }
 
     // What is recovered.
-    ensures recovered { IsTrue (D.standing dev.old).told → IfOk result (λ parts. Recovered parts (D.standing dev.old) (D.standing dev.new)) }
-    ensures parts { IfOk result (λ parts. AreParts parts (D.standing dev.old).lines (D.standing dev.old).blocks) }
+    ensures recovered { IsTrue (D.standing dev.old).told
+        → IfOk result (λ parts. Recovered parts (D.standing dev.old) (D.standing dev.new)) }
+    ensures parts { IfOk result
+        (λ parts. AreParts parts (D.standing dev.old).lines (D.standing dev.old).blocks) }
 
     // What stays, whatever is answered, at each moment.
-    ensures keeps { IsTrue (D.standing dev.old).told → KeepsStore (D.standing dev.old) (D.standing dev.new) }
+    ensures keeps { IsTrue (D.standing dev.old).told
+        → KeepsStore (D.standing dev.old) (D.standing dev.new) }
     ensures nothing { ChangesNothing (D.standing dev.old) (D.standing dev.new) result }
     ensures goes { Goes (D.standing dev.old) (D.standing dev.new) }
 {
@@ -98,7 +101,8 @@ fn keep_super<D: Devices>(dev: &mut D) -> Result<(), Failed>
 fn settle<D: Devices>(dev: &mut D, log: &mut Log) -> Result<(), Failed>
     requires fits { nvm_lines (sizes_of log.old.geometry) ≤ (D.standing dev.old).lines }
     requires framed { pages (sizes_of log.old.geometry) ≤ log.old.geometry.frames }
-    ensures makes { MakesAll (settle_calls (sizes_of log.old.geometry) log.old.tail) (D.standing dev.old) (D.standing dev.new) result }
+    ensures makes { MakesAll (settle_calls (sizes_of log.old.geometry) log.old.tail)
+        (D.standing dev.old) (D.standing dev.new) result }
     ensures emptied { IsEmptied log.old log.new result }
     ensures cause { NvmCause (D.standing dev.old) (D.standing dev.new) result }
     ensures goes { Goes (D.standing dev.old) (D.standing dev.new) }

@@ -98,7 +98,8 @@ fn write_group<D: Devices>(
     requires fits { nvm_lines (sizes_of log.now.geometry) ≤ (D.standing dev.old).lines }
     requires framed { pages (sizes_of log.now.geometry) ≤ log.now.geometry.frames }
     requires low { log.now.tail ≤ 2 ^ 61 }
-    ensures ends { EndsGroup log.now group.now kind (D.standing dev.old) (D.standing dev.new) result }
+    ensures ends { EndsGroup log.now group.now kind (D.standing dev.old)
+        (D.standing dev.new) result }
     ensures keeps { KeepsFault (sizes_of log.now.geometry) log.now.tail result }
     ensures cause { OpenCause (D.standing dev.old) (D.standing dev.new) result }
     ensures goes { Goes (D.standing dev.old) (D.standing dev.new) }
@@ -116,7 +117,8 @@ fn redo<D: Devices>(dev: &mut D, log: &Log, group: &Group) -> Result<(), OpenErr
     requires fits { nvm_lines (sizes_of log.now.geometry) ≤ (D.standing dev.old).lines }
     requires framed { pages (sizes_of log.now.geometry) ≤ log.now.geometry.frames }
     requires low { log.now.tail ≤ 2 ^ 61 }
-    ensures redoes { RedoesGroup log.now group.now (D.standing dev.old) (D.standing dev.new) result }
+    ensures redoes { RedoesGroup log.now group.now (D.standing dev.old)
+        (D.standing dev.new) result }
     ensures keeps { KeepsFault (sizes_of log.now.geometry) log.now.tail result }
     ensures cause { OpenCause (D.standing dev.old) (D.standing dev.new) result }
     ensures goes { Goes (D.standing dev.old) (D.standing dev.new) }
@@ -134,7 +136,8 @@ fn undo<D: Devices>(dev: &mut D, log: &Log, group: &Group) -> Result<(), OpenErr
     requires fits { nvm_lines (sizes_of log.now.geometry) ≤ (D.standing dev.old).lines }
     requires framed { pages (sizes_of log.now.geometry) ≤ log.now.geometry.frames }
     requires low { log.now.tail ≤ 2 ^ 61 }
-    ensures undoes { UndoesGroup log.now group.now (D.standing dev.old) (D.standing dev.new) result }
+    ensures undoes { UndoesGroup log.now group.now (D.standing dev.old)
+        (D.standing dev.new) result }
     ensures keeps { KeepsFault (sizes_of log.now.geometry) log.now.tail result }
     ensures cause { OpenCause (D.standing dev.old) (D.standing dev.new) result }
     ensures goes { Goes (D.standing dev.old) (D.standing dev.new) }
@@ -185,7 +188,8 @@ fn copy_line<D: Devices>(dev: &mut D, log: &Log, from: u64, place: u64) -> Resul
     requires below { from < log.now.tail }
     requires fits { nvm_lines (sizes_of log.now.geometry) ≤ (D.standing dev.old).lines }
     requires place { place < (D.standing dev.old).lines }
-    ensures copies { CopiesLine log.now from place (D.standing dev.old) (D.standing dev.new) result }
+    ensures copies { CopiesLine log.now from place (D.standing dev.old)
+        (D.standing dev.new) result }
     ensures keeps { KeepsFault (sizes_of log.now.geometry) log.now.tail result }
     ensures cause { OpenCause (D.standing dev.old) (D.standing dev.new) result }
     ensures goes { Goes (D.standing dev.old) (D.standing dev.new) }

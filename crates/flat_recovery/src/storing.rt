@@ -10,7 +10,8 @@ pub(crate) fn flush_lines<D: Devices>(dev: &mut D, first: u64, count: u64) -> Re
     requires within { first + count ≤ (D.standing dev.old).lines }
     requires low { first + count < 2 ^ 64 }
     ensures goes { Goes (D.standing dev.old) (D.standing dev.new) }
-    ensures makes { MakesAll (flush_calls first count) (D.standing dev.old) (D.standing dev.new) result }
+    ensures makes { MakesAll (flush_calls first count) (D.standing dev.old)
+        (D.standing dev.new) result }
     ensures cause { NvmCause (D.standing dev.old) (D.standing dev.new) result }
 {
     for i in 0..count {

@@ -18,7 +18,7 @@ use Rattle.flat_store_meaning.specs.Format.{word_in}
 use Rattle.flat_store_meaning.specs.Recovered.{log_line, block_line}
 use Rattle.flat_store_meaning.specs.InPlace.{store_calls}
 use Rattle.flat_store_meaning.proofs.AtEndLaws.{OnOk_map}
-use Rattle.flat_transactions.specs.declared.undo.Place.{Place}
+use Rattle.flat_transactions.specs.declared.undo.PageLine.{PageLine}
 use Rattle.flat_transactions.specs.TakenBack.{AbortCause, IsDamage, IsNvm, NamesPlace, SameLog, StandsAt, TakesLine}
 
 -- the log's lines where nothing changed, and over two stretches
@@ -89,7 +89,7 @@ takes_nothing {T = T} {why = why} g start offset a b r is goes stays stops =
     (record { log = tt; stops = stops; makes = λ change at. makes_nothing {T = T} {E = Stop} (store_calls g change.page change.line change.before) a b (Err why) refl goes stays })
 
 -- the line before was loaded, and then put in its place
-module _ (g : Sizes) (start offset : ℕ) (place : Place) (before : Line) (a c : Standing) (r : Result (Unit {0}) Stop) (told : IsTrue a.told)
+module _ (g : Sizes) (start offset : ℕ) (place : PageLine) (before : Line) (a c : Standing) (r : Result (Unit {0}) Stop) (told : IsTrue a.told)
     (names : NamesPlace g (log_line g start (current (now a)) offset) place) (loaded : before ≡ log_line g start (current (now a)) (offset + 1))
     (apart : (o : ℕ) → ring_line g o < frame_line g place.page place.line) (makes : MakesAll (store_calls g place.page place.line before) a c r) (stops : IfErr r IsNvm) where
   same_calls : (change : Change) → StandsAt g (log_line g start (current (now a))) offset change → store_calls g place.page place.line before ≡ store_calls g change.page change.line change.before

@@ -5,3 +5,4 @@ pub mod StoreStanding
 pub mod TakenBack
 pub mod OpenStore
 pub mod Order
+pub mod Laws

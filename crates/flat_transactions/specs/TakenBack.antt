@@ -18,7 +18,7 @@ use Rattle.flat_store_laws.specs.OpenGroup.{IsOfStore}
 use Rattle.flat_store_laws.specs.ShownPages.{committed_in}
 use Rattle.flat_store_laws.specs.Steps.{MayLeave, HoldsFacts}
 use Rattle.flat_store_laws.specs.Undoing.{TakingBack}
-use Rattle.flat_transactions.specs.declared.undo.Place.{Place}
+use Rattle.flat_transactions.specs.declared.undo.PageLine.{PageLine}
 
 -- The first of checks 7 and 8 that a line fails where an abort reads it: its kind is not that of a record, so that the end of
 -- a group fails it too; its page is none of the store's, or its line not below 64.
@@ -29,7 +29,7 @@ record_check g head =
     else None
 
 -- the head of a record names this line of the store
-pub record NamesPlace (g : Sizes) (head : Line) (place : Place) : Type 0 where
+pub record NamesPlace (g : Sizes) (head : Line) (place : PageLine) : Type 0 where
   pub passes : record_check g head ≡ None
   pub page : word_in head 1 ≡ place.page
   pub line : word_in head 2 ≡ place.line
@@ -37,7 +37,7 @@ pub record NamesPlace (g : Sizes) (head : Line) (place : Place) : Type 0 where
   pub line_in : place.line < 64
 
 -- a head is read where no check fails, and else the first that fails is told
-abbrev pub IsPlace : Sizes → Line → Result Place ℕ → Type 0
+abbrev pub IsPlace : Sizes → Line → Result PageLine ℕ → Type 0
 IsPlace g head (Ok place) = NamesPlace g head place
 IsPlace g head (Err check) = record_check g head ≡ Some check
 
@@ -80,7 +80,7 @@ pub record StandsAt (g : Sizes) (line_at : ℕ → Line) (offset : ℕ) (change 
   pub before : line_at (offset + 1) ≡ change.before
 
 -- The place is that of the record at this offset; where one of the store stands there, nothing but the NVM stops it.
-pub record FindsPlace (g : Sizes) (start offset : ℕ) (old : Standing) (result : Result Place Stop) : Type 0 where
+pub record FindsPlace (g : Sizes) (start offset : ℕ) (old : Standing) (result : Result PageLine Stop) : Type 0 where
   pub found : IfOk result (NamesPlace g (log_line g start (current (now old)) offset))
   pub stops : (change : Change) → StandsAt g (log_line g start (current (now old))) offset change → IfErr result IsNvm
 

@@ -26,18 +26,26 @@ impl<'a, D: Devices> Store<'a, D> {
         requires is_open { (account self.old.book.now).is_open ≡ true }
 
         // What Ok means.
-        ensures lines { IsTrue (D.standing self.old.dev.now).told → OnOk result (AbortsLines self.old.book.now (D.standing self.old.dev.now) self.new.book.now (D.standing self.new.dev.now)) }
+        ensures lines { IsTrue (D.standing self.old.dev.now).told
+            → OnOk result
+            (AbortsLines self.old.book.now (D.standing self.old.dev.now) self.new.book.now
+            (D.standing self.new.dev.now)) }
         ensures ends { OnOk result (Ends self.old.book.now self.new.book.now) }
         ensures ready { OnOk result (IsReady self.new.book.now (D.standing self.new.dev.now)) }
-        ensures steady { IsSteady self.old.book.now (D.standing self.old.dev.now) → OnOk result (IsSteady self.new.book.now (D.standing self.new.dev.now)) }
+        ensures steady { IsSteady self.old.book.now (D.standing self.old.dev.now)
+            → OnOk result (IsSteady self.new.book.now (D.standing self.new.dev.now)) }
 
         // Why it stops.
-        ensures cause { AbortCause (book_sizes self.old.book.now) (account self.old.book.now).start (account self.old.book.now).tail (D.standing self.old.dev.now) (D.standing self.new.dev.now) result }
+        ensures cause { AbortCause (book_sizes self.old.book.now) (account self.old.book.now).start
+            (account self.old.book.now).tail (D.standing self.old.dev.now)
+            (D.standing self.new.dev.now) result }
         ensures sound { IsTrue (D.standing self.old.dev.now).told → IfErr result IsNvm }
 
         // What stays, however far it gets.
-        ensures call { StoreCall (IsCommitted (D.standing self.old.dev.now)) self.old.book.now (D.standing self.old.dev.now) self.new.book.now (D.standing self.new.dev.now) }
-        ensures same_references { (self.new.book.ghost_name ≡ self.old.book.ghost_name) × (self.new.dev.ghost_name ≡ self.old.dev.ghost_name) }
+        ensures call { StoreCall (IsCommitted (D.standing self.old.dev.now)) self.old.book.now
+            (D.standing self.old.dev.now) self.new.book.now (D.standing self.new.dev.now) }
+        ensures same_references { (self.new.book.ghost_name ≡ self.old.book.ghost_name)
+            × (self.new.dev.ghost_name ≡ self.old.dev.ghost_name) }
         ensures before { self.new.before ≡ self.old.before }
     {
         let book = &mut *self.book;

@@ -27,7 +27,8 @@ impl Book {
 
     /// No transaction is open.
     pub(crate) fn close(&mut self)
-        ensures { self.new ≡ record self.old { is_open = false; room = 0; first = self.old.log.tail } }
+        ensures { self.new
+            ≡ record self.old { is_open = false; room = 0; first = self.old.log.tail } }
     {
         self.is_open = false;
         self.room = 0;
@@ -52,17 +53,24 @@ impl<'a, D: Devices> Store<'a, D> {
         requires tail { (account self.old.book.now).tail ≤ 2 ^ 61 + 2 ^ 46 }
 
         // What Ok means.
-        ensures lines { IsTrue (D.standing self.old.dev.now).told → OnOk result (KeepsLines self.old.book.now (D.standing self.old.dev.now) self.new.book.now (D.standing self.new.dev.now)) }
+        ensures lines { IsTrue (D.standing self.old.dev.now).told
+            → OnOk result
+            (KeepsLines self.old.book.now (D.standing self.old.dev.now) self.new.book.now
+            (D.standing self.new.dev.now)) }
         ensures begins { OnOk result (Begins self.old.book.now self.new.book.now) }
         ensures ready { OnOk result (IsReady self.new.book.now (D.standing self.new.dev.now)) }
-        ensures steady { IsSteady self.old.book.now (D.standing self.old.dev.now) → OnOk result (IsSteady self.new.book.now (D.standing self.new.dev.now)) }
+        ensures steady { IsSteady self.old.book.now (D.standing self.old.dev.now)
+            → OnOk result (IsSteady self.new.book.now (D.standing self.new.dev.now)) }
 
         // Why it fails.
-        ensures cause { FaultCause (D.standing self.old.dev.now) (D.standing self.new.dev.now) result }
+        ensures cause { FaultCause (D.standing self.old.dev.now)
+            (D.standing self.new.dev.now) result }
 
         // What stays, however far it gets.
-        ensures call { StoreCall (IsCommitted (D.standing self.old.dev.now)) self.old.book.now (D.standing self.old.dev.now) self.new.book.now (D.standing self.new.dev.now) }
-        ensures same_references { (self.new.book.ghost_name ≡ self.old.book.ghost_name) × (self.new.dev.ghost_name ≡ self.old.dev.ghost_name) }
+        ensures call { StoreCall (IsCommitted (D.standing self.old.dev.now)) self.old.book.now
+            (D.standing self.old.dev.now) self.new.book.now (D.standing self.new.dev.now) }
+        ensures same_references { (self.new.book.ghost_name ≡ self.old.book.ghost_name)
+            × (self.new.dev.ghost_name ≡ self.old.dev.ghost_name) }
         ensures before { self.new.before ≡ self.old.before }
     {
         self.make_room()?;
@@ -75,13 +83,20 @@ impl<'a, D: Devices> Store<'a, D> {
     fn make_room(&mut self) -> Result<(), Stop>
         requires ready { IsReady self.old.book.now (D.standing self.old.dev.now) }
         requires closed { (account self.old.book.now).is_open ≡ false }
-        ensures lines { IsTrue (D.standing self.old.dev.now).told → OnOk result (KeepsLines self.old.book.now (D.standing self.old.dev.now) self.new.book.now (D.standing self.new.dev.now)) }
+        ensures lines { IsTrue (D.standing self.old.dev.now).told
+            → OnOk result
+            (KeepsLines self.old.book.now (D.standing self.old.dev.now) self.new.book.now
+            (D.standing self.new.dev.now)) }
         ensures makes { OnOk result (MakesRoom self.old.book.now self.new.book.now) }
         ensures ready { OnOk result (IsReady self.new.book.now (D.standing self.new.dev.now)) }
-        ensures steady { IsSteady self.old.book.now (D.standing self.old.dev.now) → OnOk result (IsSteady self.new.book.now (D.standing self.new.dev.now)) }
-        ensures cause { FaultCause (D.standing self.old.dev.now) (D.standing self.new.dev.now) result }
-        ensures call { StoreCall (IsCommitted (D.standing self.old.dev.now)) self.old.book.now (D.standing self.old.dev.now) self.new.book.now (D.standing self.new.dev.now) }
-        ensures same_references { (self.new.book.ghost_name ≡ self.old.book.ghost_name) × (self.new.dev.ghost_name ≡ self.old.dev.ghost_name) }
+        ensures steady { IsSteady self.old.book.now (D.standing self.old.dev.now)
+            → OnOk result (IsSteady self.new.book.now (D.standing self.new.dev.now)) }
+        ensures cause { FaultCause (D.standing self.old.dev.now)
+            (D.standing self.new.dev.now) result }
+        ensures call { StoreCall (IsCommitted (D.standing self.old.dev.now)) self.old.book.now
+            (D.standing self.old.dev.now) self.new.book.now (D.standing self.new.dev.now) }
+        ensures same_references { (self.new.book.ghost_name ≡ self.old.book.ghost_name)
+            × (self.new.dev.ghost_name ≡ self.old.dev.ghost_name) }
         ensures before { self.new.before ≡ self.old.before }
     {
         let book = &*self.book;
@@ -97,13 +112,16 @@ impl<'a, D: Devices> Store<'a, D> {
     pub fn next_write(&mut self)
         requires ready { IsReady self.old.book.now (D.standing self.old.dev.now) }
         requires is_open { (account self.old.book.now).is_open ≡ true }
-        requires more { (account self.old.book.now).accepted < (book_sizes self.old.book.now).writes }
+        requires more { (account self.old.book.now).accepted
+            < (book_sizes self.old.book.now).writes }
         ensures next { NextWrite self.old.book.now self.new.book.now }
         ensures accesses { self.new.book.now.accesses ≡ self.old.book.now.accesses }
         ensures device { self.new.dev.now ≡ self.old.dev.now }
         ensures ready { IsReady self.new.book.now (D.standing self.new.dev.now) }
-        ensures steady { IsSteady self.old.book.now (D.standing self.old.dev.now) → IsSteady self.new.book.now (D.standing self.new.dev.now) }
-        ensures same_references { (self.new.book.ghost_name ≡ self.old.book.ghost_name) × (self.new.dev.ghost_name ≡ self.old.dev.ghost_name) }
+        ensures steady { IsSteady self.old.book.now (D.standing self.old.dev.now)
+            → IsSteady self.new.book.now (D.standing self.new.dev.now) }
+        ensures same_references { (self.new.book.ghost_name ≡ self.old.book.ghost_name)
+            × (self.new.dev.ghost_name ≡ self.old.dev.ghost_name) }
         ensures before { self.new.before ≡ self.old.before }
     {
         let book = &mut *self.book;

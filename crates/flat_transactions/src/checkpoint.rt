@@ -21,17 +21,24 @@ impl<'a, D: Devices> Store<'a, D> {
         requires closed { (account self.old.book.now).is_open ≡ false }
 
         // What Ok means.
-        ensures lines { IsTrue (D.standing self.old.dev.now).told → OnOk result (KeepsLines self.old.book.now (D.standing self.old.dev.now) self.new.book.now (D.standing self.new.dev.now)) }
+        ensures lines { IsTrue (D.standing self.old.dev.now).told
+            → OnOk result
+            (KeepsLines self.old.book.now (D.standing self.old.dev.now) self.new.book.now
+            (D.standing self.new.dev.now)) }
         ensures checkpoints { OnOk result (Checkpoints self.old.book.now self.new.book.now) }
         ensures ready { OnOk result (IsReady self.new.book.now (D.standing self.new.dev.now)) }
-        ensures steady { IsSteady self.old.book.now (D.standing self.old.dev.now) → OnOk result (IsSteady self.new.book.now (D.standing self.new.dev.now)) }
+        ensures steady { IsSteady self.old.book.now (D.standing self.old.dev.now)
+            → OnOk result (IsSteady self.new.book.now (D.standing self.new.dev.now)) }
 
         // Why it fails.
-        ensures cause { FaultCause (D.standing self.old.dev.now) (D.standing self.new.dev.now) result }
+        ensures cause { FaultCause (D.standing self.old.dev.now)
+            (D.standing self.new.dev.now) result }
 
         // What stays, however far it gets.
-        ensures call { StoreCall (IsCommitted (D.standing self.old.dev.now)) self.old.book.now (D.standing self.old.dev.now) self.new.book.now (D.standing self.new.dev.now) }
-        ensures same_references { (self.new.book.ghost_name ≡ self.old.book.ghost_name) × (self.new.dev.ghost_name ≡ self.old.dev.ghost_name) }
+        ensures call { StoreCall (IsCommitted (D.standing self.old.dev.now)) self.old.book.now
+            (D.standing self.old.dev.now) self.new.book.now (D.standing self.new.dev.now) }
+        ensures same_references { (self.new.book.ghost_name ≡ self.old.book.ghost_name)
+            × (self.new.dev.ghost_name ≡ self.old.dev.ghost_name) }
         ensures before { self.new.before ≡ self.old.before }
     {
         let book = &mut *self.book;
@@ -47,15 +54,23 @@ impl<'a, D: Devices> Store<'a, D> {
     /// Nothing: all log lines stay in NVM.
     pub fn drain(&mut self) -> Result<(), Stop>
         requires ready { IsReady self.old.book.now (D.standing self.old.dev.now) }
-        ensures lines { IsTrue (D.standing self.old.dev.now).told → OnOk result (KeepsLines self.old.book.now (D.standing self.old.dev.now) self.new.book.now (D.standing self.new.dev.now)) }
+        ensures lines { IsTrue (D.standing self.old.dev.now).told
+            → OnOk result
+            (KeepsLines self.old.book.now (D.standing self.old.dev.now) self.new.book.now
+            (D.standing self.new.dev.now)) }
         ensures keeps { OnOk result (account self.new.book.now ≡ account self.old.book.now) }
         ensures ready { OnOk result (IsReady self.new.book.now (D.standing self.new.dev.now)) }
-        ensures steady { IsSteady self.old.book.now (D.standing self.old.dev.now) → OnOk result (IsSteady self.new.book.now (D.standing self.new.dev.now)) }
-        ensures cause { FaultCause (D.standing self.old.dev.now) (D.standing self.new.dev.now) result }
-        ensures call { StoreCall (IsCommitted (D.standing self.old.dev.now)) self.old.book.now (D.standing self.old.dev.now) self.new.book.now (D.standing self.new.dev.now) }
+        ensures steady { IsSteady self.old.book.now (D.standing self.old.dev.now)
+            → OnOk result (IsSteady self.new.book.now (D.standing self.new.dev.now)) }
+        ensures cause { FaultCause (D.standing self.old.dev.now)
+            (D.standing self.new.dev.now) result }
+        ensures call { StoreCall (IsCommitted (D.standing self.old.dev.now)) self.old.book.now
+            (D.standing self.old.dev.now) self.new.book.now (D.standing self.new.dev.now) }
         ensures ok { result ≡ Ok tt }
-        ensures same { (self.new.book.now ≡ self.old.book.now) × (self.new.dev.now ≡ self.old.dev.now) }
-        ensures same_references { (self.new.book.ghost_name ≡ self.old.book.ghost_name) × (self.new.dev.ghost_name ≡ self.old.dev.ghost_name) }
+        ensures same { (self.new.book.now ≡ self.old.book.now)
+            × (self.new.dev.now ≡ self.old.dev.now) }
+        ensures same_references { (self.new.book.ghost_name ≡ self.old.book.ghost_name)
+            × (self.new.dev.ghost_name ≡ self.old.dev.ghost_name) }
         ensures before { self.new.before ≡ self.old.before }
     {
         Ok(())
@@ -64,15 +79,23 @@ impl<'a, D: Devices> Store<'a, D> {
     /// Nothing: no page has a copy that could be cleaned.
     pub fn clean(&mut self, _n: u32) -> Result<(), Stop>
         requires ready { IsReady self.old.book.now (D.standing self.old.dev.now) }
-        ensures lines { IsTrue (D.standing self.old.dev.now).told → OnOk result (KeepsLines self.old.book.now (D.standing self.old.dev.now) self.new.book.now (D.standing self.new.dev.now)) }
+        ensures lines { IsTrue (D.standing self.old.dev.now).told
+            → OnOk result
+            (KeepsLines self.old.book.now (D.standing self.old.dev.now) self.new.book.now
+            (D.standing self.new.dev.now)) }
         ensures keeps { OnOk result (account self.new.book.now ≡ account self.old.book.now) }
         ensures ready { OnOk result (IsReady self.new.book.now (D.standing self.new.dev.now)) }
-        ensures steady { IsSteady self.old.book.now (D.standing self.old.dev.now) → OnOk result (IsSteady self.new.book.now (D.standing self.new.dev.now)) }
-        ensures cause { FaultCause (D.standing self.old.dev.now) (D.standing self.new.dev.now) result }
-        ensures call { StoreCall (IsCommitted (D.standing self.old.dev.now)) self.old.book.now (D.standing self.old.dev.now) self.new.book.now (D.standing self.new.dev.now) }
+        ensures steady { IsSteady self.old.book.now (D.standing self.old.dev.now)
+            → OnOk result (IsSteady self.new.book.now (D.standing self.new.dev.now)) }
+        ensures cause { FaultCause (D.standing self.old.dev.now)
+            (D.standing self.new.dev.now) result }
+        ensures call { StoreCall (IsCommitted (D.standing self.old.dev.now)) self.old.book.now
+            (D.standing self.old.dev.now) self.new.book.now (D.standing self.new.dev.now) }
         ensures ok { result ≡ Ok tt }
-        ensures same { (self.new.book.now ≡ self.old.book.now) × (self.new.dev.now ≡ self.old.dev.now) }
-        ensures same_references { (self.new.book.ghost_name ≡ self.old.book.ghost_name) × (self.new.dev.ghost_name ≡ self.old.dev.ghost_name) }
+        ensures same { (self.new.book.now ≡ self.old.book.now)
+            × (self.new.dev.now ≡ self.old.dev.now) }
+        ensures same_references { (self.new.book.ghost_name ≡ self.old.book.ghost_name)
+            × (self.new.dev.ghost_name ≡ self.old.dev.ghost_name) }
         ensures before { self.new.before ≡ self.old.before }
     {
         Ok(())

@@ -17,8 +17,11 @@ pub(crate) fn empty_log<D: Devices>(log: &mut Log, dev: &mut D) -> Result<(), Fa
 
     // What it does to the log, in memory, on the device, and to an open store.
     ensures emptied { IsEmptied log.old log.new result }
-    ensures makes { MakesAll (checkpoint_calls log.old.tail) (D.standing dev.old) (D.standing dev.new) result }
-    ensures empties { IsTrue (D.standing dev.old).told → Empties (sizes_of log.old.geometry) log.old.start log.old.tail (D.standing dev.old) (D.standing dev.new) result }
+    ensures makes { MakesAll (checkpoint_calls log.old.tail) (D.standing dev.old)
+        (D.standing dev.new) result }
+    ensures empties { IsTrue (D.standing dev.old).told
+        → Empties (sizes_of log.old.geometry) log.old.start log.old.tail (D.standing dev.old)
+        (D.standing dev.new) result }
 
     // Why it fails.
     ensures cause { NvmCause (D.standing dev.old) (D.standing dev.new) result }

@@ -20,7 +20,8 @@ pub struct Store<'a, D> {
 impl<'a, D: Devices> Store<'a, D> {
     /// The store of this book over this device.
     pub fn over(book: &'a mut Book, dev: &'a mut D) -> Store<'a, D>
-        ensures same_references { (result.book.ghost_name ≡ book.entry.ghost_name) × (result.dev.ghost_name ≡ dev.entry.ghost_name) }
+        ensures same_references { (result.book.ghost_name ≡ book.entry.ghost_name)
+            × (result.dev.ghost_name ≡ dev.entry.ghost_name) }
         ensures same { (result.book.now ≡ book.old) × (result.dev.now ≡ dev.old) }
         ensures before { result.before.value ≡ dev.old }
     {
@@ -32,12 +33,15 @@ impl<'a, D: Devices> Store<'a, D> {
 impl<'a, D: Devices> Pages for Store<'a, D> {
     ghost use Rattle.flat_transactions.specs.StoreStanding.{Apart as StoreApart, standing_of, book_sizes, IsReady, IsSteady};
     ghost use Rattle.flat_store_laws.specs.Steps.{MayLeave};
+    ghost use Rattle.flat_transactions.specs.Laws.{committed_left};
 
     ghost Apart = { StoreApart };
 
-    ghost standing = { λ s. standing_of s.book.now (D.standing s.dev.now) s.book.ghost_name s.dev.ghost_name (D.standing s.before.value).clock };
+    ghost standing = { λ s. standing_of s.book.now (D.standing s.dev.now) s.book.ghost_name s.dev.ghost_name
+        (D.standing s.before.value).clock };
 
-    ghost is_ready = { λ s. IsReady s.book.now (D.standing s.dev.now) × ((D.standing s.before.value).clock ≤ (D.standing s.dev.now).clock) };
+    ghost is_ready = { λ s. IsReady s.book.now (D.standing s.dev.now)
+        × ((D.standing s.before.value).clock ≤ (D.standing s.dev.now).clock) };
 
     ghost is_steady = { λ s. IsSteady s.book.now (D.standing s.dev.now) };
 
@@ -70,4 +74,7 @@ impl<'a, D: Devices> Pages for Store<'a, D> {
         let book = &mut *self.book;
         book.rest();
     }
+
+    ghost left_now = { λ s ready steady told lines left. committed_left s.book.now (D.standing s.dev.now)
+        steady told lines left };
 }

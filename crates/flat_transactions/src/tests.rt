@@ -67,7 +67,8 @@ ghost use Rattle.flat_transactions.specs.StoreStanding.{IsReady, book_sizes};
 
 /// One table of two rows, with each of its ten pages in a frame.
 fn small() -> Geometry
-    ensures { sizes_of result ≡ record { tables = 1; rows = 2; writes = 1; frames = 10; log_blocks = 31 } }
+    ensures { sizes_of result
+        ≡ record { tables = 1; rows = 2; writes = 1; frames = 10; log_blocks = 31 } }
 {
     Geometry {
         tables: 1,
@@ -80,7 +81,8 @@ fn small() -> Geometry
 
 /// An empty log of the small store, which begins two lines before the end of its ring.
 fn small_log(geometry: &Geometry) -> Log
-    requires { sizes_of geometry.now ≡ record { tables = 1; rows = 2; writes = 1; frames = 10; log_blocks = 31 } }
+    requires { sizes_of geometry.now
+        ≡ record { tables = 1; rows = 2; writes = 1; frames = 10; log_blocks = 31 } }
     ensures geometry { result.geometry ≡ geometry.now }
     ensures start { result.start ≡ 1982 }
     ensures tail { result.tail ≡ 1982 }
@@ -118,11 +120,14 @@ fn line(first: u64) -> Line {
 /// Lines 0, 5 and 4 of page 3.
 fn three_lines<D: Devices>(store: &mut Store<'_, D>) -> Result<[Line; 3], Stop>
     requires ready { IsReady store.old.book.now (D.standing store.old.dev.now) }
-    requires since { (D.standing store.old.before.value).clock ≤ (D.standing store.old.dev.now).clock }
+    requires since { (D.standing store.old.before.value).clock
+        ≤ (D.standing store.old.dev.now).clock }
     requires pages { 3 < pages (book_sizes store.old.book.now) }
     ensures ready { OnOk result (IsReady store.new.book.now (D.standing store.new.dev.now)) }
-    ensures since { OnOk result ((D.standing store.new.before.value).clock ≤ (D.standing store.new.dev.now).clock) }
-    ensures apart { (store.new.book.now.is_open ≡ store.old.book.now.is_open) × (store.new.book.now.log.geometry ≡ store.old.book.now.log.geometry) }
+    ensures since { OnOk result
+        ((D.standing store.new.before.value).clock ≤ (D.standing store.new.dev.now).clock) }
+    ensures apart { (store.new.book.now.is_open ≡ store.old.book.now.is_open)
+        × (store.new.book.now.log.geometry ≡ store.old.book.now.log.geometry) }
 {
     store.rest();
     let first = store.read_line(3, 0)?;
@@ -134,10 +139,12 @@ fn three_lines<D: Devices>(store: &mut Store<'_, D>) -> Result<[Line; 3], Stop>
 /// Ends a transaction as a commit or as an abort.
 fn end<D: Devices>(store: &mut Store<'_, D>, stands: bool) -> Result<(), Stop>
     requires ready { IsReady store.old.book.now (D.standing store.old.dev.now) }
-    requires since { (D.standing store.old.before.value).clock ≤ (D.standing store.old.dev.now).clock }
+    requires since { (D.standing store.old.before.value).clock
+        ≤ (D.standing store.old.dev.now).clock }
     requires is_open { store.old.book.now.is_open ≡ true }
     ensures ready { OnOk result (IsReady store.new.book.now (D.standing store.new.dev.now)) }
-    ensures since { OnOk result ((D.standing store.new.before.value).clock ≤ (D.standing store.new.dev.now).clock) }
+    ensures since { OnOk result
+        ((D.standing store.new.before.value).clock ≤ (D.standing store.new.dev.now).clock) }
     ensures closed { OnOk result (store.new.book.now.is_open ≡ false) }
     ensures geometry { store.new.book.now.log.geometry ≡ store.old.book.now.log.geometry }
 {
@@ -155,11 +162,15 @@ fn change_two<D: Devices>(
     stands: bool,
 ) -> Option<Result<(), Stop>>
     requires ready { IsReady store.old.book.now (D.standing store.old.dev.now) }
-    requires since { (D.standing store.old.before.value).clock ≤ (D.standing store.old.dev.now).clock }
+    requires since { (D.standing store.old.before.value).clock
+        ≤ (D.standing store.old.dev.now).clock }
     requires closed { store.old.book.now.is_open ≡ false }
     requires pages { 3 < pages (book_sizes store.old.book.now) }
-    ensures ready { IfSome result (λ done. OnOk done (IsReady store.new.book.now (D.standing store.new.dev.now))) }
-    ensures since { IfSome result (λ done. OnOk done ((D.standing store.new.before.value).clock ≤ (D.standing store.new.dev.now).clock)) }
+    ensures ready { IfSome result
+        (λ done. OnOk done (IsReady store.new.book.now (D.standing store.new.dev.now))) }
+    ensures since { IfSome result
+        (λ done. OnOk done ((D.standing store.new.before.value).clock
+        ≤ (D.standing store.new.dev.now).clock)) }
     ensures closed { IfSome result (λ done. OnOk done (store.new.book.now.is_open ≡ false)) }
     ensures geometry { store.new.book.now.log.geometry ≡ store.old.book.now.log.geometry }
 {
@@ -177,12 +188,14 @@ fn change<D: Devices>(
     stands: bool,
 ) -> Result<(), Stop>
     requires ready { IsReady store.old.book.now (D.standing store.old.dev.now) }
-    requires since { (D.standing store.old.before.value).clock ≤ (D.standing store.old.dev.now).clock }
+    requires since { (D.standing store.old.before.value).clock
+        ≤ (D.standing store.old.dev.now).clock }
     requires closed { store.old.book.now.is_open ≡ false }
     requires low { store.old.book.now.log.tail ≤ 2 ^ 61 }
     requires pages { 3 < pages (book_sizes store.old.book.now) }
     ensures ready { OnOk result (IsReady store.new.book.now (D.standing store.new.dev.now)) }
-    ensures since { OnOk result ((D.standing store.new.before.value).clock ≤ (D.standing store.new.dev.now).clock) }
+    ensures since { OnOk result
+        ((D.standing store.new.before.value).clock ≤ (D.standing store.new.dev.now).clock) }
     ensures closed { OnOk result (store.new.book.now.is_open ≡ false) }
     ensures geometry { store.new.book.now.log.geometry ≡ store.old.book.now.log.geometry }
 {
@@ -196,13 +209,18 @@ fn change<D: Devices>(
 /// Three such transactions that commit.
 fn commit_three<D: Devices>(store: &mut Store<'_, D>) -> Option<Result<(), Stop>>
     requires ready { IsReady store.old.book.now (D.standing store.old.dev.now) }
-    requires since { (D.standing store.old.before.value).clock ≤ (D.standing store.old.dev.now).clock }
+    requires since { (D.standing store.old.before.value).clock
+        ≤ (D.standing store.old.dev.now).clock }
     requires closed { store.old.book.now.is_open ≡ false }
     requires pages { 3 < pages (book_sizes store.old.book.now) }
-    ensures ready { IfSome result (λ done. OnOk done (IsReady store.new.book.now (D.standing store.new.dev.now))) }
-    ensures since { IfSome result (λ done. OnOk done ((D.standing store.new.before.value).clock ≤ (D.standing store.new.dev.now).clock)) }
+    ensures ready { IfSome result
+        (λ done. OnOk done (IsReady store.new.book.now (D.standing store.new.dev.now))) }
+    ensures since { IfSome result
+        (λ done. OnOk done ((D.standing store.new.before.value).clock
+        ≤ (D.standing store.new.dev.now).clock)) }
     ensures closed { IfSome result (λ done. OnOk done (store.new.book.now.is_open ≡ false)) }
-    ensures geometry { IfSome result (λ done. store.new.book.now.log.geometry ≡ store.old.book.now.log.geometry) }
+    ensures geometry { IfSome result
+        (λ done. store.new.book.now.log.geometry ≡ store.old.book.now.log.geometry) }
 {
     let Ok(()) = change_two(store, (1, 2), true)? else {
         return None;
@@ -216,11 +234,15 @@ fn commit_three<D: Devices>(store: &mut Store<'_, D>) -> Option<Result<(), Stop>
 /// Begins a transaction and writes line 0 of page 3.
 fn change_one<D: Devices>(store: &mut Store<'_, D>) -> Option<Result<(), Stop>>
     requires ready { IsReady store.old.book.now (D.standing store.old.dev.now) }
-    requires since { (D.standing store.old.before.value).clock ≤ (D.standing store.old.dev.now).clock }
+    requires since { (D.standing store.old.before.value).clock
+        ≤ (D.standing store.old.dev.now).clock }
     requires closed { store.old.book.now.is_open ≡ false }
     requires pages { 3 < pages (book_sizes store.old.book.now) }
-    ensures ready { IfSome result (λ done. OnOk done (IsReady store.new.book.now (D.standing store.new.dev.now))) }
-    ensures since { IfSome result (λ done. OnOk done ((D.standing store.new.before.value).clock ≤ (D.standing store.new.dev.now).clock)) }
+    ensures ready { IfSome result
+        (λ done. OnOk done (IsReady store.new.book.now (D.standing store.new.dev.now))) }
+    ensures since { IfSome result
+        (λ done. OnOk done ((D.standing store.new.before.value).clock
+        ≤ (D.standing store.new.dev.now).clock)) }
     ensures is_open { IfSome result (λ done. OnOk done (store.new.book.now.is_open ≡ true)) }
 {
     if store.book.log.tail() > 0x2000_0000_0000_0000 {
@@ -235,9 +257,11 @@ fn change_one<D: Devices>(store: &mut Store<'_, D>) -> Option<Result<(), Stop>>
 /// Spoils a word of the NVM.
 fn spoil(store: &mut Store<'_, Untold>, place: u64, word: usize, value: u64) -> Option<Failed>
     requires ready { IsReady store.old.book.now (⟦<Untold as Devices>⟧.standing store.old.dev.now) }
-    requires since { (⟦<Untold as Devices>⟧.standing store.old.before.value).clock ≤ (⟦<Untold as Devices>⟧.standing store.old.dev.now).clock }
+    requires since { (⟦<Untold as Devices>⟧.standing store.old.before.value).clock
+        ≤ (⟦<Untold as Devices>⟧.standing store.old.dev.now).clock }
     ensures ready { IsReady store.new.book.now (⟦<Untold as Devices>⟧.standing store.new.dev.now) }
-    ensures since { (⟦<Untold as Devices>⟧.standing store.new.before.value).clock ≤ (⟦<Untold as Devices>⟧.standing store.new.dev.now).clock }
+    ensures since { (⟦<Untold as Devices>⟧.standing store.new.before.value).clock
+        ≤ (⟦<Untold as Devices>⟧.standing store.new.dev.now).clock }
     ensures is_open { store.new.book.now.is_open ≡ store.old.book.now.is_open }
 {
     if place < store.dev.nvm_lines() && word < 8 {

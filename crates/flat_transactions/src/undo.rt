@@ -22,7 +22,7 @@ use nvm_model::Line;
 
 /// A line of a page.
 #[derive(Clone, Copy, Debug, PartialEq, Eq)]
-struct Place {
+struct PageLine {
     /// The number of the page.
     page: u64,
     /// The line of the page, from 0 to 63.
@@ -35,11 +35,11 @@ ghost use Rattle.flat_transactions.specs.TakenBack.{IsPlace, AbortCause, IsNvm, 
 
 /// Reads a line as the head of a record. `Err` is the number of the first check that the line fails: 7 its kind is not that
 /// of a record; 8 its page is none of the store's, or its line not below 64.
-fn read_place(geometry: &Geometry, head: &Line) -> Result<Place, u8>
+fn read_place(geometry: &Geometry, head: &Line) -> Result<PageLine, u8>
     ensures { IsPlace (sizes_of geometry.now) head.now result }
 {
     match read_head(geometry, head) {
-        Ok(Head::Line { page, line }) => Ok(Place { page, line }),
+        Ok(Head::Line { page, line }) => Ok(PageLine { page, line }),
         Ok(Head::End(_)) => Err(7),
         Err(check) => Err(check),
     }
@@ -50,9 +50,13 @@ fn load<D: Devices>(log: &Log, dev: &mut D, offset: u64) -> Result<Line, Stop>
     requires above { log.now.start ≤ offset }
     requires below { offset < log.now.tail }
     requires fits { nvm_lines (sizes_of log.now.geometry) ≤ (D.standing dev.old).lines }
-    ensures value { IsTrue (D.standing dev.old).told → IfOk result (λ found. found ≡ log_line (sizes_of log.now.geometry) log.now.start (current (now (D.standing dev.old))) offset) }
+    ensures value { IsTrue (D.standing dev.old).told
+        → IfOk result
+        (λ found. found ≡ log_line (sizes_of log.now.geometry) log.now.start
+        (current (now (D.standing dev.old))) offset) }
     ensures stops { IfErr result IsNvm }
-    ensures cause { AbortCause (sizes_of log.now.geometry) log.now.start log.now.tail (D.standing dev.old) (D.standing dev.new) result }
+    ensures cause { AbortCause (sizes_of log.now.geometry) log.now.start log.now.tail
+        (D.standing dev.old) (D.standing dev.new) result }
     ensures goes { Goes (D.standing dev.old) (D.standing dev.new) }
     ensures stays { Stays (D.standing dev.old) (D.standing dev.new) }
 {
@@ -63,13 +67,16 @@ fn load<D: Devices>(log: &Log, dev: &mut D, offset: u64) -> Result<Line, Stop>
 }
 
 /// The line that the record at an offset of the log names.
-fn load_place<D: Devices>(log: &Log, dev: &mut D, offset: u64) -> Result<Place, Stop>
+fn load_place<D: Devices>(log: &Log, dev: &mut D, offset: u64) -> Result<PageLine, Stop>
     requires above { log.now.start ≤ offset }
     requires below { offset < log.now.tail }
     requires fits { nvm_lines (sizes_of log.now.geometry) ≤ (D.standing dev.old).lines }
-    ensures place { IsTrue (D.standing dev.old).told → FindsPlace (sizes_of log.now.geometry) log.now.start offset (D.standing dev.old) result }
-    ensures within { IfOk result (λ place. (place.page < pages (sizes_of log.now.geometry)) × (place.line < 64)) }
-    ensures cause { AbortCause (sizes_of log.now.geometry) log.now.start log.now.tail (D.standing dev.old) (D.standing dev.new) result }
+    ensures place { IsTrue (D.standing dev.old).told
+        → FindsPlace (sizes_of log.now.geometry) log.now.start offset (D.standing dev.old) result }
+    ensures within { IfOk result
+        (λ place. (place.page < pages (sizes_of log.now.geometry)) × (place.line < 64)) }
+    ensures cause { AbortCause (sizes_of log.now.geometry) log.now.start log.now.tail
+        (D.standing dev.old) (D.standing dev.new) result }
     ensures goes { Goes (D.standing dev.old) (D.standing dev.new) }
     ensures stays { Stays (D.standing dev.old) (D.standing dev.new) }
 {
@@ -86,15 +93,20 @@ fn load_place<D: Devices>(log: &Log, dev: &mut D, offset: u64) -> Result<Place, 
 }
 
 /// Puts a line of a page back in its frame, and flushes it.
-fn put_back<D: Devices>(log: &Log, dev: &mut D, place: Place, before: &Line) -> Result<(), Stop>
+fn put_back<D: Devices>(log: &Log, dev: &mut D, place: PageLine, before: &Line) -> Result<(), Stop>
     requires page { place.page < pages (sizes_of log.now.geometry) }
     requires line { place.line < 64 }
     requires framed { pages (sizes_of log.now.geometry) ≤ log.now.geometry.frames }
     requires fits { nvm_lines (sizes_of log.now.geometry) ≤ (D.standing dev.old).lines }
-    ensures makes { MakesAll (store_calls (sizes_of log.now.geometry) place.page place.line before.now) (D.standing dev.old) (D.standing dev.new) result }
-    ensures apart { (offset : ℕ) → ring_line (sizes_of log.now.geometry) offset < frame_line (sizes_of log.now.geometry) place.page place.line }
+    ensures makes { MakesAll
+        (store_calls (sizes_of log.now.geometry) place.page place.line before.now)
+        (D.standing dev.old) (D.standing dev.new) result }
+    ensures apart { (offset : ℕ)
+        → ring_line (sizes_of log.now.geometry) offset
+        < frame_line (sizes_of log.now.geometry) place.page place.line }
     ensures stops { IfErr result IsNvm }
-    ensures cause { AbortCause (sizes_of log.now.geometry) log.now.start log.now.tail (D.standing dev.old) (D.standing dev.new) result }
+    ensures cause { AbortCause (sizes_of log.now.geometry) log.now.start log.now.tail
+        (D.standing dev.old) (D.standing dev.new) result }
     ensures goes { Goes (D.standing dev.old) (D.standing dev.new) }
 {
     let line = log
@@ -113,8 +125,11 @@ fn take_back_line<D: Devices>(log: &Log, dev: &mut D, offset: u64) -> Result<(),
     requires below { log.now.tail < 2 ^ 62 }
     requires framed { pages (sizes_of log.now.geometry) ≤ log.now.geometry.frames }
     requires fits { nvm_lines (sizes_of log.now.geometry) ≤ (D.standing dev.old).lines }
-    ensures takes { IsTrue (D.standing dev.old).told → TakesLine (sizes_of log.now.geometry) log.now.start offset (D.standing dev.old) (D.standing dev.new) result }
-    ensures cause { AbortCause (sizes_of log.now.geometry) log.now.start log.now.tail (D.standing dev.old) (D.standing dev.new) result }
+    ensures takes { IsTrue (D.standing dev.old).told
+        → TakesLine (sizes_of log.now.geometry) log.now.start offset (D.standing dev.old)
+        (D.standing dev.new) result }
+    ensures cause { AbortCause (sizes_of log.now.geometry) log.now.start log.now.tail
+        (D.standing dev.old) (D.standing dev.new) result }
     ensures goes { Goes (D.standing dev.old) (D.standing dev.new) }
 {
     let place = load_place(log, dev, offset)?;
@@ -129,9 +144,15 @@ fn take_back<D: Devices>(log: &Log, dev: &mut D, first: u64) -> Result<(), Stop>
     requires below { log.now.tail < 2 ^ 62 }
     requires framed { pages (sizes_of log.now.geometry) ≤ log.now.geometry.frames }
     requires fits { nvm_lines (sizes_of log.now.geometry) ≤ (D.standing dev.old).lines }
-    ensures takes { IsTrue (D.standing dev.old).told → TakesBack (sizes_of log.now.geometry) log.now.start log.now.tail first ((log.now.tail - first) / 3) 0 (D.standing dev.old) (D.standing dev.new) result }
-    ensures log { IsTrue (D.standing dev.old).told → OnOk result (SameLog (sizes_of log.now.geometry) log.now.start (D.standing dev.old) (D.standing dev.new)) }
-    ensures cause { AbortCause (sizes_of log.now.geometry) log.now.start log.now.tail (D.standing dev.old) (D.standing dev.new) result }
+    ensures takes { IsTrue (D.standing dev.old).told
+        → TakesBack (sizes_of log.now.geometry) log.now.start log.now.tail first
+        ((log.now.tail - first) / 3) 0 (D.standing dev.old) (D.standing dev.new) result }
+    ensures log { IsTrue (D.standing dev.old).told
+        → OnOk result
+        (SameLog (sizes_of log.now.geometry) log.now.start (D.standing dev.old)
+        (D.standing dev.new)) }
+    ensures cause { AbortCause (sizes_of log.now.geometry) log.now.start log.now.tail
+        (D.standing dev.old) (D.standing dev.new) result }
     ensures goes { Goes (D.standing dev.old) (D.standing dev.new) }
 {
     let records = (log.tail - first) / 3;
@@ -147,9 +168,11 @@ fn end_abort<D: Devices>(log: &mut Log, dev: &mut D) -> Result<(), Stop>
     requires below { log.old.tail < 2 ^ 62 }
     requires fits { nvm_lines (sizes_of log.old.geometry) ≤ (D.standing dev.old).lines }
     ensures moved { IsMoved log.old log.new 1 result }
-    ensures makes { MakesAll (append_calls (sizes_of log.old.geometry) log.old.tail abort_lines) (D.standing dev.old) (D.standing dev.new) result }
+    ensures makes { MakesAll (append_calls (sizes_of log.old.geometry) log.old.tail abort_lines)
+        (D.standing dev.old) (D.standing dev.new) result }
     ensures stops { IfErr result IsNvm }
-    ensures cause { AbortCause (sizes_of log.old.geometry) log.old.start log.old.tail (D.standing dev.old) (D.standing dev.new) result }
+    ensures cause { AbortCause (sizes_of log.old.geometry) log.old.start log.old.tail
+        (D.standing dev.old) (D.standing dev.new) result }
     ensures goes { Goes (D.standing dev.old) (D.standing dev.new) }
 {
     match log.end(dev, EndKind::Abort) {
@@ -170,10 +193,13 @@ pub(crate) fn undo<D: Devices>(log: &mut Log, dev: &mut D, first: u64) -> Result
 
     // What it does to the log in memory, and to an open store.
     ensures moved { IsMoved log.old log.new 1 result }
-    ensures aborts { IsTrue (D.standing dev.old).told → Aborts (sizes_of log.old.geometry) log.old.start log.old.tail first (D.standing dev.old) (D.standing dev.new) result }
+    ensures aborts { IsTrue (D.standing dev.old).told
+        → Aborts (sizes_of log.old.geometry) log.old.start log.old.tail first (D.standing dev.old)
+        (D.standing dev.new) result }
 
     // Why it stops.
-    ensures cause { AbortCause (sizes_of log.old.geometry) log.old.start log.old.tail (D.standing dev.old) (D.standing dev.new) result }
+    ensures cause { AbortCause (sizes_of log.old.geometry) log.old.start log.old.tail
+        (D.standing dev.old) (D.standing dev.new) result }
 
     // What stays, however far it gets.
     ensures goes { Goes (D.standing dev.old) (D.standing dev.new) }

@@ -30,8 +30,11 @@ impl Book {
         requires room { 1 ≤ self.old.room }
         requires is_line { IsLine value.now }
         ensures written { IsWritten page line self.old self.new result }
-        ensures held { IsTrue (D.standing dev.old).told → IsSteady self.old (D.standing dev.old) → HoldsAlong (book_sizes self.old) (D.standing dev.old) (D.standing dev.new) }
-        ensures makes { MakesAll (write_calls (book_sizes self.old) self.old.log.tail page line value.now (now (D.standing dev.old))) (D.standing dev.old) (D.standing dev.new) result }
+        ensures held { IsTrue (D.standing dev.old).told → IsSteady self.old (D.standing dev.old)
+            → HoldsAlong (book_sizes self.old) (D.standing dev.old) (D.standing dev.new) }
+        ensures makes { MakesAll
+            (write_calls (book_sizes self.old) self.old.log.tail page line value.now
+            (now (D.standing dev.old))) (D.standing dev.old) (D.standing dev.new) result }
         ensures cause { NvmCause (D.standing dev.old) (D.standing dev.new) result }
         ensures goes { Goes (D.standing dev.old) (D.standing dev.new) }
     {
@@ -54,7 +57,9 @@ impl Book {
         requires line { change.now.line < 64 }
         requires room { 1 ≤ self.old.room }
         ensures written { IsWritten change.now.page change.now.line self.old self.new result }
-        ensures makes { MakesAll (append_calls (book_sizes self.old) self.old.log.tail (record_lines change.now)) (D.standing dev.old) (D.standing dev.new) result }
+        ensures makes { MakesAll
+            (append_calls (book_sizes self.old) self.old.log.tail (record_lines change.now))
+            (D.standing dev.old) (D.standing dev.new) result }
         ensures cause { NvmCause (D.standing dev.old) (D.standing dev.new) result }
         ensures goes { Goes (D.standing dev.old) (D.standing dev.new) }
     {

@@ -52,7 +52,8 @@ fn scattered(i: u64) -> u64 {
 /// The row that a search in a leaf found, or else where it would stand.
 fn found_place(spot: Spot, expect: &Expect) -> Result<usize, usize>
     requires { expect.now.level ≡ 0 }
-    ensures { (bytes : List ℕ) (key : ℕ) → IsSafeSpot expect.now key spot → IsSpot bytes expect.now key spot → IsFound bytes expect.now key result }
+    ensures { (bytes : List ℕ) (key : ℕ) → IsSafeSpot expect.now key spot
+        → IsSpot bytes expect.now key spot → IsFound bytes expect.now key result }
 {
     match spot {
         Spot::Row(at) => Ok(at),

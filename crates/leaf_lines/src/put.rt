@@ -104,7 +104,7 @@ fn insert_row<P: Pages>(
 
 /// Where the record of a slot stands, and how long it is.
 #[derive(Clone, Copy)]
-pub struct Place {
+pub struct RecordSpan {
     /// Its first byte.
     pub place: usize,
     /// How many bytes it has.
@@ -112,7 +112,7 @@ pub struct Place {
 }
 
 /// Reads a slot of a page whose access is open.
-fn read_slot<P: Pages>(pages: &mut P, page: u64, at: usize) -> Result<Place, Stop>
+fn read_slot<P: Pages>(pages: &mut P, page: u64, at: usize) -> Result<RecordSpan, Stop>
     requires ready { P.is_ready pages.old }
     requires page { page < (P.standing pages.old).count }
     requires open { (P.standing pages.old).access ≡ Some (page, false) }
@@ -133,11 +133,11 @@ fn read_slot<P: Pages>(pages: &mut P, page: u64, at: usize) -> Result<Place, Sto
 {
     let place = read_half(pages, page, 64 + 4 * at)? as usize;
     let size = read_half(pages, page, 64 + 4 * at + 2)? as usize;
-    Ok(Place { place, size })
+    Ok(RecordSpan { place, size })
 }
 
 /// Whether a record has a value of this length and stands behind its slot.
-fn has_length(at: usize, slot: &Place, more: usize) -> bool
+fn has_length(at: usize, slot: &RecordSpan, more: usize) -> bool
     requires at { at < 1008 }
     requires few { more ≤ 480 }
     requires small { slot.now.place < 65536 }
@@ -153,7 +153,7 @@ fn has_length(at: usize, slot: &Place, more: usize) -> bool
 
 /// Whether a row can get another record below the heap's start: it is one of so many, there is room, and the leaf stays as full
 /// as it has to be.
-fn can_swap(at: usize, count: u64, heap: u64, slot: &Place, more: usize, root: bool) -> bool
+fn can_swap(at: usize, count: u64, heap: u64, slot: &RecordSpan, more: usize, root: bool) -> bool
     requires at { at < 1008 }
     requires few { more ≤ 480 }
     requires small_size { slot.now.size < 65536 }

@@ -11,7 +11,8 @@ use nvm_model::Line;
 /// `standing` is all that contracts see of it at one moment. A value that is ready may be called; it is ready again after
 /// `rest` and after each `Ok`, and after a `Stop` no further call is made on it. `is_steady` says that it is known what
 /// recovery would give, and `may_leave moment lines` that a crash at that moment may leave what recovers to these lines:
-/// where it is steady and told, these are the committed lines at each moment of a call, whatever it answers.
+/// where it is steady and told, these are the committed lines at each moment of a call, whatever it answers, and where it
+/// is ready too, at the present one.
 ///
 /// An access begins at the first call on a page after a call on another page, at a change between reading and writing,
 /// and at the first call after `rest`. `Nvm` and `Ssd` come only where that count of faults rose, `Damaged` never.
@@ -41,7 +42,8 @@ pub trait Pages {
             (standing self.old) (standing self.new) result }
         ensures reads { Reads page line (standing self.old) (standing self.new) result }
         ensures cause { HasCause Never (standing self.old) (standing self.new) result }
-        ensures value { IsTrue (standing self.old).told → IfOk result (λ found. found ≡ (standing self.old).current page line) }
+        ensures value { IsTrue (standing self.old).told
+            → IfOk result (λ found. found ≡ (standing self.old).current page line) }
         ensures is_line { IfOk result IsLine };
 
     /// Changes that one line, and lowers the room by one.
@@ -63,4 +65,8 @@ pub trait Pages {
             (is_steady self.old) (is_steady self.new) (is_ready self.new)
             (standing self.old) (standing self.new) (Ok (tt {0})) }
         ensures rests { Rests (standing self.old) (standing self.new) };
+
+    ghost left_now: { (pages : Self) → is_ready pages → is_steady pages
+        → IsTrue (standing pages).told → (lines : Lines)
+        → may_leave pages (standing pages).clock lines → lines ≡ (standing pages).committed };
 }

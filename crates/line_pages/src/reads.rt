@@ -18,10 +18,14 @@ pub fn copy_page<P: Pages>(pages: &mut P, page: u64, into: &mut PageBuf) -> Resu
     requires ready { P.is_ready pages.old }
     requires page { page < (P.standing pages.old).count }
     ensures call { PagesCall P.Pages pages.old pages.new result }
-    ensures bytes { IsTrue (P.standing pages.old).told → OnOk result (into.new ≡ bytes_of (P.standing pages.old).current page) }
+    ensures bytes { IsTrue (P.standing pages.old).told
+        → OnOk result (into.new ≡ bytes_of (P.standing pages.old).current page) }
     ensures reads { OnOk result (ReadsPage page (P.standing pages.old) (P.standing pages.new)) }
-    ensures lines { OnOk result (AddsLines (λ lines. lines ≡ lines_from 0 64) (P.standing pages.old) (P.standing pages.new)) }
-    ensures again { begins (P.standing pages.old).access page false ≡ false → (P.standing pages.new).visits ≤ (P.standing pages.old).visits }
+    ensures lines { OnOk result
+        (AddsLines (λ lines. lines ≡ lines_from 0 64) (P.standing pages.old)
+        (P.standing pages.new)) }
+    ensures again { begins (P.standing pages.old).access page false ≡ false
+        → (P.standing pages.new).visits ≤ (P.standing pages.old).visits }
     ensures few { (P.standing pages.new).visits ≤ (P.standing pages.old).visits + 1 }
     ensures cause { HasCause Never (P.standing pages.old) (P.standing pages.new) result }
 {
@@ -41,10 +45,15 @@ pub fn read_word<P: Pages>(pages: &mut P, page: u64, place: usize) -> Result<u64
     requires page { page < (P.standing pages.old).count }
     requires place { place + 8 ≤ 4096 }
     ensures call { PagesCall P.Pages pages.old pages.new result }
-    ensures value { IsTrue (P.standing pages.old).told → IfOk result (λ number. number ≡ u64_at (bytes_of (P.standing pages.old).current page) place) }
+    ensures value { IsTrue (P.standing pages.old).told
+        → IfOk result
+        (λ number. number ≡ u64_at (bytes_of (P.standing pages.old).current page) place) }
     ensures reads { OnOk result (ReadsPage page (P.standing pages.old) (P.standing pages.new)) }
-    ensures lines { OnOk result (AddsLines (λ lines. lines ≡ lines_of place 8) (P.standing pages.old) (P.standing pages.new)) }
-    ensures again { begins (P.standing pages.old).access page false ≡ false → (P.standing pages.new).visits ≤ (P.standing pages.old).visits }
+    ensures lines { OnOk result
+        (AddsLines (λ lines. lines ≡ lines_of place 8) (P.standing pages.old)
+        (P.standing pages.new)) }
+    ensures again { begins (P.standing pages.old).access page false ≡ false
+        → (P.standing pages.new).visits ≤ (P.standing pages.old).visits }
     ensures few { (P.standing pages.new).visits ≤ (P.standing pages.old).visits + 1 }
     ensures cause { HasCause Never (P.standing pages.old) (P.standing pages.new) result }
 {
@@ -69,10 +78,15 @@ pub fn read_half<P: Pages>(pages: &mut P, page: u64, place: usize) -> Result<u16
     requires place { place < 4096 }
     requires in_word { place % 8 ≤ 6 }
     ensures call { PagesCall P.Pages pages.old pages.new result }
-    ensures value { IsTrue (P.standing pages.old).told → IfOk result (λ number. number ≡ u16_at (bytes_of (P.standing pages.old).current page) place) }
+    ensures value { IsTrue (P.standing pages.old).told
+        → IfOk result
+        (λ number. number ≡ u16_at (bytes_of (P.standing pages.old).current page) place) }
     ensures reads { OnOk result (ReadsPage page (P.standing pages.old) (P.standing pages.new)) }
-    ensures lines { OnOk result (AddsLines (λ lines. lines ≡ lines_of place 2) (P.standing pages.old) (P.standing pages.new)) }
-    ensures again { begins (P.standing pages.old).access page false ≡ false → (P.standing pages.new).visits ≤ (P.standing pages.old).visits }
+    ensures lines { OnOk result
+        (AddsLines (λ lines. lines ≡ lines_of place 2) (P.standing pages.old)
+        (P.standing pages.new)) }
+    ensures again { begins (P.standing pages.old).access page false ≡ false
+        → (P.standing pages.new).visits ≤ (P.standing pages.old).visits }
     ensures few { (P.standing pages.new).visits ≤ (P.standing pages.old).visits + 1 }
     ensures cause { HasCause Never (P.standing pages.old) (P.standing pages.new) result }
 {

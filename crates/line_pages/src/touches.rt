@@ -38,7 +38,14 @@ impl Touches {
 
     /// Those before, and this one.
     pub(crate) fn with(_before: &Touches, _mark: &Mark) -> Touches
-        ensures { result.list ≡ _before.now.list ++ record { page = _mark.now.page; line = _mark.now.line; writes = _mark.now.writes; begins = _mark.now.begins } ∷ [] }
+        ensures { result.list
+            ≡ _before.now.list
+            ++ record {
+              page = _mark.now.page;
+              line = _mark.now.line;
+              writes = _mark.now.writes;
+              begins = _mark.now.begins;
+            } ∷ [] }
     {
         Touches {}
     }
@@ -68,7 +75,8 @@ impl Accesses {
     /// Touches a line, in the open access or in one that it begins.
     pub fn touch(&mut self, page: u64, line: usize, writes: bool)
         ensures access { self.new.open_access ≡ Some (page, writes) }
-        ensures touches { self.new.touches.list ≡ self.old.touches.list ++ touch_of self.old.open_access page line writes ∷ [] }
+        ensures touches { self.new.touches.list
+            ≡ self.old.touches.list ++ touch_of self.old.open_access page line writes ∷ [] }
     {
         let begins = match self.open_access {
             Some((open_page, open_writes)) => open_page != page || open_writes != writes,

@@ -90,4 +90,6 @@ impl Pages for VecPages {
     fn rest(&mut self) {
         self.accesses.end();
     }
+
+    ghost left_now = { λ pages ready steady told lines left. left };
 }

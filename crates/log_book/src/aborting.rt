@@ -32,8 +32,10 @@ impl LogBook {
         requires within { end ≤ self.now.log.tail }
         requires fits { nvm_lines (book_sizes self.now) ≤ (D.standing dev.old).lines }
         requires blocks { ssd_blocks (book_sizes self.now) ≤ (D.standing dev.old).blocks }
-        ensures found { IfOk result (IsBack self.now.log self.now.first end (D.standing dev.old) (D.standing dev.new)) }
-        ensures cause { BackCause self.now.log (end - 3) (D.standing dev.old) (D.standing dev.new) result }
+        ensures found { IfOk result
+            (IsBack self.now.log self.now.first end (D.standing dev.old) (D.standing dev.new)) }
+        ensures cause { BackCause self.now.log (end - 3) (D.standing dev.old)
+            (D.standing dev.new) result }
         ensures goes { Goes (D.standing dev.old) (D.standing dev.new) }
         ensures leads { UndoesFor (book_sizes self.now)
             (λ t. BackIn end t (data_of self.now)) (λ t. ReadBackIn result t (data_of self.now))
@@ -45,7 +47,8 @@ impl LogBook {
     /// Ends the open group as an abort, behind its records, all of which were taken back. The ring in NVM has a free line. `Nvm` where
     /// that count of faults rose; no further call is made then.
     pub fn end_abort<D: Devices>(&mut self, dev: &mut D) -> Result<(), Stop>
-        requires room { self.old.log.written + 1 ≤ self.old.log.drained + ring_lines (book_sizes self.old) }
+        requires room { self.old.log.written + 1
+            ≤ self.old.log.drained + ring_lines (book_sizes self.old) }
         requires below { self.old.log.written < 2 ^ 62 }
         requires fits { nvm_lines (book_sizes self.old) ≤ (D.standing dev.old).lines }
         ensures becomes { Becomes (group_closed (data_of self.old)) self.old self.new result }

@@ -44,14 +44,18 @@ impl LogBook {
         requires page { change.now.page < pages (book_sizes self.old) }
         requires line { change.now.line < 64 }
         requires marks { pages (book_sizes self.old) ≤ pages_of self.old.loose }
-        requires room { self.old.log.written + 3 ≤ self.old.log.drained + ring_lines (book_sizes self.old) }
+        requires room { self.old.log.written + 3
+            ≤ self.old.log.drained + ring_lines (book_sizes self.old) }
         requires below { self.old.log.written < 2 ^ 62 }
         requires fits { nvm_lines (book_sizes self.old) ≤ (D.standing dev.old).lines }
         ensures stays { OnErr result (SameRange self.old.log self.new.log) }
         ensures start { self.new.log.start ≡ self.old.log.start }
-        ensures becomes { Becomes (with_record change.now.page change.now.line (data_of self.old)) self.old self.new result }
+        ensures becomes { Becomes
+            (with_record change.now.page change.now.line (data_of self.old)) self.old self.new
+            result }
         ensures leads { ForTiers (book_sizes self.old) HeldGoal
-            (λ t. ReadyIn change.now.page change.now.line (Ok change.now.before) t (data_of self.old))
+            (λ t. ReadyIn change.now.page change.now.line (Ok change.now.before) t
+            (data_of self.old))
             (λ t. RecordedIn change.now.page change.now.line change.now.after t (data_of self.new))
             (D.standing dev.old) (D.standing dev.new) result }
     {

@@ -17,12 +17,14 @@ impl LogBook {
     /// Makes all that waits part of the log, and drains blocks while one stands whole in the ring in NVM: fewer than 64 lines stand
     /// there then. `Nvm` and `Ssd` where that count of faults rose; no further call is made then.
     pub fn drain<D: Devices>(&mut self, dev: &mut D) -> Result<(), Stop>
-        requires stands { self.old.log.written ≤ floor64 self.old.log.start + 64 * ring_blocks (book_sizes self.old) }
+        requires stands { self.old.log.written
+            ≤ floor64 self.old.log.start + 64 * ring_blocks (book_sizes self.old) }
         requires fits { nvm_lines (book_sizes self.old) ≤ (D.standing dev.old).lines }
         requires blocks { ssd_blocks (book_sizes self.old) ≤ (D.standing dev.old).blocks }
         ensures same { SameSizes self.old self.new }
         ensures range { SameRange self.old.log self.new.log }
-        ensures more { OnOk result (MoreDrained (all_hardened (data_of self.old)) (data_of self.new)) }
+        ensures more { OnOk result
+            (MoreDrained (all_hardened (data_of self.old)) (data_of self.new)) }
         ensures few { OnOk result (self.new.log.tail < self.new.log.drained + 64) }
         ensures open { KeepsOpen (book_sizes self.old) (data_of self.old) (data_of self.new)
             (D.standing dev.old) (D.standing dev.new) result }
@@ -35,12 +37,15 @@ impl LogBook {
     /// that count of faults rose; no further call is made then.
     pub fn make_room<D: Devices>(&mut self, dev: &mut D, lines: u64) -> Result<(), Stop>
         requires lines { lines ≤ 64 }
-        requires stands { self.old.log.written ≤ floor64 self.old.log.start + 64 * ring_blocks (book_sizes self.old) }
+        requires stands { self.old.log.written
+            ≤ floor64 self.old.log.start + 64 * ring_blocks (book_sizes self.old) }
         requires fits { nvm_lines (book_sizes self.old) ≤ (D.standing dev.old).lines }
         requires blocks { ssd_blocks (book_sizes self.old) ≤ (D.standing dev.old).blocks }
         ensures same { SameSizes self.old self.new }
         ensures range { SameRange self.old.log self.new.log }
-        ensures room { OnOk result (self.new.log.written + lines ≤ self.new.log.drained + ring_lines (book_sizes self.old)) }
+        ensures room { OnOk result
+            (self.new.log.written + lines
+            ≤ self.new.log.drained + ring_lines (book_sizes self.old)) }
         ensures more { OnOk result (RoomMade (data_of self.old) (data_of self.new)) }
         ensures open { KeepsOpen (book_sizes self.old) (data_of self.old) (data_of self.new)
             (D.standing dev.old) (D.standing dev.new) result }
@@ -54,7 +59,8 @@ impl LogBook {
     /// Drains blocks while one stands whole in the ring in NVM. Nothing waits.
     fn drain_hard<D: Devices>(&mut self, dev: &mut D) -> Result<(), Stop>
         requires nothing { self.old.log.written ≡ self.old.log.tail }
-        requires stands { self.old.log.written ≤ floor64 self.old.log.start + 64 * ring_blocks (book_sizes self.old) }
+        requires stands { self.old.log.written
+            ≤ floor64 self.old.log.start + 64 * ring_blocks (book_sizes self.old) }
         requires fits { nvm_lines (book_sizes self.old) ≤ (D.standing dev.old).lines }
         requires blocks { ssd_blocks (book_sizes self.old) ≤ (D.standing dev.old).blocks }
         ensures same { SameSizes self.old self.new }
@@ -74,7 +80,8 @@ impl LogBook {
     fn drain_some<D: Devices>(&mut self, dev: &mut D) -> Result<(), Stop>
         requires nothing { self.old.log.written ≡ self.old.log.tail }
         requires some { self.old.log.drained + 64 ≤ self.old.log.tail }
-        requires stands { self.old.log.written ≤ floor64 self.old.log.start + 64 * ring_blocks (book_sizes self.old) }
+        requires stands { self.old.log.written
+            ≤ floor64 self.old.log.start + 64 * ring_blocks (book_sizes self.old) }
         requires fits { nvm_lines (book_sizes self.old) ≤ (D.standing dev.old).lines }
         requires blocks { ssd_blocks (book_sizes self.old) ≤ (D.standing dev.old).blocks }
         ensures same { SameSizes self.old self.new }

@@ -17,7 +17,8 @@ impl LogBook {
     /// Ends the open group as a commit, with all that waits: its lines are the committed ones then. The ring in NVM has a free line. `Nvm`
     /// where that count of faults rose; then the group may stand or not.
     pub fn commit<D: Devices>(&mut self, dev: &mut D) -> Result<(), Stop>
-        requires room { self.old.log.written + 1 ≤ self.old.log.drained + ring_lines (book_sizes self.old) }
+        requires room { self.old.log.written + 1
+            ≤ self.old.log.drained + ring_lines (book_sizes self.old) }
         requires below { self.old.log.written < 2 ^ 62 }
         requires fits { nvm_lines (book_sizes self.old) ≤ (D.standing dev.old).lines }
         ensures becomes { Becomes (group_closed (data_of self.old)) self.old self.new result }
@@ -37,7 +38,8 @@ impl LogBook {
         requires none_open { self.old.first ≡ self.old.log.written }
         requires fits { nvm_lines (book_sizes self.old) ≤ (D.standing dev.old).lines }
         ensures becomes { Becomes (made_empty (data_of self.old)) self.old self.new result }
-        ensures leads { Empties (book_sizes self.old) (data_of self.old) (data_of self.new) (D.standing dev.old) (D.standing dev.new) result }
+        ensures leads { Empties (book_sizes self.old) (data_of self.old) (data_of self.new)
+            (D.standing dev.old) (D.standing dev.new) result }
     {
         put_start(&mut self.log, dev)?;
         self.loose.clear();

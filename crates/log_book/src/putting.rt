@@ -23,7 +23,8 @@ pub(crate) fn put_record<D: Devices>(
     requires fits { nvm_lines (sizes_of log.old.geometry) ≤ (D.standing dev.old).lines }
     ensures lines { IsLine change.now.before × IsLine change.now.after }
     ensures moved { IsMoved log.old log.new (appended 3 (offsets_of log.old)) result }
-    ensures made { Made (append_makes log.old change.now) (D.standing dev.old) (D.standing dev.new) result }
+    ensures made { Made (append_makes log.old change.now) (D.standing dev.old)
+        (D.standing dev.new) result }
     ensures stays { OnErr result (SameRange log.old log.new) }
     ensures start { log.new.start ≡ log.old.start }
 {

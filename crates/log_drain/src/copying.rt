@@ -24,7 +24,8 @@ pub(crate) fn load<D: Devices>(dev: &mut D, line: u64) -> Result<Line, Stop>
     ensures stays { Stays (D.standing dev.old) (D.standing dev.new) }
     ensures cause { StopCause (D.standing dev.old) (D.standing dev.new) result }
     ensures reads { (D.standing dev.new).block_reads ≡ (D.standing dev.old).block_reads }
-    ensures value { IsTrue (D.standing dev.old).told → IfOk result (λ found. found ≡ line_at (now (D.standing dev.old)) line) }
+    ensures value { IsTrue (D.standing dev.old).told
+        → IfOk result (λ found. found ≡ line_at (now (D.standing dev.old)) line) }
 {
     match dev.load(line) {
         Ok(found) => Ok(found),
@@ -62,7 +63,8 @@ fn load_block<D: Devices>(
     ensures cause { StopCause (D.standing dev.old) (D.standing dev.new) result }
     ensures reads { (D.standing dev.new).block_reads ≡ (D.standing dev.old).block_reads }
     ensures value { IsTrue (D.standing dev.old).told
-        → OnOk result (AreLoaded (sizes_of geometry.now) offset 64 into.new (now (D.standing dev.old))) }
+        → OnOk result
+        (AreLoaded (sizes_of geometry.now) offset 64 into.new (now (D.standing dev.old))) }
 {
     for line in 0..64usize {
         let found = load(dev, geometry.ring_line(offset + line as u64))?;
@@ -80,7 +82,8 @@ fn copy_block<D: Devices>(geometry: &Geometry, dev: &mut D, offset: u64) -> Resu
     ensures goes { Goes (D.standing dev.old) (D.standing dev.new) }
     ensures cause { StopCause (D.standing dev.old) (D.standing dev.new) result }
     ensures reads { (D.standing dev.new).block_reads ≡ (D.standing dev.old).block_reads }
-    ensures copies { Copies (sizes_of geometry.now) offset 1 (D.standing dev.old) (D.standing dev.new) result }
+    ensures copies { Copies (sizes_of geometry.now) offset 1 (D.standing dev.old)
+        (D.standing dev.new) result }
 {
     let mut bytes = PageBuf::zero();
     load_block(geometry, dev, offset, &mut bytes)?;
@@ -101,7 +104,8 @@ pub(crate) fn copy_blocks<D: Devices>(
     ensures goes { Goes (D.standing dev.old) (D.standing dev.new) }
     ensures cause { StopCause (D.standing dev.old) (D.standing dev.new) result }
     ensures reads { (D.standing dev.new).block_reads ≡ (D.standing dev.old).block_reads }
-    ensures copies { Copies (sizes_of geometry.now) offset count (D.standing dev.old) (D.standing dev.new) result }
+    ensures copies { Copies (sizes_of geometry.now) offset count (D.standing dev.old)
+        (D.standing dev.new) result }
 {
     for block in 0..count {
         copy_block(geometry, dev, offset + BLOCK_LINES * block)?;

@@ -22,13 +22,15 @@ const DRAINED_LINE: u64 = 2;
 /// made then.
 pub fn drain_block<D: Devices>(log: &mut Log, dev: &mut D) -> Result<(), Stop>
     requires lines { log.old.drained + 64 ≤ log.old.tail }
-    requires room { log.old.drained + 64 ≤ floor64 log.old.start + 64 * ring_blocks (sizes_of log.old.geometry) }
+    requires room { log.old.drained + 64
+        ≤ floor64 log.old.start + 64 * ring_blocks (sizes_of log.old.geometry) }
     requires fits { nvm_lines (sizes_of log.old.geometry) ≤ (D.standing dev.old).lines }
     requires blocks { ssd_blocks (sizes_of log.old.geometry) ≤ (D.standing dev.old).blocks }
 
     // What it does to the log in memory, to the devices, and to the log of every image.
     ensures moved { IsMoved log.old log.new (raised 1 (offsets_of log.old)) result }
-    ensures makes { Drains log.old 1 log.new.drained (D.standing dev.old) (D.standing dev.new) result }
+    ensures makes { Drains log.old 1 log.new.drained (D.standing dev.old)
+        (D.standing dev.new) result }
     ensures lines { DrainLines log.old log.new (D.standing dev.old) (D.standing dev.new) result }
 
     // Why it fails.
@@ -50,7 +52,8 @@ pub fn drain_blocks<D: Devices>(log: &mut Log, dev: &mut D, most: u64) -> Result
 
     // What it does to the log in memory, to the devices, and to the log of every image.
     ensures moved { MovesBlocks log.old log.new most result }
-    ensures makes { Drains log.old (drainable most log.old) log.new.drained (D.standing dev.old) (D.standing dev.new) result }
+    ensures makes { Drains log.old (drainable most log.old) log.new.drained (D.standing dev.old)
+        (D.standing dev.new) result }
     ensures nothing { drainable most log.old ≡ 0 → D.standing dev.new ≡ D.standing dev.old }
     ensures lines { DrainLines log.old log.new (D.standing dev.old) (D.standing dev.new) result }
 
@@ -59,7 +62,8 @@ pub fn drain_blocks<D: Devices>(log: &mut Log, dev: &mut D, most: u64) -> Result
 
     // What stays, however far it gets.
     ensures goes { Goes (D.standing dev.old) (D.standing dev.new) }
-    ensures keeps { DrainKeeps log.old (drainable most log.old) log.new (D.standing dev.old) (D.standing dev.new) result }
+    ensures keeps { DrainKeeps log.old (drainable most log.old) log.new (D.standing dev.old)
+        (D.standing dev.new) result }
 {
     let count = drainable(log, most);
     if count == 0 {
@@ -109,16 +113,19 @@ fn raise<D: Devices>(dev: &mut D, drained: u64) -> Result<(), Stop>
 fn drain<D: Devices>(log: &mut Log, dev: &mut D, count: u64) -> Result<(), Stop>
     requires some { 0 < count }
     requires lines { log.old.drained + 64 * count ≤ log.old.tail }
-    requires room { log.old.drained + 64 * count ≤ floor64 log.old.start + 64 * ring_blocks (sizes_of log.old.geometry) }
+    requires room { log.old.drained + 64 * count
+        ≤ floor64 log.old.start + 64 * ring_blocks (sizes_of log.old.geometry) }
     requires few { count ≤ ring_blocks (sizes_of log.old.geometry) }
     requires fits { nvm_lines (sizes_of log.old.geometry) ≤ (D.standing dev.old).lines }
     requires blocks { ssd_blocks (sizes_of log.old.geometry) ≤ (D.standing dev.old).blocks }
     ensures moved { IsMoved log.old log.new (raised count (offsets_of log.old)) result }
-    ensures makes { Drains log.old count log.new.drained (D.standing dev.old) (D.standing dev.new) result }
+    ensures makes { Drains log.old count log.new.drained (D.standing dev.old)
+        (D.standing dev.new) result }
     ensures lines { DrainLines log.old log.new (D.standing dev.old) (D.standing dev.new) result }
     ensures cause { StopCause (D.standing dev.old) (D.standing dev.new) result }
     ensures goes { Goes (D.standing dev.old) (D.standing dev.new) }
-    ensures keeps { DrainKeeps log.old count log.new (D.standing dev.old) (D.standing dev.new) result }
+    ensures keeps { DrainKeeps log.old count log.new (D.standing dev.old)
+        (D.standing dev.new) result }
 {
     prove!(log.drained <= log.tail);
     let drained = log.drained + BLOCK_LINES * count;

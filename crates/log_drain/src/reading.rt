@@ -16,8 +16,10 @@ use ssd_model::PageBuf;
 /// How many lines can still be stored before the start moves: from `written` on, as far as the ring on the SSD takes, from the
 /// block of the start on.
 pub fn room(log: &Log) -> u64
-    requires { log.now.written ≤ floor64 log.now.start + 64 * ring_blocks (sizes_of log.now.geometry) }
-    ensures { result ≡ floor64 log.now.start + 64 * ring_blocks (sizes_of log.now.geometry) - log.now.written }
+    requires { log.now.written
+        ≤ floor64 log.now.start + 64 * ring_blocks (sizes_of log.now.geometry) }
+    ensures { result
+        ≡ floor64 log.now.start + 64 * ring_blocks (sizes_of log.now.geometry) - log.now.written }
 {
     let floor = log.start / 64 * 64;
     64 * log.geometry.ring_blocks() - (log.written - floor)

@@ -64,8 +64,10 @@ pub fn record(number: u64) -> LineRecord {
 
 /// Whether a device has room for the store.
 fn fits<D: Devices>(log: &Log, dev: &D) -> bool
-    ensures nvm { result ≡ true → nvm_lines (sizes_of log.now.geometry) ≤ (D.standing dev.now).lines }
-    ensures ssd { result ≡ true → ssd_blocks (sizes_of log.now.geometry) ≤ (D.standing dev.now).blocks }
+    ensures nvm { result ≡ true
+        → nvm_lines (sizes_of log.now.geometry) ≤ (D.standing dev.now).lines }
+    ensures ssd { result ≡ true
+        → ssd_blocks (sizes_of log.now.geometry) ≤ (D.standing dev.now).blocks }
 {
     log.geometry.nvm_lines() <= dev.nvm_lines() && log.geometry.ssd_blocks() <= dev.ssd_blocks()
 }

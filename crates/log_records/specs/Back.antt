@@ -15,7 +15,7 @@ use Rattle.store_model.specs.Recovered.{log_line}
 use Rattle.nvm_layout.specs.Sizes.{sizes_of}
 use Rattle.nvm_log.specs.declared.log.Log.{Log}
 use Rattle.log_records.specs.Heads.{Headed, HeadsOf, AreOfStore}
-use Rattle.log_records.specs.declared.back.Place.{Place}
+use Rattle.log_records.specs.declared.back.PageLine.{PageLine}
 use Rattle.log_records.specs.declared.back.BeforeImage.{BeforeImage}
 
 -- the log lines that reads give, out of the ring in which each stands
@@ -31,7 +31,7 @@ record_check g head =
     else None
 
 -- the head of a record names this line of the store
-pub record NamesPlace (g : Sizes) (head : Line) (place : Place) : Type 0 where
+pub record NamesPlace (g : Sizes) (head : Line) (place : PageLine) : Type 0 where
   pub passes : record_check g head ≡ None
   pub page : word_in head 1 ≡ place.page
   pub line : word_in head 2 ≡ place.line
@@ -39,7 +39,7 @@ pub record NamesPlace (g : Sizes) (head : Line) (place : Place) : Type 0 where
   pub line_in : place.line < 64
 
 -- a head is read where no check fails, and else the first that fails is told
-abbrev pub IsPlace : Sizes → Line → Result Place ℕ → Type 0
+abbrev pub IsPlace : Sizes → Line → Result PageLine ℕ → Type 0
 IsPlace g head (Ok place) = NamesPlace g head place
 IsPlace g head (Err check) = record_check g head ≡ Some check
 
@@ -68,7 +68,7 @@ abbrev pub counted : Log → ℕ → ℕ → ℕ
 counted log offset count = if nat_lt offset log.drained then min (count + 1) last_count else count
 
 -- what is found at the head of a record, and whether a block was read for it
-pub record FindsPlace {E : Type 0} (log : Log) (head : ℕ) (old new : Standing) (result : Result Place E) : Type 0 where
+pub record FindsPlace {E : Type 0} (log : Log) (head : ℕ) (old new : Standing) (result : Result PageLine E) : Type 0 where
   pub value : IsTrue old.told → IfOk result (NamesPlace (sizes_of log.geometry) (lines_now log old head))
   pub inside : IfOk result (λ place. (place.page < pages (sizes_of log.geometry)) × (place.line < 64))
   pub reads : OnOk result (new.block_reads ≡ counted log head old.block_reads)

@@ -17,7 +17,7 @@ const RECORD_LINES: u64 = 3;
 
 /// The line of a page that a record names.
 #[derive(Clone, Copy, Debug, PartialEq, Eq)]
-struct Place {
+struct PageLine {
     /// The number of the page.
     page: u64,
     /// The line of the page, from 0 to 63.
@@ -41,18 +41,18 @@ ghost use Rattle.log_records.specs.Back.{IsPlace, FindsPlace, BackCause, ReadsBa
 
 /// Reads a line as the head of a record. `Err` is the number of the first check that the line fails: 7 its kind is not that
 /// of a record; 8 its page is none of the store's, or its line not below 64.
-fn record_place(geometry: &Geometry, head: &Line) -> Result<Place, u8>
+fn record_place(geometry: &Geometry, head: &Line) -> Result<PageLine, u8>
     ensures { IsPlace (sizes_of geometry.now) head.now result }
 {
     match read_head(geometry, head) {
-        Ok(Head::Line { page, line }) => Ok(Place { page, line }),
+        Ok(Head::Line { page, line }) => Ok(PageLine { page, line }),
         Ok(Head::End(_)) => Err(7),
         Err(check) => Err(check),
     }
 }
 
 /// The line that the record with this head names.
-fn read_place<D: Devices>(log: &Log, dev: &mut D, head: u64) -> Result<Place, Stop>
+fn read_place<D: Devices>(log: &Log, dev: &mut D, head: u64) -> Result<PageLine, Stop>
     requires above { log.now.start ≤ head }
     requires below { head < log.now.tail }
     requires fits { nvm_lines (sizes_of log.now.geometry) ≤ (D.standing dev.old).lines }

@@ -110,8 +110,10 @@ pub fn opened<D: Devices>(dev: &mut D) -> Result<Log, Fail> {
 
 /// Whether a device has room for the store.
 fn fits<D: Devices>(log: &Log, dev: &D) -> bool
-    ensures nvm { result ≡ true → nvm_lines (sizes_of log.now.geometry) ≤ (D.standing dev.now).lines }
-    ensures ssd { result ≡ true → ssd_blocks (sizes_of log.now.geometry) ≤ (D.standing dev.now).blocks }
+    ensures nvm { result ≡ true
+        → nvm_lines (sizes_of log.now.geometry) ≤ (D.standing dev.now).lines }
+    ensures ssd { result ≡ true
+        → ssd_blocks (sizes_of log.now.geometry) ≤ (D.standing dev.now).blocks }
 {
     log.geometry.nvm_lines() <= dev.nvm_lines() && log.geometry.ssd_blocks() <= dev.ssd_blocks()
 }
@@ -154,8 +156,9 @@ pub fn drain<D: Devices>(log: &mut Log, dev: &mut D, most: u64) -> Result<u64, T
 /// Whether a whole block stands from `drained` on and has a place in the ring on the SSD.
 fn has_block(log: &Log) -> bool
     ensures lines { result ≡ true → log.now.drained + 64 ≤ log.now.tail }
-    ensures room { result ≡ true →
-        log.now.drained + 64 ≤ floor64 log.now.start + 64 * ring_blocks (sizes_of log.now.geometry) }
+    ensures room { result ≡ true
+        → log.now.drained + 64
+        ≤ floor64 log.now.start + 64 * ring_blocks (sizes_of log.now.geometry) }
 {
     if log.tail > LAST_OFFSET {
         return false;

@@ -168,8 +168,9 @@ impl MiniArena {
         requires mini { mini < length (minis_of self.now) }
         requires line { line < 64 }
         requires frame { frame < length (frames_of frames.old) }
-        ensures { let change = with_place line (line_at (mini_at (minis_of self.now) mini).places line) in
-            frames_of frames.new ≡ frame_changed frame change (frames_of frames.old) }
+        ensures { let change = with_place line
+            (line_at (mini_at (minis_of self.now) mini).places line)
+            in frames_of frames.new ≡ frame_changed frame change (frames_of frames.old) }
     {
         if let Some(value) = self.find(mini, line) {
             frames.set_line(frame, line, &value);

@@ -40,7 +40,9 @@ fn after(
 
 /// A world over what is left after so many events, with the last versions and the current bytes.
 fn resumed(first: &MemWorld, alloc: Global, events: u64) -> Result<MemWorld, Failed>
-    ensures { IfOk result (λ made. ((world made).lines ≡ (world first.now).lines) × ((world made).blocks ≡ (world first.now).blocks)) }
+    ensures { IfOk result
+        (λ made. ((world made).lines ≡ (world first.now).lines)
+        × ((world made).blocks ≡ (world first.now).blocks)) }
 {
     if events > first.events() {
         return Err(Failed);

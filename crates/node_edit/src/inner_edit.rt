@@ -73,11 +73,13 @@ fn insert_child(
     requires level { page_level left.old ≡ expect.now.level }
     requires at { at ≤ length (children_of left.old) }
     requires are { AreChildren expect.now (insert (children_of left.old) at (key, child)) }
-    ensures fits { Fits children_of expect.now left.new right.new (insert (children_of left.old) at (key, child)) result }
+    ensures fits { Fits children_of expect.now left.new right.new
+        (insert (children_of left.old) at (key, child)) result }
     ensures long { result ≢ fits.Short }
     ensures room { length (children_of left.old) < 240 → result ≡ fits.Whole }
     ensures parts { (k : ℕ) → result ≡ fits.Cut k
-        → CutsChildren (insert (children_of left.old) at (key, child)) (children_of left.new) (children_of right.new) k }
+        → CutsChildren (insert (children_of left.old) at (key, child)) (children_of left.new)
+        (children_of right.new) k }
 {
     top_of(expect);
     if children(left) < 240 {
@@ -103,11 +105,13 @@ pub fn inner_put(
     requires within { key ≤ expect.now.high }
     requires some { 1 ≤ child }
     requires below { child < expect.now.pages }
-    ensures fits { Fits children_of expect.now left.new right.new (child_put key child (children_of left.old)) result }
+    ensures fits { Fits children_of expect.now left.new right.new
+        (child_put key child (children_of left.old)) result }
     ensures long { result ≢ fits.Short }
     ensures room { entry_count left.old < 240 → result ≡ fits.Whole }
     ensures parts { (k : ℕ) → result ≡ fits.Cut k
-        → CutsChildren (child_put key child (children_of left.old)) (children_of left.new) (children_of right.new) k }
+        → CutsChildren (child_put key child (children_of left.old)) (children_of left.new)
+        (children_of right.new) k }
 {
     enter(left, expect);
     let at = child_at(left, key);
@@ -130,9 +134,15 @@ fn is_broad(page: &PageBuf, expect: &Expect) -> bool
 /// What became of an inner page that lost a child.
 fn inner_fit(page: &PageBuf, expect: &Expect) -> Fit
     requires branch { IsBranch page.now }
-    ensures fits { page_level page.now ≡ expect.now.level → (right : List ℕ) → begins_at expect.now.low (children_of page.now) ≡ true → Ascends expect.now.low expect.now.high (first_keys (children_of page.now)) → list_all (is_page_below expect.now.pages) (children_of page.now) ≡ true → 2 ≤ length (children_of page.now) → Fits children_of expect.now page.now right (children_of page.now) result }
+    ensures fits { page_level page.now ≡ expect.now.level → (right : List ℕ)
+        → begins_at expect.now.low (children_of page.now) ≡ true
+        → Ascends expect.now.low expect.now.high (first_keys (children_of page.now))
+        → list_all (is_page_below expect.now.pages) (children_of page.now) ≡ true
+        → 2 ≤ length (children_of page.now)
+        → Fits children_of expect.now page.now right (children_of page.now) result }
     ensures uncut { (key : ℕ) → result ≢ fits.Cut key }
-    ensures short { result ≡ fits.Short → (expect.now.root ≡ false) × (length (children_of page.now) < 80) }
+    ensures short { result ≡ fits.Short
+        → (expect.now.root ≡ false) × (length (children_of page.now) < 80) }
 {
     if is_broad(page, expect) {
         Fit::Whole
@@ -148,7 +158,8 @@ pub fn mend_joined(page: &mut PageBuf, expect: &Expect, pair: &Pair) -> Fit
     requires some { 3 ≤ entry_count page.old }
     ensures mended { Mended expect.now page.old page.new pair.now None result }
     ensures uncut { (k : ℕ) → result ≢ fits.Cut k }
-    ensures short { result ≡ fits.Short → (expect.now.root ≡ false) × (length (children_of page.new) < 80) }
+    ensures short { result ≡ fits.Short
+        → (expect.now.root ≡ false) × (length (children_of page.new) < 80) }
     ensures few { lines_changed page.old page.new ≤ 61 }
 {
     enter(page, expect);

@@ -93,7 +93,8 @@ fn leaf_fit(page: &PageBuf, expect: &Expect) -> Fit
     requires level { expect.now.level ≡ 0 }
     requires leaf { IsLeaf page.now }
     requires order { Ascends expect.now.low expect.now.high (keys (rows_of page.now)) }
-    ensures fits { (right : List ℕ) → Fits rows_of expect.now page.now right (rows_of page.now) result }
+    ensures fits { (right : List ℕ)
+        → Fits rows_of expect.now page.now right (rows_of page.now) result }
     ensures uncut { (key : ℕ) → result ≢ fits.Cut key }
     ensures short { result ≡ fits.Short → row_bytes (rows_of page.now) < 1344 }
     ensures whole { FitsLeaf (expect.now.root ≡ true) (rows_of page.now) → result ≡ fits.Whole }
@@ -117,14 +118,20 @@ fn insert_row(
     requires level { expect.now.level ≡ 0 }
     requires leaf { IsLeaf left.old }
     requires at { at ≤ length (rows_of left.old) }
-    requires order { Ascends expect.now.low expect.now.high (keys (insert (rows_of left.old) at (key, value.now))) }
+    requires order { Ascends expect.now.low expect.now.high
+        (keys (insert (rows_of left.old) at (key, value.now))) }
     requires few { length value.now ≤ 480 }
     requires printable { list_all is_printable value.now ≡ true }
-    ensures fits { Fits rows_of expect.now left.new right.new (insert (rows_of left.old) at (key, value.now)) result }
-    ensures few { result ≡ fits.Short → (base : List ℕ) → length base ≡ 4096 → Same (64 + 4 * (entry_count left.old + 1)) 4096 base left.old → lines_changed base left.new ≤ 33 }
-    ensures whole { FitsLeaf (expect.now.root ≡ true) (insert (rows_of left.old) at (key, value.now)) → result ≡ fits.Whole }
+    ensures fits { Fits rows_of expect.now left.new right.new
+        (insert (rows_of left.old) at (key, value.now)) result }
+    ensures few { result ≡ fits.Short → (base : List ℕ) → length base ≡ 4096
+        → Same (64 + 4 * (entry_count left.old + 1)) 4096 base left.old
+        → lines_changed base left.new ≤ 33 }
+    ensures whole { FitsLeaf (expect.now.root ≡ true)
+        (insert (rows_of left.old) at (key, value.now)) → result ≡ fits.Whole }
     ensures parts { (k : ℕ) → result ≡ fits.Cut k
-        → CutsRows (insert (rows_of left.old) at (key, value.now)) (rows_of left.new) (rows_of right.new) k }
+        → CutsRows (insert (rows_of left.old) at (key, value.now)) (rows_of left.new)
+        (rows_of right.new) k }
 {
     open_leaf(left);
     if leaf_used(left) + 12 + value.len() > 4032 {
@@ -145,15 +152,18 @@ fn cut_row(
     requires level { expect.now.level ≡ 0 }
     requires leaf { IsLeaf left.old }
     requires at { at ≤ length (rows_of left.old) }
-    requires order { Ascends expect.now.low expect.now.high (keys (insert (rows_of left.old) at (key, value.now))) }
+    requires order { Ascends expect.now.low expect.now.high
+        (keys (insert (rows_of left.old) at (key, value.now))) }
     requires few { length value.now ≤ 480 }
     requires printable { list_all is_printable value.now ≡ true }
     requires over { 4032 < row_bytes (rows_of left.old) + 12 + length value.now }
-    ensures fits { Fits rows_of expect.now left.new right.new (insert (rows_of left.old) at (key, value.now)) result }
+    ensures fits { Fits rows_of expect.now left.new right.new
+        (insert (rows_of left.old) at (key, value.now)) result }
     ensures long { result ≢ fits.Short }
     ensures more { leaf_room < row_bytes (insert (rows_of left.old) at (key, value.now)) }
     ensures parts { (k : ℕ) → result ≡ fits.Cut k
-        → CutsRows (insert (rows_of left.old) at (key, value.now)) (rows_of left.new) (rows_of right.new) k }
+        → CutsRows (insert (rows_of left.old) at (key, value.now)) (rows_of left.new)
+        (rows_of right.new) k }
 {
     top_of(expect);
     open_leaf(left);
@@ -168,14 +178,20 @@ fn fit_row(page: &mut PageBuf, expect: &Expect, at: usize, key: u64, value: &[u8
     requires level { expect.now.level ≡ 0 }
     requires leaf { IsLeaf page.old }
     requires at { at ≤ length (rows_of page.old) }
-    requires order { Ascends expect.now.low expect.now.high (keys (insert (rows_of page.old) at (key, value.now))) }
+    requires order { Ascends expect.now.low expect.now.high
+        (keys (insert (rows_of page.old) at (key, value.now))) }
     requires few { length value.now ≤ 480 }
     requires printable { list_all is_printable value.now ≡ true }
     requires room { row_bytes (rows_of page.old) + 12 + length value.now ≤ 4032 }
-    ensures fits { (right : List ℕ) → Fits rows_of expect.now page.new right (insert (rows_of page.old) at (key, value.now)) result }
+    ensures fits { (right : List ℕ)
+        → Fits rows_of expect.now page.new right
+        (insert (rows_of page.old) at (key, value.now)) result }
     ensures uncut { (k : ℕ) → result ≢ fits.Cut k }
-    ensures few { result ≡ fits.Short → (base : List ℕ) → length base ≡ 4096 → Same (64 + 4 * (entry_count page.old + 1)) 4096 base page.old → lines_changed base page.new ≤ 33 }
-    ensures whole { FitsLeaf (expect.now.root ≡ true) (insert (rows_of page.old) at (key, value.now)) → result ≡ fits.Whole }
+    ensures few { result ≡ fits.Short → (base : List ℕ) → length base ≡ 4096
+        → Same (64 + 4 * (entry_count page.old + 1)) 4096 base page.old
+        → lines_changed base page.new ≤ 33 }
+    ensures whole { FitsLeaf (expect.now.root ≡ true)
+        (insert (rows_of page.old) at (key, value.now)) → result ≡ fits.Whole }
 {
     top_of(expect);
     open_leaf(page);
@@ -199,12 +215,17 @@ pub fn leaf_put(
     requires within { key ≤ expect.now.high }
     requires few { length value.now ≤ 480 }
     requires printable { list_all is_printable value.now ≡ true }
-    ensures fits { Fits rows_of expect.now left.new right.new (row_put key value.now (rows_of left.old)) result }
+    ensures fits { Fits rows_of expect.now left.new right.new
+        (row_put key value.now (rows_of left.old)) result }
     ensures few { result ≡ fits.Short → lines_changed left.old left.new ≤ 33 }
-    ensures whole { FitsLeaf (expect.now.root ≡ true) (row_put key value.now (rows_of left.old)) → result ≡ fits.Whole }
+    ensures whole { FitsLeaf (expect.now.root ≡ true) (row_put key value.now (rows_of left.old))
+        → result ≡ fits.Whole }
     ensures parts { (k : ℕ) → result ≡ fits.Cut k
-        → CutsRows (row_put key value.now (rows_of left.old)) (rows_of left.new) (rows_of right.new) k }
-    ensures again { HoldsLength key (length value.now) (rows_of left.old) → (result ≡ fits.Whole) × ((line : ℕ) → Differs left.old left.new line → Meets (record_at key left.old) line) }
+        → CutsRows (row_put key value.now (rows_of left.old)) (rows_of left.new)
+        (rows_of right.new) k }
+    ensures again { HoldsLength key (length value.now) (rows_of left.old)
+        → (result ≡ fits.Whole)
+        × ((line : ℕ) → Differs left.old left.new line → Meets (record_at key left.old) line) }
 {
     enter(left, expect);
     let at = leaf_place(left, key);
@@ -226,7 +247,8 @@ pub fn leaf_put(
 pub fn leaf_delete(page: &mut PageBuf, expect: &Expect, key: u64) -> Fit
     requires level { expect.now.level ≡ 0 }
     requires well { IsWellFormed page.old expect.now }
-    ensures fits { (right : List ℕ) → Fits rows_of expect.now page.new right (row_delete key (rows_of page.old)) result }
+    ensures fits { (right : List ℕ)
+        → Fits rows_of expect.now page.new right (row_delete key (rows_of page.old)) result }
     ensures uncut { (k : ℕ) → result ≢ fits.Cut k }
     ensures few { lines_changed page.old page.new ≤ 33 }
 {

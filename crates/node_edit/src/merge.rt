@@ -46,7 +46,8 @@ fn are_full(left: &PageBuf, right: &PageBuf, one: &Expect, two: &Expect) -> bool
     requires left { IsWellFormed left.now one.now }
     requires right { IsWellFormed right.now two.now }
     ensures full { result ≡ true → IsEnoughLeaf left.now × IsEnoughLeaf right.now }
-    ensures low { result ≡ false → (row_bytes (rows_of left.now) < 1344) ⊎ (row_bytes (rows_of right.now) < 1344) }
+    ensures low { result ≡ false
+        → (row_bytes (rows_of left.now) < 1344) ⊎ (row_bytes (rows_of right.now) < 1344) }
 {
     enter(left, one);
     enter(right, two);
@@ -65,9 +66,12 @@ pub fn merge_leaves(left: &mut PageBuf, right: &mut PageBuf, pair: &Pair, count:
     requires left { IsWellFormed left.old (left_of count 0 pair.now) }
     requires right { IsWellFormed right.old (right_of count 0 pair.now) }
     ensures cut { IsCutIn pair.now result }
-    ensures merges { (IsEnoughLeaf left.old ⊎ IsEnoughLeaf right.old) → Merges rows_of (whole_of count 0 pair.now) left.new right.new (rows_of left.old ++ rows_of right.old) result }
+    ensures merges { (IsEnoughLeaf left.old ⊎ IsEnoughLeaf right.old)
+        → Merges rows_of (whole_of count 0 pair.now) left.new right.new
+        (rows_of left.old ++ rows_of right.old) result }
     ensures joins { ((row_bytes (rows_of left.old) < 1344) ⊎ (row_bytes (rows_of right.old) < 1344))
-        → JoinsRows (rows_of left.old ++ rows_of right.old) (rows_of left.new) (rows_of right.new) result }
+        → JoinsRows (rows_of left.old ++ rows_of right.old) (rows_of left.new)
+        (rows_of right.new) result }
 {
     let one = left_expect(pair, 0, count);
     let two = right_expect(pair, 0, count);
@@ -100,8 +104,11 @@ pub fn merge_inner(
     requires left { IsWellFormed left.old (left_of count level pair.now) }
     requires right { IsWellFormed right.old (right_of count level pair.now) }
     ensures cut { IsCutIn pair.now result }
-    ensures merges { (IsEnoughInner left.old ⊎ IsEnoughInner right.old) → Merges children_of (whole_of count level pair.now) left.new right.new (children_of left.old ++ children_of right.old) result }
-    ensures joins { JoinsChildren (children_of left.old ++ children_of right.old) (children_of left.new) (children_of right.new) result }
+    ensures merges { (IsEnoughInner left.old ⊎ IsEnoughInner right.old)
+        → Merges children_of (whole_of count level pair.now) left.new right.new
+        (children_of left.old ++ children_of right.old) result }
+    ensures joins { JoinsChildren (children_of left.old ++ children_of right.old)
+        (children_of left.new) (children_of right.new) result }
 {
     let one = left_expect(pair, level, count);
     let two = right_expect(pair, level, count);

@@ -32,7 +32,8 @@ fn high_after(page: &PageBuf, expect: &Expect, at: usize) -> u64
     requires level { 1 ≤ expect.now.level }
     requires well { IsWellFormed page.now expect.now }
     requires at { at + 1 < length (children_of page.now) }
-    ensures next { (d : Child) → at + 2 < length (children_of page.now) → result + 1 ≡ (get_or (children_of page.now) (at + 2) d).0 }
+    ensures next { (d : Child) → at + 2 < length (children_of page.now)
+        → result + 1 ≡ (get_or (children_of page.now) (at + 2) d).0 }
     ensures last { length (children_of page.now) ≤ at + 2 → result ≡ expect.now.high }
 {
     let count = enter(page, expect);
@@ -47,7 +48,17 @@ fn pair_at(page: &PageBuf, expect: &Expect, at: usize) -> Pair
     requires level { 1 ≤ expect.now.level }
     requires well { IsWellFormed page.now expect.now }
     requires at { at + 1 < length (children_of page.now) }
-    ensures pair { (xs ys : List Child) (a b : Child) → children_of page.now ≡ xs ++ (a ∷ b ∷ ys) → length xs ≡ at → result ≡ record { left = a.1; low = a.0; middle = b.0; right = b.1; high = reach ys expect.now.high } }
+    ensures pair { (xs ys : List Child) (a b : Child) → children_of page.now ≡ xs ++ (a ∷ b ∷ ys)
+        → length xs ≡ at
+        → result
+        ≡ record {
+          left = a.1;
+          low = a.0;
+          middle = b.0;
+          right = b.1;
+          high = reach ys
+              expect.now.high;
+        } }
     ensures is { IsPair expect.now.pages result }
 {
     enter(page, expect);

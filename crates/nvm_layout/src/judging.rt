@@ -27,7 +27,8 @@ ghost use Rattle.nvm_layout.specs.Opening.{IsAnswer, finding, gates_finding, out
 
 /// What these words are, on devices of these sizes.
 pub(crate) fn judged(found: &Found, lines: u64, blocks: u64) -> Result<Super, SuperError>
-    ensures { IsAnswer found.now.name found.now.words (finding lines blocks (super_from found.now.name found.now.words)) result }
+    ensures { IsAnswer found.now.name found.now.words
+        (finding lines blocks (super_from found.now.name found.now.words)) result }
 {
     if found.name != MAGIC {
         return Err(SuperError::NotAStore);
@@ -43,7 +44,8 @@ fn fitted(geometry: Geometry, found: &Found, lines: u64, blocks: u64) -> Result<
     requires name { found.now.name ≡ MAGIC }
     requires sizes { sizes_of geometry ≡ (super_from found.now.name found.now.words).sizes }
     requires allowed { is_allowed (sizes_of geometry) ≡ true }
-    ensures { IsAnswer found.now.name found.now.words (finding lines blocks (super_from found.now.name found.now.words)) result }
+    ensures { IsAnswer found.now.name found.now.words
+        (finding lines blocks (super_from found.now.name found.now.words)) result }
 {
     if lines < geometry.nvm_lines() || blocks < geometry.ssd_blocks() {
         return Err(SuperError::TooSmall);
@@ -55,7 +57,8 @@ fn fitted(geometry: Geometry, found: &Found, lines: u64, blocks: u64) -> Result<
 fn gated(geometry: Geometry, found: &Found) -> Result<Super, SuperError>
     requires name { found.now.name ≡ MAGIC }
     requires sizes { sizes_of geometry ≡ (super_from found.now.name found.now.words).sizes }
-    ensures { IsAnswer found.now.name found.now.words (gates_finding (super_from found.now.name found.now.words)) result }
+    ensures { IsAnswer found.now.name found.now.words
+        (gates_finding (super_from found.now.name found.now.words)) result }
 {
     let gates = Super {
         geometry,
@@ -87,7 +90,8 @@ fn is_out_of_order(gates: &Super) -> bool
 
 /// The geometry of the first five words, where each is in its range.
 fn geometry_of(words: &[u64; 8]) -> Option<Geometry>
-    ensures some { IfSome result (λ g. (sizes_of g ≡ sizes_from words.now) × (is_allowed (sizes_of g) ≡ true)) }
+    ensures some { IfSome result
+        (λ g. (sizes_of g ≡ sizes_from words.now) × (is_allowed (sizes_of g) ≡ true)) }
     ensures none { result ≡ None → is_allowed (sizes_from words.now) ≡ false }
 {
     if !is_allowed(words) {

@@ -44,7 +44,8 @@ impl Log {
         requires below { gates.now.drained ≤ gates.now.tail }
         requires aligned { gates.now.drained % 64 ≡ 0 }
         requires in_ring { gates.now.tail - gates.now.drained ≤ ring_lines (sizes_of geometry.now) }
-        requires in_blocks { gates.now.drained ≤ floor64 gates.now.start + 64 * ring_blocks (sizes_of geometry.now) }
+        requires in_blocks { gates.now.drained
+            ≤ floor64 gates.now.start + 64 * ring_blocks (sizes_of geometry.now) }
         ensures geometry { result.geometry ≡ geometry.now }
         ensures start { result.start ≡ gates.now.start }
         ensures drained { result.drained ≡ gates.now.drained }
@@ -90,7 +91,8 @@ impl Log {
 
     /// How many lines can be stored before a block is drained.
     pub fn free_lines(&self) -> u64
-        ensures { result ≡ ring_lines (sizes_of self.now.geometry) - (self.now.written - self.now.drained) }
+        ensures { result
+            ≡ ring_lines (sizes_of self.now.geometry) - (self.now.written - self.now.drained) }
     {
         64 * self.geometry.log_blocks as u64 - (self.written - self.drained)
     }
@@ -98,7 +100,8 @@ impl Log {
     /// Stores a record behind all that is stored, and flushes it, without a fence: it is pending. The ring in NVM has three free
     /// lines. `Failed` where the count of NVM faults rose; a store recovers then before it goes on.
     pub fn append<D: Devices>(&mut self, dev: &mut D, change: &LineRecord) -> Result<(), Failed>
-        requires room { self.old.written + 3 ≤ self.old.drained + ring_lines (sizes_of self.old.geometry) }
+        requires room { self.old.written + 3
+            ≤ self.old.drained + ring_lines (sizes_of self.old.geometry) }
         requires below { self.old.written < 2 ^ 62 }
         requires fits { nvm_lines (sizes_of self.old.geometry) ≤ (D.standing dev.old).lines }
 
@@ -134,7 +137,8 @@ impl Log {
         ensures moved { IsMoved self.old self.new (hardened (offsets_of self.old)) result }
         ensures makes { MakesAll (harden_makes self.old)
             (D.standing dev.old) (D.standing dev.new) result }
-        ensures nothing { self.old.tail ≡ self.old.written → D.standing dev.new ≡ D.standing dev.old }
+        ensures nothing { self.old.tail ≡ self.old.written
+            → D.standing dev.new ≡ D.standing dev.old }
         ensures groups { HardenGroups self.old self.new
             (D.standing dev.old) (D.standing dev.new) result }
 
@@ -157,12 +161,14 @@ impl Log {
     /// Stores the end of the open group behind all that is stored, and makes all of it part of the log, as `harden` does. The ring
     /// in NVM has a free line. `Failed` where the count of NVM faults rose; no further call is made then.
     pub fn end<D: Devices>(&mut self, dev: &mut D, kind: EndKind) -> Result<(), Failed>
-        requires room { self.old.written + 1 ≤ self.old.drained + ring_lines (sizes_of self.old.geometry) }
+        requires room { self.old.written + 1
+            ≤ self.old.drained + ring_lines (sizes_of self.old.geometry) }
         requires below { self.old.written < 2 ^ 62 }
         requires fits { nvm_lines (sizes_of self.old.geometry) ≤ (D.standing dev.old).lines }
 
         // What it does to the log in memory, to the device, and to the groups of every image.
-        ensures moved { IsMoved self.old self.new (hardened (appended 1 (offsets_of self.old))) result }
+        ensures moved { IsMoved self.old self.new
+            (hardened (appended 1 (offsets_of self.old))) result }
         ensures makes { MakesAll (end_makes kind self.old)
             (D.standing dev.old) (D.standing dev.new) result }
         ensures groups { EndGroups kind self.old self.new

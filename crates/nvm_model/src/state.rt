@@ -90,7 +90,8 @@ impl NvmState {
     pub fn store_word(&mut self, line: u64, word: usize, value: u64) -> Result<(), NoMemory>
         requires line { line < lines_of self.old }
         requires word { word < 8 }
-        ensures stored { OnOk result (memory_of self.new ≡ with_word line word value (memory_of self.old)) }
+        ensures stored { OnOk result
+            (memory_of self.new ≡ with_word line word value (memory_of self.old)) }
         ensures unchanged { OnErr result (memory_of self.new ≡ memory_of self.old) }
         ensures size { lines_of self.new ≡ lines_of self.old }
     {
@@ -101,7 +102,8 @@ impl NvmState {
     /// Appends a version to each of the eight words of a line. After `NoMemory` all words are as they were.
     pub fn store_line(&mut self, line: u64, value: &Line) -> Result<(), NoMemory>
         requires { line < lines_of self.old }
-        ensures stored { OnOk result (memory_of self.new ≡ with_line line value.now (memory_of self.old)) }
+        ensures stored { OnOk result
+            (memory_of self.new ≡ with_line line value.now (memory_of self.old)) }
         ensures unchanged { OnErr result (memory_of self.new ≡ memory_of self.old) }
         ensures size { lines_of self.new ≡ lines_of self.old }
     {
@@ -137,7 +139,8 @@ impl NvmState {
 
     /// The image that a choice leaves, line by line. `NoMemory` where its lines are not to be had.
     pub fn image_by(&self, alloc: Global, choice: Choice) -> Result<Vec<Line>, NoMemory>
-        ensures { IfOk result (λ image. image.items ≡ image_of choice (memory_of self.now) (lines_of self.now)) }
+        ensures { IfOk result
+            (λ image. image.items ≡ image_of choice (memory_of self.now) (lines_of self.now)) }
     {
         let mut image = Vec::new(alloc);
         for line in 0..self.lines {

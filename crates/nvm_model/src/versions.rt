@@ -61,7 +61,8 @@ impl Versions {
     /// Appends a version.
     pub fn store(&mut self, interval: u64, value: u64)
         requires { IsTrue (has_room self.old) }
-        ensures { held_of self.new ≡ touched interval (stored value (word_in interval (held_of self.old))) }
+        ensures { held_of self.new
+            ≡ touched interval (stored value (word_in interval (held_of self.old))) }
     {
         self.touch(interval);
         self.older.push_front_reserved(self.newest);
@@ -71,7 +72,8 @@ impl Versions {
 
     /// Sets the mark to the last version.
     pub fn mark(&mut self, interval: u64)
-        ensures { held_of self.new ≡ touched interval (marked (word_in interval (held_of self.old))) }
+        ensures { held_of self.new
+            ≡ touched interval (marked (word_in interval (held_of self.old))) }
     {
         self.touch(interval);
         self.kept = 0;

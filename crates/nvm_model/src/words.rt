@@ -27,7 +27,10 @@ pub fn store_at(
     value: u64,
 ) -> Result<(), NoMemory>
     requires { at < length words.old.items }
-    ensures stored { OnOk result (helds_of words.new.items ≡ set (helds_of words.old.items) at (touched interval (stored value (word_in interval (get_or (helds_of words.old.items) at blank))))) }
+    ensures stored { OnOk result
+        (helds_of words.new.items ≡ set (helds_of words.old.items) at
+        (touched interval (stored value
+        (word_in interval (get_or (helds_of words.old.items) at blank))))) }
     ensures unchanged { OnErr result (helds_of words.new.items ≡ helds_of words.old.items) }
 {
     words[at].reserve()?;
@@ -51,7 +54,8 @@ pub fn reserve_line(words: &mut Vec<Versions>, first: usize) -> Result<(), NoMem
 pub fn store_all(words: &mut Vec<Versions>, interval: u64, first: usize, value: &Line)
     requires within { first + 8 ≤ length words.old.items }
     requires room { HaveRoom first 0 8 words.old.items }
-    ensures { Progress interval (λ k word. stored (slice_index value.now.words k) word) first 8 (helds_of words.old.items) (helds_of words.new.items) }
+    ensures { Progress interval (λ k word. stored (slice_index value.now.words k) word) first 8
+        (helds_of words.old.items) (helds_of words.new.items) }
 {
     for place in 0..8 {
         words[first + place].store(interval, value.words[place]);
@@ -61,7 +65,8 @@ pub fn store_all(words: &mut Vec<Versions>, interval: u64, first: usize, value: 
 /// Marks the last version of each of the eight words from one place on.
 pub fn mark_all(words: &mut Vec<Versions>, interval: u64, first: usize)
     requires { first + 8 ≤ length words.old.items }
-    ensures { Progress interval (λ _k word. marked word) first 8 (helds_of words.old.items) (helds_of words.new.items) }
+    ensures { Progress interval (λ _k word. marked word) first 8 (helds_of words.old.items)
+        (helds_of words.new.items) }
 {
     for place in 0..8 {
         words[first + place].mark(interval);
@@ -70,7 +75,8 @@ pub fn mark_all(words: &mut Vec<Versions>, interval: u64, first: usize)
 
 /// Drops for each word what stands before its mark, and begins at the first fence interval again.
 pub fn restart_all(words: &mut Vec<Versions>)
-    ensures { Progress 0 (λ _k word. trimmed word) 0 (length words.old.items) (helds_of words.old.items) (helds_of words.new.items) }
+    ensures { Progress 0 (λ _k word. trimmed word) 0 (length words.old.items)
+        (helds_of words.old.items) (helds_of words.new.items) }
 {
     for at in 0..words.len() {
         words[at].restart();

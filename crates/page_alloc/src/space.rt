@@ -23,9 +23,14 @@ fn damage<P: Pages>(pages: &mut P, work: &mut Work, page: u64, line: &Line, chec
     requires page { page < (P.standing pages.old).count }
     requires of_page { (page ≡ 0) ⊎ (check ≡ 36) }
     requires line { IsLine line.now }
-    requires is { IsTrue (P.standing pages.old).told → line.now ≡ (P.standing pages.old).current page 0 }
+    requires is { IsTrue (P.standing pages.old).told
+        → line.now ≡ (P.standing pages.old).current page 0 }
     requires fails { fails (space_checks (P.standing pages.old).count line.now) check ≡ true }
-    ensures cause { IsCause (λ e. IsPageEvidence page check e × (IsTrue (P.standing pages.old).told → work.new.page ≡ bytes_of (P.standing pages.old).current page)) (P.standing pages.old) (P.standing pages.new) result }
+    ensures cause { IsCause
+        (λ e. IsPageEvidence page check e
+        × (IsTrue (P.standing pages.old).told
+        → work.new.page ≡ bytes_of (P.standing pages.old).current page)) (P.standing pages.old)
+        (P.standing pages.new) result }
     ensures fails { Keeps (FailsSpace (P.standing pages.old).count work.new.page) result }
     ensures unchanged { Unchanged (P.standing pages.old) (P.standing pages.new) result }
     ensures call { PagesStop P.Pages pages.old pages.new result }
@@ -47,7 +52,8 @@ fn damage<P: Pages>(pages: &mut P, work: &mut Work, page: u64, line: &Line, chec
 /// Reads the header of page 0 and makes its checks.
 fn read_header<P: Pages>(pages: &mut P, work: &mut Work) -> Result<Line, Stop>
     requires ready { P.is_ready pages.old }
-    ensures header { IsTrue (P.standing pages.old).told → IfOk result (λ line. line ≡ (P.standing pages.old).current 0 0) }
+    ensures header { IsTrue (P.standing pages.old).told
+        → IfOk result (λ line. line ≡ (P.standing pages.old).current 0 0) }
     ensures fits { IfOk result (FitsHeader (P.standing pages.old).count) }
     ensures line { IfOk result IsLine }
     ensures keeps { OnOk result (KeepsLines (P.standing pages.old) (P.standing pages.new)) }
@@ -76,13 +82,16 @@ fn read_header<P: Pages>(pages: &mut P, work: &mut Work) -> Result<Line, Stop>
 /// Takes the page at the high water.
 fn take_fresh<P: Pages>(pages: &mut P, header: Line, work: &mut Work) -> Result<u64, Stop>
     requires ready { P.is_ready pages.old }
-    requires header { IsTrue (P.standing pages.old).told → header ≡ (P.standing pages.old).current 0 0 }
+    requires header { IsTrue (P.standing pages.old).told
+        → header ≡ (P.standing pages.old).current 0 0 }
     requires fits { FitsHeader (P.standing pages.old).count header }
     requires line { IsLine header }
     requires none { word header 3 ≡ 0 }
     requires room { 1 ≤ (P.standing pages.old).room }
-    ensures taken { IsTrue (P.standing pages.old).told → IfOk result (λ page. page ≡ page_taken (P.standing pages.old).current) }
-    ensures current { IsTrue (P.standing pages.old).told → OnOk result ((P.standing pages.new).current ≡ after_take (P.standing pages.old).current) }
+    ensures taken { IsTrue (P.standing pages.old).told
+        → IfOk result (λ page. page ≡ page_taken (P.standing pages.old).current) }
+    ensures current { IsTrue (P.standing pages.old).told
+        → OnOk result ((P.standing pages.new).current ≡ after_take (P.standing pages.old).current) }
     ensures left { OnOk result (word header 2 ≢ (P.standing pages.old).count) }
     ensures in_range { IfOk result (λ page. (1 ≤ page) × (page < (P.standing pages.old).count)) }
     ensures room { OnOk result ((P.standing pages.new).room + 1 ≡ (P.standing pages.old).room) }
@@ -106,13 +115,16 @@ fn take_fresh<P: Pages>(pages: &mut P, header: Line, work: &mut Work) -> Result<
 /// Takes the head of the free list.
 fn take_free<P: Pages>(pages: &mut P, header: Line, work: &mut Work) -> Result<u64, Stop>
     requires ready { P.is_ready pages.old }
-    requires header { IsTrue (P.standing pages.old).told → header ≡ (P.standing pages.old).current 0 0 }
+    requires header { IsTrue (P.standing pages.old).told
+        → header ≡ (P.standing pages.old).current 0 0 }
     requires fits { FitsHeader (P.standing pages.old).count header }
     requires line { IsLine header }
     requires some { word header 3 ≢ 0 }
     requires room { 1 ≤ (P.standing pages.old).room }
-    ensures taken { IsTrue (P.standing pages.old).told → IfOk result (λ page. page ≡ page_taken (P.standing pages.old).current) }
-    ensures current { IsTrue (P.standing pages.old).told → OnOk result ((P.standing pages.new).current ≡ after_take (P.standing pages.old).current) }
+    ensures taken { IsTrue (P.standing pages.old).told
+        → IfOk result (λ page. page ≡ page_taken (P.standing pages.old).current) }
+    ensures current { IsTrue (P.standing pages.old).told
+        → OnOk result ((P.standing pages.new).current ≡ after_take (P.standing pages.old).current) }
     ensures in_range { IfOk result (λ page. (1 ≤ page) × (page < (P.standing pages.old).count)) }
     ensures room { OnOk result ((P.standing pages.new).room + 1 ≡ (P.standing pages.old).room) }
     ensures cause { TakeCause P.Pages pages.old pages.new work.new.page result }
@@ -140,12 +152,21 @@ pub fn take_page<P: Pages>(pages: &mut P, work: &mut Work) -> Result<u64, Stop>
     requires ready { P.is_ready pages.old }
     requires room { 1 ≤ (P.standing pages.old).room }
     // what is taken
-    ensures taken { IsTrue (P.standing pages.old).told → IfOk result (λ page. page ≡ page_taken (P.standing pages.old).current) }
-    ensures current { IsTrue (P.standing pages.old).told → OnOk result ((P.standing pages.new).current ≡ after_take (P.standing pages.old).current) }
-    ensures moves { IsTrue (P.standing pages.old).told → IfOk result (Takes (P.standing pages.old).count (P.standing pages.old).current (P.standing pages.new).current) }
+    ensures taken { IsTrue (P.standing pages.old).told
+        → IfOk result (λ page. page ≡ page_taken (P.standing pages.old).current) }
+    ensures current { IsTrue (P.standing pages.old).told
+        → OnOk result ((P.standing pages.new).current ≡ after_take (P.standing pages.old).current) }
+    ensures moves { IsTrue (P.standing pages.old).told
+        → IfOk result
+        (Takes (P.standing pages.old).count (P.standing pages.old).current
+        (P.standing pages.new).current) }
     ensures in_range { IfOk result (λ page. (1 ≤ page) × (page < (P.standing pages.old).count)) }
     ensures room { OnOk result ((P.standing pages.new).room + 1 ≡ (P.standing pages.old).room) }
-    ensures sound { IsTrue (P.standing pages.old).told → FitsHeader (P.standing pages.old).count ((P.standing pages.old).current 0 0) → (free : List ℕ) → IsFreeList (P.standing pages.old).current free → IfErr result (IsShort (spare_pages (P.standing pages.old).count (P.standing pages.old).current free) 0) }
+    ensures sound { IsTrue (P.standing pages.old).told
+        → FitsHeader (P.standing pages.old).count ((P.standing pages.old).current 0 0)
+        → (free : List ℕ) → IsFreeList (P.standing pages.old).current free
+        → IfErr result
+        (IsShort (spare_pages (P.standing pages.old).count (P.standing pages.old).current free) 0) }
     ensures cause { TakeCause P.Pages pages.old pages.new work.new.page result }
     ensures fails { IfErr result (Keeps (FailsSpace (P.standing pages.old).count work.new.page)) }
     ensures unchanged { IfErr result (Unchanged (P.standing pages.old) (P.standing pages.new)) }
@@ -169,10 +190,17 @@ pub fn give_page<P: Pages>(pages: &mut P, work: &mut Work, page: u64) -> Result<
     requires page { page < (P.standing pages.old).count }
     requires room { 2 ≤ (P.standing pages.old).room }
     // what is given
-    ensures current { IsTrue (P.standing pages.old).told → OnOk result ((P.standing pages.new).current ≡ after_give page (P.standing pages.old).current) }
-    ensures moves { IsTrue (P.standing pages.old).told → OnOk result (Gives (P.standing pages.old).count (P.standing pages.old).current (P.standing pages.new).current page) }
+    ensures current { IsTrue (P.standing pages.old).told
+        → OnOk result
+        ((P.standing pages.new).current ≡ after_give page (P.standing pages.old).current) }
+    ensures moves { IsTrue (P.standing pages.old).told
+        → OnOk result
+        (Gives (P.standing pages.old).count (P.standing pages.old).current
+        (P.standing pages.new).current page) }
     ensures room { OnOk result ((P.standing pages.new).room + 2 ≡ (P.standing pages.old).room) }
-    ensures sound { IsTrue (P.standing pages.old).told → FitsHeader (P.standing pages.old).count ((P.standing pages.old).current 0 0) → IfErr result IsFault }
+    ensures sound { IsTrue (P.standing pages.old).told
+        → FitsHeader (P.standing pages.old).count ((P.standing pages.old).current 0 0)
+        → IfErr result IsFault }
     ensures cause { HeaderCause P.Pages pages.old pages.new work.new.page result }
     ensures fails { IfErr result (Keeps (FailsSpace (P.standing pages.old).count work.new.page)) }
     ensures unchanged { IfErr result (Unchanged (P.standing pages.old) (P.standing pages.new)) }
@@ -189,10 +217,13 @@ pub fn give_page<P: Pages>(pages: &mut P, work: &mut Work, page: u64) -> Result<
 fn write_free<P: Pages>(pages: &mut P, header: Line, page: u64) -> Result<(), Stop>
     requires ready { P.is_ready pages.old }
     requires page { page < (P.standing pages.old).count }
-    requires header { IsTrue (P.standing pages.old).told → header ≡ (P.standing pages.old).current 0 0 }
+    requires header { IsTrue (P.standing pages.old).told
+        → header ≡ (P.standing pages.old).current 0 0 }
     requires line { IsLine header }
     requires room { 2 ≤ (P.standing pages.old).room }
-    ensures current { IsTrue (P.standing pages.old).told → OnOk result ((P.standing pages.new).current ≡ after_give page (P.standing pages.old).current) }
+    ensures current { IsTrue (P.standing pages.old).told
+        → OnOk result
+        ((P.standing pages.new).current ≡ after_give page (P.standing pages.old).current) }
     ensures room { OnOk result ((P.standing pages.new).room + 2 ≡ (P.standing pages.old).room) }
     ensures cause { HasCause Never (P.standing pages.old) (P.standing pages.new) result }
     ensures call { PagesCall P.Pages pages.old pages.new result }

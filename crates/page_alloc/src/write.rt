@@ -35,16 +35,28 @@ fn write_changed<P: Pages>(
     requires ready { P.is_ready pages.old }
     requires page { page < (P.standing pages.old).count }
     requires line { line < 64 }
-    requires room { 1 ≤ (P.standing pages.old).room + (if bytes_eq (line_part old.now line) (line_part new.now line) then 1 else 0) }
-    ensures done { IsTrue (P.standing pages.old).told → line_bytes ((P.standing pages.old).current page line) ≡ line_part old.now line → OnOk result (line_bytes ((P.standing pages.new).current page line) ≡ line_part new.now line) }
-    ensures others { IsTrue (P.standing pages.old).told → OnOk result (SameElsewhere page line (P.standing pages.old).current (P.standing pages.new).current) }
-    ensures room { OnOk result ((P.standing pages.new).room + (if bytes_eq (line_part old.now line) (line_part new.now line) then 0 else 1) ≡ (P.standing pages.old).room) }
-    ensures touches { OnOk result (WritesOnly page (Differs old.now new.now) (P.standing pages.old) (P.standing pages.new)) }
+    requires room { 1
+        ≤ (P.standing pages.old).room
+        + (if bytes_eq (line_part old.now line) (line_part new.now line) then 1 else 0) }
+    ensures done { IsTrue (P.standing pages.old).told
+        → line_bytes ((P.standing pages.old).current page line) ≡ line_part old.now line
+        → OnOk result
+        (line_bytes ((P.standing pages.new).current page line) ≡ line_part new.now line) }
+    ensures others { IsTrue (P.standing pages.old).told
+        → OnOk result
+        (SameElsewhere page line (P.standing pages.old).current (P.standing pages.new).current) }
+    ensures room { OnOk result
+        ((P.standing pages.new).room
+        + (if bytes_eq (line_part old.now line) (line_part new.now line) then 0 else 1)
+        ≡ (P.standing pages.old).room) }
+    ensures touches { OnOk result
+        (WritesOnly page (Differs old.now new.now) (P.standing pages.old) (P.standing pages.new)) }
     ensures costs { OnOk result (Costs 1 (P.standing pages.old) (P.standing pages.new)) }
     ensures cause { HasCause Never (P.standing pages.old) (P.standing pages.new) result }
     ensures call { PagesCall P.Pages pages.old pages.new result }
     ensures visited { OnOk result (Visited page (P.standing pages.old) (P.standing pages.new)) }
-    ensures again { begins (P.standing pages.old).access page true ≡ false → (P.standing pages.new).visits ≤ (P.standing pages.old).visits }
+    ensures again { begins (P.standing pages.old).access page true ≡ false
+        → (P.standing pages.new).visits ≤ (P.standing pages.old).visits }
     ensures few { (P.standing pages.new).visits ≤ (P.standing pages.old).visits + 1 }
 {
     if same_line(old, new, line) {
@@ -69,17 +81,35 @@ pub fn write_lines<P: Pages>(
     requires order { from ≤ end }
     requires within { end ≤ 64 }
     requires room { changed_in old.now new.now from (end - from) ≤ (P.standing pages.old).room }
-    ensures put { IsTrue (P.standing pages.old).told → Same (64 * from) (64 * end) (bytes_of (P.standing pages.old).current page) old.now → OnOk result (Same (64 * from) (64 * end) (bytes_of (P.standing pages.new).current page) new.now) }
-    ensures before { IsTrue (P.standing pages.old).told → Same (64 * from) (64 * end) (bytes_of (P.standing pages.old).current page) old.now → OnOk result (Same 0 (64 * from) (bytes_of (P.standing pages.old).current page) (bytes_of (P.standing pages.new).current page)) }
-    ensures after { IsTrue (P.standing pages.old).told → Same (64 * from) (64 * end) (bytes_of (P.standing pages.old).current page) old.now → OnOk result (Same (64 * end) 4096 (bytes_of (P.standing pages.old).current page) (bytes_of (P.standing pages.new).current page)) }
-    ensures others { IsTrue (P.standing pages.old).told → Same (64 * from) (64 * end) (bytes_of (P.standing pages.old).current page) old.now → OnOk result (OtherPages page (P.standing pages.old).current (P.standing pages.new).current) }
-    ensures room { OnOk result ((P.standing pages.new).room + changed_in old.now new.now from (end - from) ≡ (P.standing pages.old).room) }
-    ensures touches { OnOk result (WritesOnly page (Differs old.now new.now) (P.standing pages.old) (P.standing pages.new)) }
+    ensures put { IsTrue (P.standing pages.old).told
+        → Same (64 * from) (64 * end) (bytes_of (P.standing pages.old).current page) old.now
+        → OnOk result
+        (Same (64 * from) (64 * end) (bytes_of (P.standing pages.new).current page) new.now) }
+    ensures before { IsTrue (P.standing pages.old).told
+        → Same (64 * from) (64 * end) (bytes_of (P.standing pages.old).current page) old.now
+        → OnOk result
+        (Same 0 (64 * from) (bytes_of (P.standing pages.old).current page)
+        (bytes_of (P.standing pages.new).current page)) }
+    ensures after { IsTrue (P.standing pages.old).told
+        → Same (64 * from) (64 * end) (bytes_of (P.standing pages.old).current page) old.now
+        → OnOk result
+        (Same (64 * end) 4096 (bytes_of (P.standing pages.old).current page)
+        (bytes_of (P.standing pages.new).current page)) }
+    ensures others { IsTrue (P.standing pages.old).told
+        → Same (64 * from) (64 * end) (bytes_of (P.standing pages.old).current page) old.now
+        → OnOk result
+        (OtherPages page (P.standing pages.old).current (P.standing pages.new).current) }
+    ensures room { OnOk result
+        ((P.standing pages.new).room + changed_in old.now new.now from (end - from)
+        ≡ (P.standing pages.old).room) }
+    ensures touches { OnOk result
+        (WritesOnly page (Differs old.now new.now) (P.standing pages.old) (P.standing pages.new)) }
     ensures costs { OnOk result (Costs (end - from) (P.standing pages.old) (P.standing pages.new)) }
     ensures cause { HasCause Never (P.standing pages.old) (P.standing pages.new) result }
     ensures call { PagesCall P.Pages pages.old pages.new result }
     ensures visited { OnOk result (Visited page (P.standing pages.old) (P.standing pages.new)) }
-    ensures again { begins (P.standing pages.old).access page true ≡ false → (P.standing pages.new).visits ≤ (P.standing pages.old).visits }
+    ensures again { begins (P.standing pages.old).access page true ≡ false
+        → (P.standing pages.new).visits ≤ (P.standing pages.old).visits }
     ensures few { (P.standing pages.new).visits ≤ (P.standing pages.old).visits + 1 }
     ensures size_old { length old.now ≡ 4096 }
     ensures size { length new.now ≡ 4096 }
@@ -103,9 +133,15 @@ pub fn write_changes<P: Pages>(
     requires ready { P.is_ready pages.old }
     requires page { page < (P.standing pages.old).count }
     requires room { lines_changed old.now new.now ≤ (P.standing pages.old).room }
-    ensures writes { IsTrue (P.standing pages.old).told → old.now ≡ bytes_of (P.standing pages.old).current page → OnOk result (Rewrites page new.now (P.standing pages.old).current (P.standing pages.new).current) }
-    ensures room { OnOk result ((P.standing pages.new).room + lines_changed old.now new.now ≡ (P.standing pages.old).room) }
-    ensures touches { OnOk result (WritesOnly page (Differs old.now new.now) (P.standing pages.old) (P.standing pages.new)) }
+    ensures writes { IsTrue (P.standing pages.old).told
+        → old.now ≡ bytes_of (P.standing pages.old).current page
+        → OnOk result
+        (Rewrites page new.now (P.standing pages.old).current (P.standing pages.new).current) }
+    ensures room { OnOk result
+        ((P.standing pages.new).room + lines_changed old.now new.now
+        ≡ (P.standing pages.old).room) }
+    ensures touches { OnOk result
+        (WritesOnly page (Differs old.now new.now) (P.standing pages.old) (P.standing pages.new)) }
     ensures cause { HasCause Never (P.standing pages.old) (P.standing pages.new) result }
     ensures call { PagesCall P.Pages pages.old pages.new result }
     ensures few { (P.standing pages.new).visits ≤ (P.standing pages.old).visits + 1 }

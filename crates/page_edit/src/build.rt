@@ -43,7 +43,8 @@ pub fn push_rows(page: &mut PageBuf, from: &PageBuf, start: usize, end: usize)
     requires sound { IsSound from.now }
     requires order { start ≤ end }
     requires within { end ≤ length (rows_of from.now) }
-    requires room { row_bytes (rows_of page.old ++ slice_range (rows_of from.now) start end) ≤ 4032 }
+    requires room { row_bytes (rows_of page.old ++ slice_range (rows_of from.now) start end)
+        ≤ 4032 }
     ensures rows { rows_of page.new ≡ rows_of page.old ++ slice_range (rows_of from.now) start end }
     ensures packed { IsPackedInOrder page.new }
     ensures rest { Same (64 + 4 * entry_count page.new) (heap_start page.new) page.old page.new }

@@ -93,8 +93,14 @@ fn push_with(
     requires behind { at ≤ end }
     requires within { end ≤ length (rows_of from.now) }
     requires few { length value.now ≤ 480 }
-    requires room { row_bytes (rows_of page.old ++ (slice_range (rows_of from.now) start at ++ (key, value.now) ∷ slice_range (rows_of from.now) at end)) ≤ 4032 }
-    ensures rows { rows_of page.new ≡ rows_of page.old ++ (slice_range (rows_of from.now) start at ++ (key, value.now) ∷ slice_range (rows_of from.now) at end) }
+    requires room { row_bytes
+        (rows_of page.old ++ (slice_range
+        (rows_of from.now) start at ++ (key, value.now) ∷ slice_range (rows_of from.now) at end))
+        ≤ 4032 }
+    ensures rows { rows_of page.new
+        ≡ rows_of page.old
+        ++ (slice_range (rows_of from.now) start at ++ (key, value.now) ∷ slice_range
+        (rows_of from.now) at end) }
     ensures packed { IsPackedInOrder page.new }
 {
     push_rows(page, from, start, at);
@@ -118,8 +124,10 @@ fn divide(
     requires at { at ≤ count }
     requires part { part ≤ count + 1 }
     requires few { length value.now ≤ 480 }
-    requires left_room { row_bytes (take part (insert (rows_of from.now) at (key, value.now))) ≤ 4032 }
-    requires right_room { row_bytes (drop part (insert (rows_of from.now) at (key, value.now))) ≤ 4032 }
+    requires left_room { row_bytes (take part (insert (rows_of from.now) at (key, value.now)))
+        ≤ 4032 }
+    requires right_room { row_bytes (drop part (insert (rows_of from.now) at (key, value.now)))
+        ≤ 4032 }
     ensures left { rows_of left.new ≡ take part (insert (rows_of from.now) at (key, value.now)) }
     ensures right { rows_of right.new ≡ drop part (insert (rows_of from.now) at (key, value.now)) }
     ensures left_packed { IsPackedInOrder left.new }
@@ -144,15 +152,22 @@ pub fn leaf_cut(left: &mut PageBuf, right: &mut PageBuf, at: usize, key: u64, va
     requires order { Ascends 0 last_key (keys (insert (rows_of left.old) at (key, value.now))) }
     requires few { length value.now ≤ 480 }
     requires printable { list_all is_printable value.now ≡ true }
-    ensures left { let all = insert (rows_of left.old) at (key, value.now) in rows_of left.new ≡ take (rows_left all) all }
-    ensures right { let all = insert (rows_of left.old) at (key, value.now) in rows_of right.new ≡ drop (rows_left all) all }
+    ensures left { let all = insert (rows_of left.old) at (key, value.now)
+        in rows_of left.new ≡ take (rows_left all) all }
+    ensures right { let all = insert (rows_of left.old) at (key, value.now)
+        in rows_of right.new ≡ drop (rows_left all) all }
     ensures left_leaf { IsLeaf left.new }
     ensures right_leaf { IsLeaf right.new }
-    ensures left_full { 4032 < row_bytes (insert (rows_of left.old) at (key, value.now)) → 1344 ≤ row_bytes (rows_of left.new) }
-    ensures right_full { 4032 < row_bytes (insert (rows_of left.old) at (key, value.now)) → 1344 ≤ row_bytes (rows_of right.new) }
-    ensures halves { IsCut (insert (rows_of left.old) at (key, value.now)) (rows_of left.new) (rows_of right.new) }
-    ensures left_filled { 4032 < row_bytes (insert (rows_of left.old) at (key, value.now)) → IsFilled (rows_of left.new) }
-    ensures right_filled { 4032 < row_bytes (insert (rows_of left.old) at (key, value.now)) → IsFilled (rows_of right.new) }
+    ensures left_full { 4032 < row_bytes (insert (rows_of left.old) at (key, value.now))
+        → 1344 ≤ row_bytes (rows_of left.new) }
+    ensures right_full { 4032 < row_bytes (insert (rows_of left.old) at (key, value.now))
+        → 1344 ≤ row_bytes (rows_of right.new) }
+    ensures halves { IsCut (insert (rows_of left.old) at (key, value.now)) (rows_of left.new)
+        (rows_of right.new) }
+    ensures left_filled { 4032 < row_bytes (insert (rows_of left.old) at (key, value.now))
+        → IsFilled (rows_of left.new) }
+    ensures right_filled { 4032 < row_bytes (insert (rows_of left.old) at (key, value.now))
+        → IsFilled (rows_of right.new) }
     ensures left_packed { IsPackedInOrder left.new }
     ensures right_packed { IsPackedInOrder right.new }
 {

@@ -15,7 +15,8 @@ use ssd_model::PageBuf;
 /// Writes a record: its key, and behind it its value.
 fn put_record(page: &mut PageBuf, place: usize, key: u64, value: &[u8])
     requires { place + 8 + length value.now ≤ 4096 }
-    ensures row { row_in page.new (record { place = place; size = 8 + length value.now }) ≡ (key, value.now) }
+    ensures row { row_in page.new (record { place = place; size = 8 + length value.now })
+        ≡ (key, value.now) }
     ensures before { Same 0 place page.old page.new }
     ensures after { Same (place + 8 + length value.now) 4096 page.old page.new }
     ensures size { length page.new ≡ 4096 }
@@ -70,7 +71,8 @@ pub fn lay_row(
     requires few { length value.now ≤ 480 }
     requires heap { heap ≤ 4096 }
     requires room { 68 + 4 * count + (8 + length value.now) ≤ heap }
-    ensures lays { Lays at count total (heap - (8 + length value.now)) (8 + length value.now) (key, value.now) page.old page.new }
+    ensures lays { Lays at count total (heap - (8 + length value.now)) (8 + length value.now)
+        (key, value.now) page.old page.new }
     ensures size { length page.new ≡ 4096 }
     ensures size_old { length page.old ≡ 4096 }
 {
@@ -86,14 +88,17 @@ pub fn insert_here(page: &mut PageBuf, at: usize, key: u64, value: &[u8])
     requires sound { IsSound page.old }
     requires at { at ≤ entry_count page.old }
     requires few { length value.now ≤ 480 }
-    requires room { 64 + 4 * (entry_count page.old + 1) + (8 + length value.now) ≤ heap_start page.old }
+    requires room { 64 + 4 * (entry_count page.old + 1) + (8 + length value.now)
+        ≤ heap_start page.old }
     ensures rows { rows_of page.new ≡ insert (rows_of page.old) at (key, value.now) }
     ensures sound { IsSound page.new }
     ensures heap { heap_start page.new + (8 + length value.now) ≡ heap_start page.old }
     ensures count { entry_count page.new ≡ entry_count page.old + 1 }
     ensures rest { Same (64 + 4 * entry_count page.new) (heap_start page.new) page.old page.new }
     ensures above { Same (heap_start page.old) 4096 page.old page.new }
-    ensures slots { slots page.new ≡ insert (slots page.old) at (record { place = heap_start page.new; size = 8 + length value.now }) }
+    ensures slots { slots page.new
+        ≡ insert (slots page.old) at
+        (record { place = heap_start page.new; size = 8 + length value.now }) }
 {
     let count = page_word(page, 8) as usize;
     let heap = page_word(page, 24) as usize;
@@ -131,10 +136,13 @@ pub fn set_value(page: &mut PageBuf, at: usize, value: &[u8])
     requires sound { IsSound page.old }
     requires at { at < entry_count page.old }
     requires length { 8 + length value.now ≡ (slot_of page.old at).size }
-    ensures rows { (d : Row) → rows_of page.new ≡ slice_set (rows_of page.old) at ((get_or (rows_of page.old) at d).0, value.now) }
+    ensures rows { (d : Row)
+        → rows_of page.new
+        ≡ slice_set (rows_of page.old) at ((get_or (rows_of page.old) at d).0, value.now) }
     ensures sound { IsSound page.new }
     ensures before { Same 0 ((slot_of page.old at).place + 8) page.old page.new }
-    ensures after { Same ((slot_of page.old at).place + (slot_of page.old at).size) 4096 page.old page.new }
+    ensures after { Same
+        ((slot_of page.old at).place + (slot_of page.old at).size) 4096 page.old page.new }
 {
     let place = place_of(page, at);
     page.set_part(place + 8, value);

@@ -80,7 +80,8 @@ pub fn push_children(page: &mut PageBuf, from: &PageBuf, start: usize, end: usiz
     requires order { start ≤ end }
     requires within { end ≤ entry_count from.now }
     requires room { entry_count page.old + end ≤ 252 + start }
-    ensures children { children_of page.new ≡ children_of page.old ++ slice_range (children_of from.now) start end }
+    ensures children { children_of page.new
+        ≡ children_of page.old ++ slice_range (children_of from.now) start end }
     ensures count { entry_count page.new + start ≡ entry_count page.old + end }
     ensures inner { IsInner page.new }
     ensures level { page_level page.new ≡ page_level page.old }

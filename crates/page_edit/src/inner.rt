@@ -18,7 +18,8 @@ pub fn inner_insert(page: &mut PageBuf, at: usize, key: u64, child: u64)
     requires branch { IsBranch page.old }
     requires at { at ≤ length (children_of page.old) }
     requires room { length (children_of page.old) < 240 }
-    requires order { Ascends 0 last_key (first_keys (insert (children_of page.old) at (key, child))) }
+    requires order { Ascends 0 last_key
+        (first_keys (insert (children_of page.old) at (key, child))) }
     ensures children { children_of page.new ≡ insert (children_of page.old) at (key, child) }
     ensures branch { IsBranch page.new }
     ensures level { page_level page.new ≡ page_level page.old }
@@ -47,9 +48,12 @@ pub fn inner_remove(page: &mut PageBuf, at: usize)
 pub fn inner_cut(left: &mut PageBuf, right: &mut PageBuf, at: usize, key: u64, child: u64)
     requires branch { IsBranch left.old }
     requires at { at ≤ length (children_of left.old) }
-    requires order { Ascends 0 last_key (first_keys (insert (children_of left.old) at (key, child))) }
-    ensures left { let all = insert (children_of left.old) at (key, child) in children_of left.new ≡ take (children_left (length all)) all }
-    ensures right { let all = insert (children_of left.old) at (key, child) in children_of right.new ≡ drop (children_left (length all)) all }
+    requires order { Ascends 0 last_key
+        (first_keys (insert (children_of left.old) at (key, child))) }
+    ensures left { let all = insert (children_of left.old) at (key, child)
+        in children_of left.new ≡ take (children_left (length all)) all }
+    ensures right { let all = insert (children_of left.old) at (key, child)
+        in children_of right.new ≡ drop (children_left (length all)) all }
     ensures left_branch { IsBranch left.new }
     ensures right_branch { IsBranch right.new }
     ensures left_level { page_level left.new ≡ page_level left.old }
@@ -81,8 +85,10 @@ fn share_children(
     requires part { part ≤ left_count + right_count }
     requires left_room { part ≤ 240 }
     requires right_room { left_count + right_count ≤ 240 + part }
-    ensures left { children_of left.new ≡ take part (children_of left.old ++ children_of right.old) }
-    ensures right { children_of right.new ≡ drop part (children_of left.old ++ children_of right.old) }
+    ensures left { children_of left.new
+        ≡ take part (children_of left.old ++ children_of right.old) }
+    ensures right { children_of right.new
+        ≡ drop part (children_of left.old ++ children_of right.old) }
     ensures left_inner { IsInner left.new }
     ensures right_inner { IsInner right.new }
     ensures left_level { page_level left.new ≡ page_level left.old }
@@ -111,7 +117,8 @@ pub fn inner_join(left: &mut PageBuf, right: &mut PageBuf, key: u64) -> bool
     requires left { IsBranch left.old }
     requires right { IsBranch right.old }
     requires key { begins_at key (children_of right.old) ≡ true }
-    requires order { Ascends 0 last_key (first_keys (children_of left.old ++ children_of right.old)) }
+    requires order { Ascends 0 last_key
+        (first_keys (children_of left.old ++ children_of right.old)) }
     ensures left_rest { Same 3904 4096 left.old left.new }
     ensures right_rest { Same 3904 4096 right.old right.new }
     ensures joined { result ≡ true → IsJoinedBranch left.old right.old left.new }

@@ -49,8 +49,10 @@ pub fn leaf_insert(page: &mut PageBuf, at: usize, key: u64, value: &[u8])
     ensures leaf { IsLeaf page.new }
     ensures rest { Same (64 + 4 * entry_count page.new) (heap_start page.new) page.old page.new }
     ensures placed { AddsBelow (8 + length value.now) page.old page.new ⊎ IsPacked page.new }
-    ensures below { heap_for (8 + length value.now) page.old ≤ heap_start page.old → PutsBelow at (8 + length value.now) page.old page.new }
-    ensures packed { heap_start page.old < heap_for (8 + length value.now) page.old → PacksFirst at (8 + length value.now) page.old page.new }
+    ensures below { heap_for (8 + length value.now) page.old ≤ heap_start page.old
+        → PutsBelow at (8 + length value.now) page.old page.new }
+    ensures packed { heap_start page.old < heap_for (8 + length value.now) page.old
+        → PacksFirst at (8 + length value.now) page.old page.new }
 {
     open_leaf(page);
     make_room(page, value.len());
@@ -77,10 +79,13 @@ pub fn leaf_set(page: &mut PageBuf, at: usize, value: &[u8])
     requires at { at < length (rows_of page.old) }
     requires same { (d : Row) → length value.now ≡ length (get_or (rows_of page.old) at d).1 }
     requires printable { list_all is_printable value.now ≡ true }
-    ensures rows { (d : Row) → rows_of page.new ≡ slice_set (rows_of page.old) at ((get_or (rows_of page.old) at d).0, value.now) }
+    ensures rows { (d : Row)
+        → rows_of page.new
+        ≡ slice_set (rows_of page.old) at ((get_or (rows_of page.old) at d).0, value.now) }
     ensures leaf { IsLeaf page.new }
     ensures before { Same 0 ((slot_of page.old at).place + 8) page.old page.new }
-    ensures after { Same ((slot_of page.old at).place + (slot_of page.old at).size) 4096 page.old page.new }
+    ensures after { Same
+        ((slot_of page.old at).place + (slot_of page.old at).size) 4096 page.old page.new }
 {
     open_leaf(page);
     set_value(page, at, value);

@@ -29,8 +29,12 @@ fn push_both(
     requires within { end ≤ length (rows_of first.now) }
     requires second_order { from ≤ to }
     requires second_within { to ≤ length (rows_of second.now) }
-    requires room { row_bytes (rows_of page.old ++ (slice_range (rows_of first.now) start end ++ slice_range (rows_of second.now) from to)) ≤ 4032 }
-    ensures rows { rows_of page.new ≡ rows_of page.old ++ (slice_range (rows_of first.now) start end ++ slice_range (rows_of second.now) from to) }
+    requires room { row_bytes
+        (rows_of page.old ++ (slice_range (rows_of first.now) start end ++ slice_range
+        (rows_of second.now) from to)) ≤ 4032 }
+    ensures rows { rows_of page.new
+        ≡ rows_of page.old
+        ++ (slice_range (rows_of first.now) start end ++ slice_range (rows_of second.now) from to) }
     ensures packed { IsPackedInOrder page.new }
 {
     push_rows(page, first, start, end);

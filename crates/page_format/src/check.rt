@@ -18,7 +18,9 @@ use ssd_model::PageBuf;
 
 /// Whether the slots end before the heap, and the heap in the page.
 fn heap_fits(page: &PageBuf) -> bool
-    ensures fits { result ≡ (nat_le (64 + 4 * entry_count page.now) (heap_start page.now) && nat_le (heap_start page.now) 4096) }
+    ensures fits { result
+        ≡ (nat_le (64 + 4 * entry_count page.now) (heap_start page.now) && nat_le
+        (heap_start page.now) 4096) }
     ensures few { result ≡ true → entry_count page.now ≤ 1008 }
 {
     let count = page_word(page, 8);
@@ -132,7 +134,9 @@ fn values_printable(page: &PageBuf, count: usize) -> bool
 fn records_fit(page: &PageBuf, count: usize) -> bool
     requires count { count ≡ entry_count page.now }
     requires few { count ≤ 1008 }
-    ensures { result ≡ (list_all (is_in_heap (heap_start page.now)) (slots page.now) && all_apart (slots page.now)) }
+    ensures { result
+        ≡ (list_all (is_in_heap (heap_start page.now)) (slots page.now) && all_apart
+        (slots page.now)) }
 {
     let heap = page_word(page, 24) as usize;
     all_placed(page, count, heap) && all_separate(page, count)
@@ -262,7 +266,9 @@ fn children_below(page: &PageBuf, count: usize, pages: u64) -> bool
 fn order_fits(page: &PageBuf, count: usize, low: u64, high: u64) -> bool
     requires inner { IsInner page.now }
     requires count { count ≡ entry_count page.now }
-    ensures { result ≡ (begins_at low (children_of page.now) && ascends low high (first_keys (children_of page.now))) }
+    ensures { result
+        ≡ (begins_at low (children_of page.now) && ascends low high
+        (first_keys (children_of page.now))) }
 {
     begins_low(page, count, low) && first_keys_ascend(page, count, low, high)
 }

@@ -21,7 +21,8 @@ impl Marks {
         requires some { 1 ≤ size }
         requires within { place + size ≤ 4096 }
         ensures free { result ≡ all_free (marked_in self.old.words) place size }
-        ensures marks { result ≡ true → marked_in self.new.words ≡ with_run place size (marked_in self.old.words) }
+        ensures marks { result ≡ true
+            → marked_in self.new.words ≡ with_run place size (marked_in self.old.words) }
     {
         let mut at = place;
         for word in place / 64..(place + size - 1) / 64 + 1 {
@@ -39,8 +40,10 @@ impl Marks {
         requires word { word < 64 }
         requires some { from < until }
         requires within { until ≤ 64 }
-        ensures free { result ≡ all_free (marked_in self.old.words) (64 * word + from) (until - from) }
-        ensures marks { marked_in self.new.words ≡ with_run (64 * word + from) (until - from) (marked_in self.old.words) }
+        ensures free { result
+            ≡ all_free (marked_in self.old.words) (64 * word + from) (until - from) }
+        ensures marks { marked_in self.new.words
+            ≡ with_run (64 * word + from) (until - from) (marked_in self.old.words) }
     {
         let mask = mask_of(from, until);
         let is_free = self.words[word] & mask == 0;

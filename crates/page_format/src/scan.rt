@@ -91,8 +91,10 @@ fn first_above(page: &PageBuf, count: usize, key: u64) -> usize
     requires some { 1 ≤ count }
     ensures some { 1 ≤ result }
     ensures within { result ≤ count }
-    ensures low { (d : ChildOf) → 1 < result → (get_or (children_of page.now) (result - 1) d).0 ≤ key }
-    ensures high { (d : ChildOf) → result < count → key < (get_or (children_of page.now) result d).0 }
+    ensures low { (d : ChildOf) → 1 < result
+        → (get_or (children_of page.now) (result - 1) d).0 ≤ key }
+    ensures high { (d : ChildOf) → result < count
+        → key < (get_or (children_of page.now) result d).0 }
 {
     for i in 1..count {
         if child_key(page, i) > key {

@@ -253,7 +253,9 @@ fn inner_of(count: usize, first: u64) -> PageBuf
 /// Whether a key is above those of all children.
 fn is_above(page: &PageBuf, key: u64) -> bool
     requires { IsBranch page.now }
-    ensures { (child : ℕ) → result ≡ true → Ascends 0 last_key (first_keys (insert (children_of page.now) (length (children_of page.now)) (key, child))) }
+    ensures { (child : ℕ) → result ≡ true
+        → Ascends 0 last_key
+        (first_keys (insert (children_of page.now) (length (children_of page.now)) (key, child))) }
 {
     let count = children(page);
     if count == 0 {
@@ -295,7 +297,8 @@ fn cut_inner(left: &mut PageBuf, right: &mut PageBuf, key: u64, child: u64) -> b
 fn begins_before(left: &PageBuf, right: &PageBuf) -> bool
     requires left { IsBranch left.now }
     requires right { IsBranch right.now }
-    ensures { result ≡ true → Ascends 0 last_key (first_keys (children_of left.now ++ children_of right.now)) }
+    ensures { result ≡ true
+        → Ascends 0 last_key (first_keys (children_of left.now ++ children_of right.now)) }
 {
     let count = children(left);
     let more = children(right);

@@ -50,7 +50,12 @@ impl PlainCopy {
     /// Makes a table.
     fn create(&mut self, alloc: Global, name: Name) -> Result<(), NoMemory>
         requires { self.old.writes < 4294967295 }
-        ensures made { OnOk result (self.new ≡ record { tables = with_table name self.old.tables; writes = self.old.writes + 1 }) }
+        ensures made { OnOk result
+            (self.new ≡ record {
+              tables = with_table name self.old.tables;
+              writes = self.old.writes
+                  + 1;
+            }) }
         ensures stays { OnErr result (self.new ≡ self.old) }
     {
         tables::create(alloc, &mut self.tables, name)?;
@@ -61,7 +66,13 @@ impl PlainCopy {
     /// Puts a value at a key.
     fn put(&mut self, name: &Name, key: u64, value: Value) -> Result<(), NoMemory>
         requires { self.old.writes < 4294967295 }
-        ensures put { OnOk result (self.new ≡ record { tables = with_rows name.now (row_put key value (rows_or_none name.now self.old.tables)) self.old.tables; writes = self.old.writes + 1 }) }
+        ensures put { OnOk result
+            (self.new ≡ record {
+              tables = with_rows name.now
+                  (row_put key value (rows_or_none name.now self.old.tables)) self.old.tables;
+              writes =
+                  self.old.writes + 1;
+            }) }
         ensures stays { OnErr result (self.new ≡ self.old) }
     {
         tables::put(&mut self.tables, name, key, value)?;
@@ -72,7 +83,13 @@ impl PlainCopy {
     /// Takes the row with a key away.
     fn delete(&mut self, name: &Name, key: u64)
         requires { self.old.writes < 4294967295 }
-        ensures { self.new ≡ record { tables = with_rows name.now (row_delete key (rows_or_none name.now self.old.tables)) self.old.tables; writes = self.old.writes + 1 } }
+        ensures { self.new
+            ≡ record {
+              tables = with_rows name.now
+                  (row_delete key (rows_or_none name.now self.old.tables)) self.old.tables;
+              writes =
+                  self.old.writes + 1;
+            } }
     {
         tables::delete(&mut self.tables, name, key);
         self.writes += 1;
@@ -119,7 +136,8 @@ impl PlainMachine {
 
     /// Begins a new run over the committed tables: no transaction is open, and the commits are counted from 1 again.
     pub fn restart(&mut self)
-        ensures { self.new ≡ record { bounds = self.old.bounds; state = opening self.old.state.tables } }
+        ensures { self.new
+            ≡ record { bounds = self.old.bounds; state = opening self.old.state.tables } }
     {
         self.transaction = None;
         self.commits = 0;
@@ -128,7 +146,9 @@ impl PlainMachine {
     /// Answers a line, given without its line feed: the replies to it, none where it is silent. After `NoMemory` the machine
     /// is as it was.
     pub fn answer(&mut self, line: &[u8]) -> Result<Vec<Reply>, NoMemory>
-        ensures answers { CountsOn self.old.state → IfOk result (λ replies. Answers self.old self.new (command_in line.now) replies.items) }
+        ensures answers { CountsOn self.old.state
+            → IfOk result
+            (λ replies. Answers self.old self.new (command_in line.now) replies.items) }
         ensures stays { OnErr result (self.new ≡ self.old) }
     {
         if is_silent(line) {
@@ -142,7 +162,8 @@ impl PlainMachine {
 
     /// Carries a command out, or refuses it.
     fn step(&mut self, command: Command) -> Result<Vec<Reply>, NoMemory>
-        ensures answers { CountsOn self.old.state → IfOk result (λ replies. Answers self.old self.new (Some command ∷ []) replies.items) }
+        ensures answers { CountsOn self.old.state
+            → IfOk result (λ replies. Answers self.old self.new (Some command ∷ []) replies.items) }
         ensures stays { OnErr result (self.new ≡ self.old) }
     {
         match self.refusal(&command) {
@@ -197,7 +218,8 @@ impl PlainMachine {
         requires accepted { refusal_of self.old.bounds self.old.state command ≡ None }
         requires few { self.old.bounds.writes ≤ 4294967295 }
         ensures state { CountsOn self.old.state → OnOk result (self.new ≡ did self.old command) }
-        ensures replies { CountsOn self.old.state → IfOk result (λ replies. replies.items ≡ (accepted self.old.state command).1) }
+        ensures replies { CountsOn self.old.state
+            → IfOk result (λ replies. replies.items ≡ (accepted self.old.state command).1) }
         ensures stays { OnErr result (self.new ≡ self.old) }
     {
         match command {
@@ -219,7 +241,8 @@ impl PlainMachine {
     /// A transaction opens.
     fn begin(&mut self) -> Result<Vec<Reply>, NoMemory>
         ensures state { OnOk result (self.new ≡ did self.old command.Begin) }
-        ensures replies { IfOk result (λ replies. replies.items ≡ (accepted self.old.state command.Begin).1) }
+        ensures replies { IfOk result
+            (λ replies. replies.items ≡ (accepted self.old.state command.Begin).1) }
         ensures stays { OnErr result (self.new ≡ self.old) }
     {
         let replies = one(self.alloc, Reply::Fine)?;
@@ -232,7 +255,8 @@ impl PlainMachine {
     fn create(&mut self, name: Name) -> Result<Vec<Reply>, NoMemory>
         requires { writes_so_far self.old.state.transaction < 4294967295 }
         ensures state { OnOk result (self.new ≡ did self.old (command.Create name)) }
-        ensures replies { IfOk result (λ replies. replies.items ≡ (accepted self.old.state (command.Create name)).1) }
+        ensures replies { IfOk result
+            (λ replies. replies.items ≡ (accepted self.old.state (command.Create name)).1) }
         ensures stays { OnErr result (self.new ≡ self.old) }
     {
         let replies = one(self.alloc, Reply::Fine)?;
@@ -247,7 +271,9 @@ impl PlainMachine {
     fn put(&mut self, name: &Name, key: u64, value: Value) -> Result<Vec<Reply>, NoMemory>
         requires { writes_so_far self.old.state.transaction < 4294967295 }
         ensures state { OnOk result (self.new ≡ did self.old (command.Put name.now key value)) }
-        ensures replies { IfOk result (λ replies. replies.items ≡ (accepted self.old.state (command.Put name.now key value)).1) }
+        ensures replies { IfOk result
+            (λ replies. replies.items
+            ≡ (accepted self.old.state (command.Put name.now key value)).1) }
         ensures stays { OnErr result (self.new ≡ self.old) }
     {
         let replies = one(self.alloc, Reply::Fine)?;
@@ -261,7 +287,8 @@ impl PlainMachine {
     fn delete(&mut self, name: &Name, key: u64) -> Result<Vec<Reply>, NoMemory>
         requires { writes_so_far self.old.state.transaction < 4294967295 }
         ensures state { OnOk result (self.new ≡ did self.old (command.Del name.now key)) }
-        ensures replies { IfOk result (λ replies. replies.items ≡ (accepted self.old.state (command.Del name.now key)).1) }
+        ensures replies { IfOk result
+            (λ replies. replies.items ≡ (accepted self.old.state (command.Del name.now key)).1) }
         ensures stays { OnErr result (self.new ≡ self.old) }
     {
         if !tables::has_key(self.current(), name, key) {
@@ -275,7 +302,13 @@ impl PlainMachine {
     /// Takes the row with a key away from the open transaction's copy.
     fn remove(&mut self, name: &Name, key: u64)
         requires { writes_so_far self.old.state.transaction < 4294967295 }
-        ensures { self.new ≡ record { bounds = self.old.bounds; state = written (with_rows name.now (row_delete key (rows_in name.now self.old.state)) (tables_now self.old.state)) self.old.state } }
+        ensures { self.new
+            ≡ record {
+              bounds = self.old.bounds;
+              state = written
+                  (with_rows name.now (row_delete key (rows_in name.now self.old.state))
+                  (tables_now self.old.state)) self.old.state;
+            } }
     {
         if let Some(copy) = &mut self.transaction {
             copy.delete(name, key);
@@ -285,7 +318,8 @@ impl PlainMachine {
     /// The value at a key.
     fn get(&mut self, name: &Name, key: u64) -> Result<Vec<Reply>, NoMemory>
         ensures state { OnOk result (self.new ≡ did self.old (command.Get name.now key)) }
-        ensures replies { IfOk result (λ replies. replies.items ≡ (accepted self.old.state (command.Get name.now key)).1) }
+        ensures replies { IfOk result
+            (λ replies. replies.items ≡ (accepted self.old.state (command.Get name.now key)).1) }
         ensures stays { OnErr result (self.new ≡ self.old) }
     {
         match tables::get(self.current(), name, key) {
@@ -297,7 +331,9 @@ impl PlainMachine {
     /// The rows from one key to another.
     fn scan(&mut self, name: &Name, low: u64, high: u64) -> Result<Vec<Reply>, NoMemory>
         ensures state { OnOk result (self.new ≡ did self.old (command.Scan name.now low high)) }
-        ensures replies { IfOk result (λ replies. replies.items ≡ (accepted self.old.state (command.Scan name.now low high)).1) }
+        ensures replies { IfOk result
+            (λ replies. replies.items
+            ≡ (accepted self.old.state (command.Scan name.now low high)).1) }
         ensures stays { OnErr result (self.new ≡ self.old) }
     {
         let mut replies = Vec::new(self.alloc);
@@ -309,8 +345,10 @@ impl PlainMachine {
 
     /// What the open transaction wrote stands.
     fn commit(&mut self) -> Result<Vec<Reply>, NoMemory>
-        ensures state { CountsOn self.old.state → OnOk result (self.new ≡ did self.old command.Commit) }
-        ensures replies { CountsOn self.old.state → IfOk result (λ replies. replies.items ≡ (accepted self.old.state command.Commit).1) }
+        ensures state { CountsOn self.old.state
+            → OnOk result (self.new ≡ did self.old command.Commit) }
+        ensures replies { CountsOn self.old.state
+            → IfOk result (λ replies. replies.items ≡ (accepted self.old.state command.Commit).1) }
         ensures stays { OnErr result (self.new ≡ self.old) }
     {
         let commits = self.commits.saturating_add(1);
@@ -325,7 +363,8 @@ impl PlainMachine {
     /// What it wrote is dropped.
     fn abort(&mut self) -> Result<Vec<Reply>, NoMemory>
         ensures state { OnOk result (self.new ≡ did self.old command.Abort) }
-        ensures replies { IfOk result (λ replies. replies.items ≡ (accepted self.old.state command.Abort).1) }
+        ensures replies { IfOk result
+            (λ replies. replies.items ≡ (accepted self.old.state command.Abort).1) }
         ensures stays { OnErr result (self.new ≡ self.old) }
     {
         let replies = one(self.alloc, Reply::Aborted)?;

@@ -126,7 +126,8 @@ pub fn scan(
     high: u64,
     replies: &mut Vec<Reply>,
 ) -> Result<(), NoMemory>
-    ensures { OnOk result (replies.new.items ≡ replies.old.items ++ row_replies (row_range low high rows.now)) }
+    ensures { OnOk result
+        (replies.new.items ≡ replies.old.items ++ row_replies (row_range low high rows.now)) }
 {
     for row in rows {
         if low <= row.key && row.key <= high {

@@ -128,7 +128,9 @@ pub fn scan(
     high: u64,
     replies: &mut Vec<Reply>,
 ) -> Result<(), NoMemory>
-    ensures { OnOk result (replies.new.items ≡ replies.old.items ++ row_replies (row_range low high (rows_or_none name.now tables.now))) }
+    ensures { OnOk result
+        (replies.new.items ≡ replies.old.items ++ row_replies
+        (row_range low high (rows_or_none name.now tables.now))) }
 {
     row_list::scan(rows_of(tables, name), low, high, replies)
 }
@@ -140,7 +142,9 @@ pub fn put(
     key: u64,
     value: Value,
 ) -> Result<(), NoMemory>
-    ensures put { OnOk result (tables.new.items ≡ with_rows name.now (row_put key value (rows_or_none name.now tables.old.items)) tables.old.items) }
+    ensures put { OnOk result
+        (tables.new.items ≡ with_rows name.now
+        (row_put key value (rows_or_none name.now tables.old.items)) tables.old.items) }
     ensures stays { OnErr result (tables.new.items ≡ tables.old.items) }
 {
     let Some(at) = table_at(tables, name) else {
@@ -151,7 +155,9 @@ pub fn put(
 
 /// Takes the row with the key away from the table of the name.
 pub fn delete(tables: &mut Vec<PlainTable>, name: &Name, key: u64)
-    ensures { tables.new.items ≡ with_rows name.now (row_delete key (rows_or_none name.now tables.old.items)) tables.old.items }
+    ensures { tables.new.items
+        ≡ with_rows name.now
+        (row_delete key (rows_or_none name.now tables.old.items)) tables.old.items }
 {
     if let Some(at) = table_at(tables, name) {
         tables[at].delete(key);

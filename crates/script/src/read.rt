@@ -113,7 +113,8 @@ fn clean(left: Option<&[u8]>) -> Option<Command>
 
 /// A name, and what is left behind it.
 fn name_field(left: Option<&[u8]>) -> Option<(Name, Option<&[u8]>)>
-    ensures { option_map (λ p. (p.0, option_copied p.1)) result ≡ field name_of (option_copied left.entry) }
+    ensures { option_map (λ p. (p.0, option_copied p.1)) result
+        ≡ field name_of (option_copied left.entry) }
 {
     let (word, left) = cut(left?);
     let name = Name::from_bytes(word)?;
@@ -122,7 +123,8 @@ fn name_field(left: Option<&[u8]>) -> Option<(Name, Option<&[u8]>)>
 
 /// A count of pages from 1 to 65,536, and what is left behind it.
 fn count_field(left: Option<&[u8]>) -> Option<(u32, Option<&[u8]>)>
-    ensures { option_map (λ p. (p.0, option_copied p.1)) result ≡ field (count_up_to 65536) (option_copied left.entry) }
+    ensures { option_map (λ p. (p.0, option_copied p.1)) result
+        ≡ field (count_up_to 65536) (option_copied left.entry) }
 {
     let (word, left) = cut(left?);
     let count = key(word)?;

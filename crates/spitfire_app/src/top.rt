@@ -32,23 +32,36 @@ const LIMIT: u64 = 1 << 32;
 pub fn spitfire<W: World>(alloc: Global, words: &Words, world: &mut W) -> u8
     ensures goes { GoesOn (W.Devices.standing world.old) (W.Devices.standing world.new) }
     // no settings are read
-    ensures settings { ReadsNoSettings (W.Devices.standing world.old) (W.Devices.standing world.new) }
+    ensures settings { ReadsNoSettings (W.Devices.standing world.old)
+        (W.Devices.standing world.new) }
     // why each status comes
-    ensures causes { Causes words.now (W.Devices.standing world.old) (W.Devices.standing world.new) result }
+    ensures causes { Causes words.now (W.Devices.standing world.old)
+        (W.Devices.standing world.new) result }
     // `run` over devices that hold tables: the replies are those of plain tables
-    ensures replies { (g : Sizes) (T : List Table) → task_of words.now ≡ Some Run → IsTrue (W.Devices.standing world.old).told → Holds g T (now (W.Devices.standing world.old))
+    ensures replies { (g : Sizes) (T : List Table) → task_of words.now ≡ Some Run
+        → IsTrue (W.Devices.standing world.old).told
+        → Holds g T (now (W.Devices.standing world.old))
         → Replies g T (W.Devices.standing world.old) (W.Devices.standing world.new) result }
     // `run` over an honest world in order: a crash at any moment keeps every acknowledged commit
-    ensures survives { (g : Sizes) (T : List Table) → task_of words.now ≡ Some Run → IsHonest (W.Devices.standing world.old)
-        → InOrder g T (W.Devices.standing world.old).lines (W.Devices.standing world.old).blocks (now (W.Devices.standing world.old))
+    ensures survives { (g : Sizes) (T : List Table) → task_of words.now ≡ Some Run
+        → IsHonest (W.Devices.standing world.old)
+        → InOrder g T (W.Devices.standing world.old).lines (W.Devices.standing world.old).blocks
+        (now (W.Devices.standing world.old))
         → Survives g T (W.Devices.standing world.old) (W.Devices.standing world.new) result }
     // and where no fault comes it ends well
-    ensures complete { (g : Sizes) (T : List Table) → task_of words.now ≡ Some Run → HoldsStore (W.Devices.standing world.old) → Holds g T (now (W.Devices.standing world.old))
-        → length (W.Devices.standing world.old).outside.input ≤ 2 ^ 32 → NoFaultCame (W.Devices.standing world.old) (W.Devices.standing world.new) → (result ≡ 0) ⊎ (result ≡ 11) }
+    ensures complete { (g : Sizes) (T : List Table) → task_of words.now ≡ Some Run
+        → HoldsStore (W.Devices.standing world.old) → Holds g T (now (W.Devices.standing world.old))
+        → length (W.Devices.standing world.old).outside.input ≤ 2 ^ 32
+        → NoFaultCame (W.Devices.standing world.old) (W.Devices.standing world.new)
+        → (result ≡ 0) ⊎ (result ≡ 11) }
     // `format` over a told world that is large enough, whatever it holds
-    ensures formats { task_of words.now ≡ Some Format → IsTrue (W.Devices.standing world.old).told → nvm_lines first_sizes ≤ (W.Devices.standing world.old).lines
-        → ssd_blocks first_sizes ≤ (W.Devices.standing world.old).blocks → Formatted (W.Devices.standing world.old) (W.Devices.standing world.new) result }
-    ensures formats_complete { task_of words.now ≡ Some Format → nvm_lines first_sizes ≤ (W.Devices.standing world.old).lines → ssd_blocks first_sizes ≤ (W.Devices.standing world.old).blocks
+    ensures formats { task_of words.now ≡ Some Format → IsTrue (W.Devices.standing world.old).told
+        → nvm_lines first_sizes ≤ (W.Devices.standing world.old).lines
+        → ssd_blocks first_sizes ≤ (W.Devices.standing world.old).blocks
+        → Formatted (W.Devices.standing world.old) (W.Devices.standing world.new) result }
+    ensures formats_complete { task_of words.now ≡ Some Format
+        → nvm_lines first_sizes ≤ (W.Devices.standing world.old).lines
+        → ssd_blocks first_sizes ≤ (W.Devices.standing world.old).blocks
         → NoFaultCame (W.Devices.standing world.old) (W.Devices.standing world.new) → result ≡ 0 }
 {
     match words.task() {
@@ -74,9 +87,13 @@ fn first_geometry() -> Geometry
 /// Makes an empty store and says so.
 fn format<W: World>(world: &mut W) -> u8
     ensures goes { GoesOn (W.Devices.standing world.old) (W.Devices.standing world.new) }
-    ensures settings { ReadsNoSettings (W.Devices.standing world.old) (W.Devices.standing world.new) }
-    ensures causes { FormatCauses (W.Devices.standing world.old) (W.Devices.standing world.new) result }
-    ensures formats { IsTrue (W.Devices.standing world.old).told → nvm_lines first_sizes ≤ (W.Devices.standing world.old).lines → ssd_blocks first_sizes ≤ (W.Devices.standing world.old).blocks
+    ensures settings { ReadsNoSettings (W.Devices.standing world.old)
+        (W.Devices.standing world.new) }
+    ensures causes { FormatCauses (W.Devices.standing world.old)
+        (W.Devices.standing world.new) result }
+    ensures formats { IsTrue (W.Devices.standing world.old).told
+        → nvm_lines first_sizes ≤ (W.Devices.standing world.old).lines
+        → ssd_blocks first_sizes ≤ (W.Devices.standing world.old).blocks
         → Formatted (W.Devices.standing world.old) (W.Devices.standing world.new) result }
 {
     match flat_recovery::format(world, &first_geometry()) {
@@ -93,15 +110,22 @@ fn format<W: World>(world: &mut W) -> u8
 /// Opens the store and answers the script.
 fn run<W: World>(alloc: Global, world: &mut W) -> u8
     ensures goes { GoesOn (W.Devices.standing world.old) (W.Devices.standing world.new) }
-    ensures settings { ReadsNoSettings (W.Devices.standing world.old) (W.Devices.standing world.new) }
-    ensures causes { RunCauses (W.Devices.standing world.old) (W.Devices.standing world.new) result }
-    ensures replies { (g : Sizes) (T : List Table) → IsTrue (W.Devices.standing world.old).told → Holds g T (now (W.Devices.standing world.old))
+    ensures settings { ReadsNoSettings (W.Devices.standing world.old)
+        (W.Devices.standing world.new) }
+    ensures causes { RunCauses (W.Devices.standing world.old)
+        (W.Devices.standing world.new) result }
+    ensures replies { (g : Sizes) (T : List Table) → IsTrue (W.Devices.standing world.old).told
+        → Holds g T (now (W.Devices.standing world.old))
         → Replies g T (W.Devices.standing world.old) (W.Devices.standing world.new) result }
     ensures survives { (g : Sizes) (T : List Table) → IsTrue (W.Devices.standing world.old).told
-        → InOrder g T (W.Devices.standing world.old).lines (W.Devices.standing world.old).blocks (now (W.Devices.standing world.old))
+        → InOrder g T (W.Devices.standing world.old).lines (W.Devices.standing world.old).blocks
+        (now (W.Devices.standing world.old))
         → Survives g T (W.Devices.standing world.old) (W.Devices.standing world.new) result }
-    ensures complete { (g : Sizes) (T : List Table) → HoldsStore (W.Devices.standing world.old) → Holds g T (now (W.Devices.standing world.old))
-        → length (W.Devices.standing world.old).outside.input ≤ 2 ^ 32 → NoFaultCame (W.Devices.standing world.old) (W.Devices.standing world.new) → (result ≡ 0) ⊎ (result ≡ 11) }
+    ensures complete { (g : Sizes) (T : List Table) → HoldsStore (W.Devices.standing world.old)
+        → Holds g T (now (W.Devices.standing world.old))
+        → length (W.Devices.standing world.old).outside.input ≤ 2 ^ 32
+        → NoFaultCame (W.Devices.standing world.old) (W.Devices.standing world.new)
+        → (result ≡ 0) ⊎ (result ≡ 11) }
 {
     match Engine::open(alloc, world) {
         Ok(mut engine) => run_script(&mut engine, world, LIMIT),
@@ -118,10 +142,15 @@ fn run<W: World>(alloc: Global, world: &mut W) -> u8
 /// Tells of damage that the opening found, whose evidence is of no page. Statuses: 5, and 9 a fault of the output.
 fn show_damage<W: World>(world: &mut W, evidence: &Evidence) -> u8
     ensures call { WorldCall (W.Devices.standing world.old) (W.Devices.standing world.new) }
-    ensures rest { OnlyChanges false false true (W.Devices.standing world.old) (W.Devices.standing world.new) }
+    ensures rest { OnlyChanges false false true (W.Devices.standing world.old)
+        (W.Devices.standing world.new) }
     ensures known { IsOneOf result (5 ∷ 9 ∷ []) }
-    ensures sink { result ≡ 9 → Rose (W.Devices.standing world.old).outside.sink_faults (W.Devices.standing world.new).outside.sink_faults }
-    ensures ends { IsTrue (W.Devices.standing world.old).told → result ≡ 5 → sent (W.Devices.standing world.new) ≡ sent (W.Devices.standing world.old) ++ damage_text evidence.now zero_page }
+    ensures sink { result ≡ 9
+        → Rose (W.Devices.standing world.old).outside.sink_faults
+        (W.Devices.standing world.new).outside.sink_faults }
+    ensures ends { IsTrue (W.Devices.standing world.old).told → result ≡ 5
+        → sent (W.Devices.standing world.new)
+        ≡ sent (W.Devices.standing world.old) ++ damage_text evidence.now zero_page }
 {
     match tell_damage(world, evidence, &PageBuf::zero()) {
         Ok(()) => 5,

@@ -134,7 +134,8 @@ fn move_bytes(bytes: &mut [u8], from: usize, end: usize, to: usize)
     requires room { to + end ≤ length bytes.old + from }
     ensures moved { Moved from end to bytes.old bytes.new }
     ensures before { Same 0 to bytes.old bytes.new }
-    ensures after { (past : ℕ) → past + from ≡ to + end → Same past (length bytes.old) bytes.old bytes.new }
+    ensures after { (past : ℕ) → past + from ≡ to + end
+        → Same past (length bytes.old) bytes.old bytes.new }
     ensures size { length bytes.new ≡ length bytes.old }
 {
     bytes.copy_within(from..end, to);

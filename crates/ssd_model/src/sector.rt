@@ -59,7 +59,9 @@ impl Sector {
 
     /// Gives what a choice leaves of the block of this number.
     pub fn choose(&self, interval: u64, choice: BlockChoice, number: u64, into: &mut PageBuf)
-        ensures value { into.new ≡ chosen_bytes choice number (block_in interval (Some self.now)) (synced_in interval (Some self.now)) }
+        ensures value { into.new
+            ≡ chosen_bytes choice number (block_in interval (Some self.now))
+            (synced_in interval (Some self.now)) }
         ensures page { length into.new ≡ 4096 }
     {
         if self.interval < interval {
@@ -71,7 +73,8 @@ impl Sector {
 
     /// Gives what a choice leaves of it where it is not settled.
     fn choose_unsettled(&self, choice: BlockChoice, number: u64, into: &mut PageBuf)
-        ensures value { into.new ≡ unsettled_bytes choice number self.now.current.value self.now.synced.value }
+        ensures value { into.new
+            ≡ unsettled_bytes choice number self.now.current.value self.now.synced.value }
         ensures page { length into.new ≡ 4096 }
     {
         match choice {

@@ -65,7 +65,8 @@ impl SsdState {
     /// were.
     pub fn write(&mut self, block: u64, from: &PageBuf) -> Result<(), AllocError>
         requires { block < blocks_of self.old }
-        ensures written { OnOk result (disk_of self.new ≡ with_block block from.now (disk_of self.old)) }
+        ensures written { OnOk result
+            (disk_of self.new ≡ with_block block from.now (disk_of self.old)) }
         ensures unchanged { OnErr result (disk_of self.new ≡ disk_of self.old) }
         ensures synced { synced_of self.new ≡ synced_of self.old }
         ensures page { length from.now ≡ 4096 }
@@ -91,7 +92,8 @@ impl SsdState {
     /// Gives what a choice leaves of a block.
     pub fn image_block(&self, block: u64, choice: BlockChoice, into: &mut PageBuf)
         requires { block < blocks_of self.now }
-        ensures value { into.new ≡ chosen_bytes choice block (disk_of self.now block) (synced_of self.now block) }
+        ensures value { into.new
+            ≡ chosen_bytes choice block (disk_of self.now block) (synced_of self.now block) }
         ensures page { length into.new ≡ 4096 }
     {
         match self.written.get(&block) {

@@ -12,7 +12,7 @@ use Rattle.table_catalog.specs.declared.entry.Entry.{Entry}
 use Rattle.rows.specs.Names.{is_name_byte}
 use Rattle.table_catalog.specs.Catalog.{entry_in, entries_from, entries, table_count, name_in, name_of, names_differ, is_zero, is_name_field, is_listed, is_entry, header_checks, catalog_checks, FitsCatalog, FitsEntry, place_of, table_of}
 use Rattle.rows.specs.Tables.{is_known}
-use Rattle.table_catalog.specs.declared.entry.Place.{Place}
+use Rattle.table_catalog.specs.declared.entry.TableEntry.{TableEntry}
 
 -- each of the checks passes
 abbrev pub AllHold : {X : Type 0} → List (X × Bool) → Type 0
@@ -122,20 +122,20 @@ from_more lines i n inside =
     let next : suc (2 + i) ≡ 2 + (i + 1) = omega arith in
     ap (λ (k : ℕ). entries_from lines (2 + i) k) left ∙ ap (λ (k : ℕ). entry_in (lines 0 (2 + i)) ∷ entries_from lines k (n - (i + 1))) next
 
-pub place_step : (name : List ℕ) (lines : Lines) (whole : Option Place) (i n : ℕ) (entry : Entry) → i < n → whole ≡ place_of name i (entries_from lines (2 + i) (n - i)) → entry ≡ entry_in (lines 0 (2 + i))
+pub place_step : (name : List ℕ) (lines : Lines) (whole : Option TableEntry) (i n : ℕ) (entry : Entry) → i < n → whole ≡ place_of name i (entries_from lines (2 + i) (n - i)) → entry ≡ entry_in (lines 0 (2 + i))
     → bytes_eq (name_of entry) name ≡ false → whole ≡ place_of name (i + 1) (entries_from lines (2 + (i + 1)) (n - (i + 1)))
 place_step name lines whole i n entry inside so_far entry_is other =
     let there : bytes_eq (name_of (entry_in (lines 0 (2 + i)))) name ≡ false = subst (λ (e : Entry). bytes_eq (name_of e) name ≡ false) entry_is other in
     let next : suc i ≡ i + 1 = omega arith in
     so_far ∙ ap (place_of name i) (from_more lines i n inside) ∙ rw there (ap (λ (k : ℕ). place_of name k (entries_from lines (2 + (i + 1)) (n - (i + 1)))) next)
 
-pub place_found : (name : List ℕ) (lines : Lines) (whole : Option Place) (i n : ℕ) (entry : Entry) → i < n → whole ≡ place_of name i (entries_from lines (2 + i) (n - i)) → entry ≡ entry_in (lines 0 (2 + i))
+pub place_found : (name : List ℕ) (lines : Lines) (whole : Option TableEntry) (i n : ℕ) (entry : Entry) → i < n → whole ≡ place_of name i (entries_from lines (2 + i) (n - i)) → entry ≡ entry_in (lines 0 (2 + i))
     → bytes_eq (name_of entry) name ≡ true → Some (record { at = i; entry = entry }) ≡ whole
 place_found name lines whole i n entry inside so_far entry_is same =
     let there : bytes_eq (name_of (entry_in (lines 0 (2 + i)))) name ≡ true = subst (λ (e : Entry). bytes_eq (name_of e) name ≡ true) entry_is same in
     ap (λ (e : Entry). Some (record { at = i; entry = e })) entry_is ∙ sym (so_far ∙ ap (place_of name i) (from_more lines i n inside) ∙ rw there refl)
 
-pub place_none : (name : List ℕ) (lines : Lines) (whole : Option Place) (i n : ℕ) → n ≤ i → whole ≡ place_of name i (entries_from lines (2 + i) (n - i)) → None ≡ whole
+pub place_none : (name : List ℕ) (lines : Lines) (whole : Option TableEntry) (i n : ℕ) → n ≤ i → whole ≡ place_of name i (entries_from lines (2 + i) (n - i)) → None ≡ whole
 place_none name lines whole i n end so_far = let none : n - i ≡ 0 = omega arith in sym (so_far ∙ ap (λ (k : ℕ). place_of name i (entries_from lines (2 + i) k)) none)
 
 -- a name is known exactly where an entry has it

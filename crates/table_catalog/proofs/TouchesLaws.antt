@@ -4,7 +4,7 @@ use Rattle.line_pages.specs.declared.stop.Stop.{Stop}
 use Rattle.line_pages.specs.Lines.{Lines}
 use Rattle.line_pages.specs.Touch.{Touch, Access, touch_of}
 use Rattle.line_pages.specs.Standing.{Standing}
-use Rattle.table_catalog.specs.declared.entry.Place.{Place}
+use Rattle.table_catalog.specs.declared.entry.TableEntry.{TableEntry}
 use Rattle.table_catalog.specs.Catalog.{entries, place_of, table_count, entry_touches, entries_read, lookup_touches}
 use Rattle.table_catalog.specs.Lookup.{LooksUp}
 
@@ -22,12 +22,12 @@ touches_step old now new i so_far one =
     ∙ ap (λ ts. old ++ ts) (sym (entry_touches-more 2 i) ∙ ap (entry_touches 2) next)
 
 -- line 0, then the entries
-pub lines_then : (access : Option Access) (old mid new : List Touch) (lines : Lines) (name : List ℕ) (n : ℕ) (result : Result (Option Place) Stop) → mid ≡ old ++ touch_of access 0 0 false ∷ [] → n ≡ table_count lines
+pub lines_then : (access : Option Access) (old mid new : List Touch) (lines : Lines) (name : List ℕ) (n : ℕ) (result : Result (Option TableEntry) Stop) → mid ≡ old ++ touch_of access 0 0 false ∷ [] → n ≡ table_count lines
     → IfOk result (λ place. place ≡ place_of name 0 (entries lines)) → IfOk result (λ place. new ≡ mid ++ entry_touches 2 (entries_read n place)) → OnOk result (new ≡ old ++ lookup_touches access lines name)
 lines_then access old mid new lines name n (Ok place) first count is then_lines =
     then_lines ∙ ap (λ ts. ts ++ entry_touches 2 (entries_read n place)) first ∙ append_assoc old (touch_of access 0 0 false ∷ []) (entry_touches 2 (entries_read n place))
     ∙ ap (λ (k : ℕ). old ++ touch_of access 0 0 false ∷ entry_touches 2 (entries_read k place)) count
-    ∙ ap (λ (o : Option Place). old ++ touch_of access 0 0 false ∷ entry_touches 2 (entries_read (table_count lines) o)) is
+    ∙ ap (λ (o : Option TableEntry). old ++ touch_of access 0 0 false ∷ entry_touches 2 (entries_read (table_count lines) o)) is
 lines_then access old mid new lines name n (Err e) first count is then_lines = tt
 
 -- a first touch stays the first

@@ -14,7 +14,7 @@ use Rattle.page_alloc.specs.Space.{word, high_of, IsPageEvidence}
 use Rattle.tree_search.specs.Tree.{tree_rows, tree_pages}
 use Rattle.rows.specs.declared.limits.Limits.{Limits}
 use Rattle.table_catalog.specs.declared.entry.Entry.{Entry}
-use Rattle.table_catalog.specs.declared.entry.Place.{Place}
+use Rattle.table_catalog.specs.declared.entry.TableEntry.{TableEntry}
 use Rattle.rows.specs.Names.{is_name_byte}
 
 -- the 32 bytes of words 0 to 3, which keep the name
@@ -100,12 +100,12 @@ pub record FitsEntry (limits : Limits) (high : ℕ) (entry : Entry) : Type 0 whe
   pub short : slice_index entry.field 0 ≤ 31
 
 -- the place of an entry that passes its checks, the catalog having this header
-pub record FitsPlace (limits : Limits) (header : Line) (place : Place) : Type 0 where
+pub record FitsPlace (limits : Limits) (header : Line) (place : TableEntry) : Type 0 where
   pub at : place.at < word header 1
   pub entry : FitsEntry limits (word header 2) place.entry
 
 -- the same in a store of `count` pages
-pub record FitsRoot (limits : Limits) (count : ℕ) (place : Place) : Type 0 where
+pub record FitsRoot (limits : Limits) (count : ℕ) (place : TableEntry) : Type 0 where
   pub at : place.at < limits.tables
   pub entry : FitsEntry limits count place.entry
 
@@ -128,7 +128,7 @@ pub record FailsCatalog (limits : Limits) (count : ℕ) (buffer : List ℕ) (evi
   pub first : first_failure (catalog_checks limits count (lines_in buffer)) ≡ Some number
 
 -- where the first entry with the name stands, the first of these entries being that of table i
-abbrev pub place_of : List ℕ → ℕ → List Entry → Option Place
+abbrev pub place_of : List ℕ → ℕ → List Entry → Option TableEntry
 place_of name i [] = None
 place_of name i (entry ∷ rest) = if bytes_eq (name_of entry) name then Some (record { at = i; entry = entry }) else place_of name (suc i) rest
 
@@ -152,7 +152,7 @@ entry_touches l zero = []
 entry_touches l (suc n) = touch_of (Some (0, false)) 0 l false ∷ entry_touches (suc l) n
 
 -- how many entries a look-up reads: those up to the name, or else all
-abbrev pub entries_read : ℕ → Option Place → ℕ
+abbrev pub entries_read : ℕ → Option TableEntry → ℕ
 entries_read n None = n
 entries_read n (Some place) = place.at + 1
 

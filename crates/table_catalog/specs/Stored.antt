@@ -8,7 +8,7 @@ use Rattle.page_alloc.specs.Moves.{AreExactly}
 use Rattle.tree_search.specs.Tree.{IsTree}
 use Rattle.rows.specs.declared.limits.Limits.{Limits}
 use Rattle.table_catalog.specs.declared.entry.Entry.{Entry}
-use Rattle.table_catalog.specs.declared.entry.Place.{Place}
+use Rattle.table_catalog.specs.declared.entry.TableEntry.{TableEntry}
 use Rattle.table_catalog.specs.Catalog.{entries, catalog_checks, entry_rows, entry_pages}
 use Rattle.rows.specs.Tables.{Table}
 
@@ -30,6 +30,6 @@ pub record IsStore (limits : Limits) (count : ℕ) (lines : Lines) : Type 0 wher
   pub exact : AreExactly (high_of lines) (0 ∷ (all_pages lines (entries lines) ++ free))
 
 -- the rows of the tree of an entry, if there is one
-abbrev pub place_rows : Lines → Option Place → Option (List Row)
+abbrev pub place_rows : Lines → Option TableEntry → Option (List Row)
 place_rows lines None = None
 place_rows lines (Some place) = Some (entry_rows lines place.entry)

@@ -14,7 +14,7 @@ ghost use Rattle.page_alloc.specs.Stops.{IsFault};
 ghost use Rattle.table_catalog.specs.Catalog.{entry_in as entry_of_line, header_checks, entries, tables, place_of, entry_touches, entries_read, lookup_touches, is_listed as listed, FitsCatalog, FitsEntry, FitsPlace, FitsRoot, IsCatalogDamage, FailsCatalog};
 ghost use Rattle.rows.specs.Tables.{is_known};
 
-use crate::entry::{Entry, Place, entry_in, has_name, is_listed};
+use crate::entry::{Entry, TableEntry, entry_in, has_name, is_listed};
 use damage::Evidence;
 use line_pages::{Pages, Stop, copy_page, set_page_line, whole_line};
 use nvm_model::Line;
@@ -202,7 +202,7 @@ pub fn search<P: Pages>(
     header: &Line,
     name: &Name,
     work: &mut Work,
-) -> Result<Option<Place>, Stop>
+) -> Result<Option<TableEntry>, Stop>
     requires ready { P.is_ready pages.old }
     requires open { (P.standing pages.old).access ≡ Some (0, false) }
     requires header { IsTrue (P.standing pages.old).told → header.now ≡ (P.standing pages.old).current 0 0 }
@@ -219,7 +219,7 @@ pub fn search<P: Pages>(
     for at in 0..header.words[1] {
         let entry = read_entry(pages, limits, header, at, work)?;
         if has_name(&entry, name) {
-            return Ok(Some(Place { at, entry }));
+            return Ok(Some(TableEntry { at, entry }));
         }
     }
     Ok(None)
@@ -232,7 +232,7 @@ pub fn find_entry<P: Pages>(
     limits: &Limits,
     name: &Name,
     work: &mut Work,
-) -> Result<Option<Place>, Stop>
+) -> Result<Option<TableEntry>, Stop>
     requires ready { P.is_ready pages.old }
     ensures place { IsTrue (P.standing pages.old).told → IfOk result (λ place. place ≡ place_of name.now 0 (entries (P.standing pages.old).current)) }
     ensures fits { IfOk result (λ place. IfSome place (FitsRoot limits.now (P.standing pages.old).count)) }

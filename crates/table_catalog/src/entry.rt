@@ -24,7 +24,7 @@ pub struct Entry {
 
 /// An entry and which table it is of, counted from 0 in the order of creation.
 #[derive(Clone, Copy, Debug, PartialEq, Eq)]
-pub struct Place {
+pub struct TableEntry {
     /// The number of the table.
     pub at: u64,
     /// Its entry.

@@ -5,4 +5,4 @@ mod catalog;
 mod entry;
 
 pub use catalog::{find_entry, has_table, read_catalog, search};
-pub use entry::{Entry, Place, line_of, root_of};
+pub use entry::{Entry, TableEntry, line_of, root_of};

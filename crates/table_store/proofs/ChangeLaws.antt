@@ -18,7 +18,7 @@ use Rattle.tree_search.proofs.TreeLaws.{tree_rows-same, tree_pages-same, IsTree-
 use Rattle.page_alloc.proofs.SpaceLaws.{free_from-same}
 use Rattle.rows.specs.declared.limits.Limits.{Limits}
 use Rattle.table_catalog.specs.declared.entry.Entry.{Entry}
-use Rattle.table_catalog.specs.declared.entry.Place.{Place}
+use Rattle.table_catalog.specs.declared.entry.TableEntry.{TableEntry}
 use Rattle.table_catalog.specs.Catalog.{entry_in, entries_from, entries, table_count, name_of, table_of, place_of, tables, catalog_checks, entry_rows, entry_pages}
 use Rattle.table_catalog.specs.Stored.{HasTree, all_pages, IsStore}
 use Rattle.rows.specs.Tables.{with_rows}
@@ -29,7 +29,7 @@ use Rattle.table_store.proofs.RoomLaws.{length-entries}
 use Rattle.table_store.proofs.FrameLaws.{table_changed}
 
 -- the entries before that of a name, and behind it
-pub record Around (name : List ℕ) (lines : Lines) (l n i : ℕ) (es : List Entry) (place : Place) : Type 0 where
+pub record Around (name : List ℕ) (lines : Lines) (l n i : ℕ) (es : List Entry) (place : TableEntry) : Type 0 where
   pub front : List Entry
   pub back : List Entry
   pub all : es ≡ front ++ place.entry ∷ back
@@ -38,14 +38,14 @@ pub record Around (name : List ℕ) (lines : Lines) (l n i : ℕ) (es : List Ent
   pub named : bytes_eq (name_of place.entry) name ≡ true
   pub tables : (old : Lines) (rows : List Row) → with_rows name rows (map (table_of old) es) ≡ map (table_of old) front ++ (name_of place.entry, rows) ∷ map (table_of old) back
 
-pub around : (name : List ℕ) (lines : Lines) (l n i : ℕ) (es : List Entry) (place : Place) → place_of name i es ≡ Some place → Around name lines l n i es place
+pub around : (name : List ℕ) (lines : Lines) (l n i : ℕ) (es : List Entry) (place : TableEntry) → place_of name i es ≡ Some place → Around name lines l n i es place
 around name lines l n i [] place is = absurd (cc)
 around name lines l n i (e ∷ es) place is =
     elim (cases_Bool (bytes_eq (name_of e) name)) [
       | inl same ↦
           let here : Some (record { at = i; entry = e }) ≡ Some place = rw same at is in
           let place_is : place ≡ record { at = i; entry = e } = cc in
-          subst (λ (p : Place). Around name lines l n i (e ∷ es) p) (sym place_is) (record {
+          subst (λ (p : TableEntry). Around name lines l n i (e ∷ es) p) (sym place_is) (record {
             front = [];
             back = es;
             all = refl;
@@ -88,7 +88,7 @@ entries-changed f g l (suc n) k e (x ∷ xs) ys size inside others is =
     ∙ ap (λ es. x ∷ es) (entries-changed f g (suc l) n (length xs) e xs ys refl (omega (arith, size, inside)) (λ j low other. others j (omega (arith, low)) (λ eq. other (eq ∙ sym place))) rest)
     ∙ ap (λ (j : ℕ). x ∷ (xs ++ entry_in (g 0 j) ∷ ys)) place
 
-module _ (limits : Limits) (count : ℕ) (old mid new : Lines) (store : IsStore limits count old) (name : List ℕ) (place : Place) (found : place_of name 0 (entries old) ≡ Some place)
+module _ (limits : Limits) (count : ℕ) (old mid new : Lines) (store : IsStore limits count old) (name : List ℕ) (place : TableEntry) (found : place_of name 0 (entries old) ≡ Some place)
     (root : Root) (rows : List Row) (change : Changes count old mid (root_at place) root (entry_pages old place.entry) store.free rows)
     (line : Line) (entry : entry_in line ≡ record { field = place.entry.field; root = root.page; levels = root.levels; rows = length rows })
     (after : new ≡ with_line 0 (2 + place.at) line mid) (few_rows : length rows ≤ limits.rows) where

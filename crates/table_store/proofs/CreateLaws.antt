@@ -21,7 +21,7 @@ use Rattle.table_catalog.specs.Catalog.{entry_in, entries, entries_from, table_c
 use Rattle.table_catalog.specs.Stored.{HasTree, all_pages, IsStore}
 use Rattle.rows.specs.Tables.{is_known}
 use Rattle.table_store.specs.Created.{new_entry, leaf_line, Written, Makes, created_of, IsCreated}
-use Rattle.table_catalog.specs.declared.entry.Place.{Place}
+use Rattle.table_catalog.specs.declared.entry.TableEntry.{TableEntry}
 use Rattle.table_store.specs.declared.answer.Created.TheVariants.{Made, Present, NoSlot}
 use Rattle.table_catalog.proofs.CatalogLaws.{AllHold, all_hold, none_fails, known_by}
 use Rattle.table_store.proofs.RoomLaws.{length-entries}
@@ -260,7 +260,7 @@ pub no_slot_is : (limits : Limits) (count : ℕ) (old new : Lines) (name : List 
 no_slot_is limits count old new name at at_is unknown most full = (unknown_by name old unknown, omega (arith, tables-length old, at_is, most, full))
 
 -- a name that was found
-pub present_is : (name : List ℕ) (lines : Lines) (place : Place) → place_of name 0 (entries lines) ≡ Some place → is_known name (tables lines) ≡ true
+pub present_is : (name : List ℕ) (lines : Lines) (place : TableEntry) → place_of name 0 (entries lines) ≡ Some place → is_known name (tables lines) ≡ true
 present_is name lines place is = sym (known_by name lines 0 (entries lines)) ∙ ap is_some is
 
 -- the answer by the tables that there are

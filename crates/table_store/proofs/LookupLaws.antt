@@ -16,7 +16,7 @@ use Rattle.tree_search.specs.Way.{IsPath, ReadsPath}
 use Rattle.page_alloc.specs.Stops.{IsFault}
 use Rattle.tree_search.proofs.SearchLaws.{on_ok, from_ok}
 use Rattle.rows.specs.declared.limits.Limits.{Limits}
-use Rattle.table_catalog.specs.declared.entry.Place.{Place}
+use Rattle.table_catalog.specs.declared.entry.TableEntry.{TableEntry}
 use Rattle.table_catalog.specs.Catalog.{entries, tables, place_of, lookup_touches, entry_rows, entry_pages, FitsEntry}
 use Rattle.table_store.specs.Changed.{root_at}
 use Rattle.table_catalog.specs.Stored.{IsStore}
@@ -33,13 +33,13 @@ known_some is_no_table known (Ok answer) is named = named ∙ sym (ap not is)
 known_some is_no_table known (Err e) is named = tt
 
 -- a tree that was found in pages that are the same
-pub rooted_now : (limits : Limits) (n0 n1 : ℕ) (old now : Lines) (name : List ℕ) (place : Place) → n1 ≡ n0 → now ≡ old → IsStore limits n0 old → place_of name 0 (entries old) ≡ Some place → FitsEntry limits n0 place.entry
+pub rooted_now : (limits : Limits) (n0 n1 : ℕ) (old now : Lines) (name : List ℕ) (place : TableEntry) → n1 ≡ n0 → now ≡ old → IsStore limits n0 old → place_of name 0 (entries old) ≡ Some place → FitsEntry limits n0 place.entry
     → IsRooted n1 now (root_at place) (entry_rows old place.entry) (entry_pages old place.entry)
 rooted_now limits n0 n1 old now name place count same store is fits =
     subst (λ (n : ℕ). IsRooted n now (root_at place) (entry_rows old place.entry) (entry_pages old place.entry)) (sym count)
     (subst (λ (all : Lines). IsRooted n0 all (root_at place) (entry_rows old place.entry) (entry_pages old place.entry)) (sym same) (rooted limits n0 n0 old name place (root_at place) store is fits refl))
 
-pub answer_in : {N E : Type 0} (of : Option (List Row) → N) (limits : Limits) (n0 n1 : ℕ) (old now : Lines) (name : List ℕ) (place : Place) (result : Result N E) → n1 ≡ n0 → now ≡ old
+pub answer_in : {N E : Type 0} (of : Option (List Row) → N) (limits : Limits) (n0 n1 : ℕ) (old now : Lines) (name : List ℕ) (place : TableEntry) (result : Result N E) → n1 ≡ n0 → now ≡ old
     → place_of name 0 (entries old) ≡ Some place → FitsEntry limits n0 place.entry
     → ((rows : List Row) (used : List ℕ) → IsRooted n1 now (root_at place) rows used → IfOk result (λ answer. answer ≡ of (Some rows)))
     → IsStore limits n0 old → IfOk result (λ answer. answer ≡ of (rows_of name (tables old)))
@@ -47,7 +47,7 @@ answer_in {N = N} of limits n0 n1 old now name place result count same is fits a
     subst (λ (x : N). IfOk result (λ answer. answer ≡ x)) (ap of (sym (rows_by name old 0 (entries old) (Some place) is)))
     (answers (entry_rows old place.entry) (entry_pages old place.entry) (rooted_now limits n0 n1 old now name place count same store is fits))
 
-pub sound_in : {T : Type 0} (limits : Limits) (n0 n1 : ℕ) (old now : Lines) (name : List ℕ) (place : Place) (result : Result T Stop) → n1 ≡ n0 → now ≡ old
+pub sound_in : {T : Type 0} (limits : Limits) (n0 n1 : ℕ) (old now : Lines) (name : List ℕ) (place : TableEntry) (result : Result T Stop) → n1 ≡ n0 → now ≡ old
     → place_of name 0 (entries old) ≡ Some place → FitsEntry limits n0 place.entry
     → ((rows : List Row) (used : List ℕ) → IsRooted n1 now (root_at place) rows used → IfErr result IsFault)
     → IsStore limits n0 old → IfErr result IsFault
@@ -88,7 +88,7 @@ begun_all access (a ∷ rest) same =
     ]
 
 -- page 0, and then the way through the table's tree
-pub way_some : {A T : Type 0} (limits : Limits) (name : List ℕ) (key : ℕ) (place : Place) (s0 s1 s2 : Standing A) (result : Result T Stop)
+pub way_some : {A T : Type 0} (limits : Limits) (name : List ℕ) (key : ℕ) (place : TableEntry) (s0 s1 s2 : Standing A) (result : Result T Stop)
     → place_of name 0 (entries s0.current) ≡ Some place → FitsEntry limits s0.count place.entry → s0.access ≡ None → s1.count ≡ s0.count → s1.current ≡ s0.current → ReadsPage 0 s0 s1
     → (begins s1.access place.entry.root false ≡ true → OnOk result (AddsReads (IsPath s1.count s1.current (root_at place) key) s1 s2))
     → (begins s1.access place.entry.root false ≡ true → OnOk result (s2.visits ≡ s1.visits + place.entry.levels))
@@ -106,7 +106,7 @@ way_some limits name key place s0 s1 s2 result is fits closed count same first w
     AddsReads-trans (λ x y one both. joined limits name key place s0.count s1.count s0.current s1.current x y is fits count same one both.0 both.1)
     (page_adds first (ap (λ o. begins o 0 false) closed)) strong)
   where
-    joined : (limits : Limits) (name : List ℕ) (key : ℕ) (place : Place) (n0 n1 : ℕ) (old now : Lines) (x y : List Access) → place_of name 0 (entries old) ≡ Some place → FitsEntry limits n0 place.entry → n1 ≡ n0 → now ≡ old
+    joined : (limits : Limits) (name : List ℕ) (key : ℕ) (place : TableEntry) (n0 n1 : ℕ) (old now : Lines) (x y : List Access) → place_of name 0 (entries old) ≡ Some place → FitsEntry limits n0 place.entry → n1 ≡ n0 → now ≡ old
         → x ≡ (0, false) ∷ [] → IsPath n1 now (root_at place) key y → begun_from (Some (0, false)) y ≡ y → IsLookup limits n0 old name key (x ++ begun_from (last_from None x) y)
     joined limits name key place n0 n1 old now x y is fits count same one way goes = record {
       rest = y;
@@ -132,7 +132,7 @@ table_none name key old new none more reads =
     let a = some_adds reads more in
     with_fact a (a.fact ∙ sym (ap (λ o. (0, false) ∷ map (λ p. (p, false)) (place_path old.current key o)) none))
 
-pub table_some : {A T : Type 0} (limits : Limits) (name : List ℕ) (key : ℕ) (place : Place) (s0 s1 s2 : Standing A) (result : Result T Stop)
+pub table_some : {A T : Type 0} (limits : Limits) (name : List ℕ) (key : ℕ) (place : TableEntry) (s0 s1 s2 : Standing A) (result : Result T Stop)
     → place_of name 0 (entries s0.current) ≡ Some place → FitsEntry limits s0.count place.entry → length s0.touches + 1 ≤ length s1.touches → s1.count ≡ s0.count → s1.current ≡ s0.current → ReadsPage 0 s0 s1
     → ((rows : List Row) (used : List ℕ) → IsRooted s1.count s1.current (root_at place) rows used → OnOk result (AddsReads (ReadsPath s1.current (root_at place) key) s1 s2))
     → IsStore limits s0.count s0.current → OnOk result (AddsReads (ReadsTable s0.current name key) s0 s2)
@@ -142,7 +142,7 @@ table_some limits name key place s0 s1 s2 result is fits more count same first r
     from_ok is_ok (reads (entry_rows s0.current place.entry) (entry_pages s0.current place.entry) (rooted_now limits s0.count s1.count s0.current s1.current name place count same store is fits)) in
     AddsReads-trans (λ x y one way. joined name key place s0.current s1.current x y is same (λ e. omega (arith, e, fits.some_page)) one way) (some_adds first more) second)
   where
-    joined : (name : List ℕ) (key : ℕ) (place : Place) (old now : Lines) (x y : List Access) → place_of name 0 (entries old) ≡ Some place → now ≡ old → 0 ≢ place.entry.root → x ≡ (0, false) ∷ []
+    joined : (name : List ℕ) (key : ℕ) (place : TableEntry) (old now : Lines) (x y : List Access) → place_of name 0 (entries old) ≡ Some place → now ≡ old → 0 ≢ place.entry.root → x ≡ (0, false) ∷ []
         → ReadsPath now (root_at place) key y → ReadsTable old name key (x ++ begun_from (last_from None x) y)
     joined name key place old now x y is same other one way =
         let f = path_first now (place.entry.levels - 1) place.entry.root key in

@@ -9,7 +9,7 @@ use Rattle.tree_search.specs.declared.root.Root.{Root}
 use Rattle.bplus_tree.specs.Changes.{Changes, ChangesRows}
 use Rattle.rows.specs.declared.limits.Limits.{Limits}
 use Rattle.table_catalog.specs.declared.entry.Entry.{Entry}
-use Rattle.table_catalog.specs.declared.entry.Place.{Place}
+use Rattle.table_catalog.specs.declared.entry.TableEntry.{TableEntry}
 use Rattle.table_catalog.specs.Catalog.{entry_in, entries_from, entries, table_count, place_of, entry_rows, entry_pages, FitsRoot}
 use Rattle.table_catalog.specs.Stored.{IsStore}
 use Rattle.table_store.specs.Changed.{root_at, stays_as, Enters, ChangesTable}
@@ -29,7 +29,7 @@ entry_stands lines l (suc n) e (x ∷ xs) ys is =
     let next : l + suc (length xs) ≡ suc l + length xs = omega arith in
     ap (λ (k : ℕ). entry_in (lines 0 k)) next ∙ entry_stands lines (suc l) n e xs ys rest
 
-pub place_stands : (name : List ℕ) (lines : Lines) (place : Place) → place_of name 0 (entries lines) ≡ Some place → entry_in (lines 0 (2 + place.at)) ≡ place.entry
+pub place_stands : (name : List ℕ) (lines : Lines) (place : TableEntry) → place_of name 0 (entries lines) ≡ Some place → entry_in (lines 0 (2 + place.at)) ≡ place.entry
 unfolding entries
 place_stands name lines place found =
     let part = around name lines 2 (table_count lines) 0 (entries lines) place found in
@@ -51,7 +51,7 @@ with_itself lines l = λ i p k. at p k i
         ]
 
 -- an entry that stays as it is, as one that was written
-pub stays_entered : (lines : Lines) (place : Place) (root : Root) (rows : ℕ) → stays_as place root rows ≡ true → entry_in (lines 0 (2 + place.at)) ≡ place.entry → Enters lines lines place root rows
+pub stays_entered : (lines : Lines) (place : TableEntry) (root : Root) (rows : ℕ) → stays_as place root rows ≡ true → entry_in (lines 0 (2 + place.at)) ≡ place.entry → Enters lines lines place root rows
 stays_entered lines place root rows stays there =
     let both = and_parts (nat_eq place.entry.root root.page && nat_eq place.entry.levels root.levels) (nat_eq place.entry.rows rows) stays in
     let of_root = and_parts (nat_eq place.entry.root root.page) (nat_eq place.entry.levels root.levels) both.0 in
@@ -69,7 +69,7 @@ stays_entered lines place root rows stays there =
     }
 
 -- a change of the table's tree leaves the entry
-entry_stays : (limits : Limits) (count : ℕ) (old mid : Lines) (store : IsStore limits count old) (name : List ℕ) (place : Place) (root : Root) (step : List Row → List Row) → place_of name 0 (entries old) ≡ Some place → FitsRoot limits count place
+entry_stays : (limits : Limits) (count : ℕ) (old mid : Lines) (store : IsStore limits count old) (name : List ℕ) (place : TableEntry) (root : Root) (step : List Row → List Row) → place_of name 0 (entries old) ≡ Some place → FitsRoot limits count place
     → ChangesRows count old mid (root_at place) root step → entry_in (mid 0 (2 + place.at)) ≡ place.entry
 entry_stays limits count old mid store name place root step found fits changes =
     let change : Changes count old mid (root_at place) root (entry_pages old place.entry) store.free (step (entry_rows old place.entry)) =
@@ -77,7 +77,7 @@ entry_stays limits count old mid store name place root step found fits changes =
     ap entry_in (change.entries (2 + place.at) (λ e. omega (arith, e))) ∙ place_stands name old place found
 
 -- the tree changes, and then the entry is written unless it stays as it is
-pub stepped_unless : {T : Type 0} (limits : Limits) (count : ℕ) (old mid new : Lines) (name : List ℕ) (place : Place) (root : Root) (rows : ℕ) (step : List Row → List Row) (result : Result T Stop) → FitsRoot limits count place
+pub stepped_unless : {T : Type 0} (limits : Limits) (count : ℕ) (old mid new : Lines) (name : List ℕ) (place : TableEntry) (root : Root) (rows : ℕ) (step : List Row → List Row) (result : Result T Stop) → FitsRoot limits count place
     → ChangesRows count old mid (root_at place) root step → (entry_in (mid 0 (2 + place.at)) ≡ place.entry → OnOk result (Enters mid new place root rows)) → (store : IsStore limits count old) → place_of name 0 (entries old) ≡ Some place
     → rows ≡ length (step (entry_rows old place.entry)) → rows ≤ limits.rows → OnOk result (ChangesTable limits count old new name step)
 stepped_unless limits count old mid new name place root rows step result fits changes enters store found rows_are few =

@@ -21,7 +21,7 @@ use Rattle.rows.proofs.RowLaws.{above_bound, row_get-none_above}
 use Rattle.tree_search.proofs.OrderLaws.{tree_rows-ascend}
 use Rattle.rows.specs.declared.limits.Limits.{Limits}
 use Rattle.table_catalog.specs.declared.entry.Entry.{Entry}
-use Rattle.table_catalog.specs.declared.entry.Place.{Place}
+use Rattle.table_catalog.specs.declared.entry.TableEntry.{TableEntry}
 use Rattle.table_catalog.specs.Catalog.{entry_in, entries, table_count, tables, place_of, catalog_checks, entry_rows, entry_pages, FitsRoot}
 use Rattle.table_catalog.specs.Stored.{all_pages, IsStore}
 use Rattle.rows.specs.Tables.{rows_of, with_rows}
@@ -68,7 +68,7 @@ delete_length key (row ∷ rows) found =
       | inr other ↦ let ih = delete_length key rows (rw other at found) in rw other (omega (arith, ih))
     ]
 
-module _ (limits : Limits) (count : ℕ) (old : Lines) (store : IsStore limits count old) (name : List ℕ) (place : Place) (found : place_of name 0 (entries old) ≡ Some place) where
+module _ (limits : Limits) (count : ℕ) (old : Lines) (store : IsStore limits count old) (name : List ℕ) (place : TableEntry) (found : place_of name 0 (entries old) ≡ Some place) where
   -- the entry has the number of its rows, which ascend
   pub rows_counted : length (entry_rows old place.entry) ≡ place.entry.rows
   rows_counted = (tree_of_place count old name 0 (entries old) place found store.trees).1
@@ -127,14 +127,14 @@ module _ (limits : Limits) (count : ℕ) (old : Lines) (store : IsStore limits c
       }
 
 -- by the answer of the call that writes
-pub stepped_by : {T : Type 0} (limits : Limits) (count : ℕ) (old mid new : Lines) (name : List ℕ) (place : Place) (root : Root) (rows : ℕ) (step : List Row → List Row) (result : Result T Stop) → FitsRoot limits count place
+pub stepped_by : {T : Type 0} (limits : Limits) (count : ℕ) (old mid new : Lines) (name : List ℕ) (place : TableEntry) (root : Root) (rows : ℕ) (step : List Row → List Row) (result : Result T Stop) → FitsRoot limits count place
     → ChangesRows count old mid (root_at place) root step → OnOk result (Enters mid new place root rows) → (store : IsStore limits count old) → place_of name 0 (entries old) ≡ Some place
     → rows ≡ length (step (entry_rows old place.entry)) → rows ≤ limits.rows → OnOk result (ChangesTable limits count old new name step)
 stepped_by limits count old mid new name place root rows step (Ok v) fits changes enters store found rows_are few = table_stepped limits count old store name place found mid new root rows step fits changes enters rows_are few
 stepped_by limits count old mid new name place root rows step (Err e) fits changes enters store found rows_are few = tt
 
 -- the number of rows that a put and a deletion leave
-pub rows_put : (limits : Limits) (count : ℕ) (old : Lines) (store : IsStore limits count old) (name : List ℕ) (place : Place) (is : place_of name 0 (entries old) ≡ Some place) (key : ℕ) (value : List ℕ) (fresh : Bool) (rows : ℕ)
+pub rows_put : (limits : Limits) (count : ℕ) (old : Lines) (store : IsStore limits count old) (name : List ℕ) (place : TableEntry) (is : place_of name 0 (entries old) ≡ Some place) (key : ℕ) (value : List ℕ) (fresh : Bool) (rows : ℕ)
     → fresh ≡ not (is_some (row_get key (entry_rows old place.entry))) → rows ≡ cond fresh (place.entry.rows + 1) place.entry.rows → rows ≡ length (row_put key value (entry_rows old place.entry))
 rows_put limits count old store name place is key value fresh rows fresh_is rows_is =
     rows_is ∙ ap (λ (b : Bool). cond b (place.entry.rows + 1) place.entry.rows) fresh_is
@@ -146,13 +146,13 @@ rows_put limits count old store name place is key value fresh rows fresh_is rows
     cond_not true x y = refl
     cond_not false x y = refl
 
-pub rows_deleted : (limits : Limits) (count : ℕ) (old : Lines) (store : IsStore limits count old) (name : List ℕ) (place : Place) (is : place_of name 0 (entries old) ≡ Some place) (key rows : ℕ)
+pub rows_deleted : (limits : Limits) (count : ℕ) (old : Lines) (store : IsStore limits count old) (name : List ℕ) (place : TableEntry) (is : place_of name 0 (entries old) ≡ Some place) (key rows : ℕ)
     → is_some (row_get key (entry_rows old place.entry)) ≡ true → rows ≡ place.entry.rows - 1 → rows ≡ length (row_delete key (entry_rows old place.entry))
 rows_deleted limits count old store name place is key rows found rows_is =
     omega (arith, rows_is, rows_counted limits count old store name place is, delete_length key (entry_rows old place.entry) found)
 
 -- no more rows than there may be: the key is there, or one row more may be
-pub few_after : (limits : Limits) (count : ℕ) (old : Lines) (store : IsStore limits count old) (name : List ℕ) (place : Place) (is : place_of name 0 (entries old) ≡ Some place) (key : ℕ) (value : List ℕ) → place.entry.rows ≤ limits.rows
+pub few_after : (limits : Limits) (count : ℕ) (old : Lines) (store : IsStore limits count old) (name : List ℕ) (place : TableEntry) (is : place_of name 0 (entries old) ≡ Some place) (key : ℕ) (value : List ℕ) → place.entry.rows ≤ limits.rows
     → (is_some (row_get key (entry_rows old place.entry)) ≡ false → place.entry.rows + 1 ≤ limits.rows) → length (row_put key value (entry_rows old place.entry)) ≤ limits.rows
 few_after limits count old store name place is key value few left =
     let all = entry_rows old place.entry in
@@ -167,17 +167,17 @@ pub as_before : (P : ℕ → Lines → Type 0) (n0 n1 : ℕ) (old now : Lines) �
 as_before P n0 n1 old now count same is = subst (λ (n : ℕ). P n old) count (subst (λ (all : Lines). P n1 all) same is)
 
 -- the answers of a put and of a deletion at a known name
-stored_by : (limits : Limits) (count : ℕ) (old : Lines) (store : IsStore limits count old) (name : List ℕ) (place : Place) (is : place_of name 0 (entries old) ≡ Some place) (key : ℕ)
+stored_by : (limits : Limits) (count : ℕ) (old : Lines) (store : IsStore limits count old) (name : List ℕ) (place : TableEntry) (is : place_of name 0 (entries old) ≡ Some place) (key : ℕ)
     → stored_of limits key (rows_of name (tables old)) ≡ (if (is_some (row_get key (entry_rows old place.entry)) || nat_lt place.entry.rows limits.rows) then Put else TableFull)
 stored_by limits count old store name place is key =
     ap (stored_of limits key) (rows_by name old 0 (entries old) (Some place) is)
     ∙ ap (λ (n : ℕ). if (is_some (row_get key (entry_rows old place.entry)) || nat_lt n limits.rows) then Put else TableFull) (rows_counted limits count old store name place is)
 
-pub is_full : (limits : Limits) (count : ℕ) (old : Lines) (store : IsStore limits count old) (name : List ℕ) (place : Place) (is : place_of name 0 (entries old) ≡ Some place) (key : ℕ) (room : Bool)
+pub is_full : (limits : Limits) (count : ℕ) (old : Lines) (store : IsStore limits count old) (name : List ℕ) (place : TableEntry) (is : place_of name 0 (entries old) ≡ Some place) (key : ℕ) (room : Bool)
     → room ≡ (is_some (row_get key (entry_rows old place.entry)) || nat_lt place.entry.rows limits.rows) → room ≡ false → TableFull ≡ stored_of limits key (rows_of name (tables old))
 is_full limits count old store name place is key room room_is none = sym (stored_by limits count old store name place is key ∙ ap (λ (b : Bool). if b then Put else TableFull) (sym room_is ∙ none))
 
-pub is_stored : (limits : Limits) (count : ℕ) (old : Lines) (store : IsStore limits count old) (name : List ℕ) (place : Place) (is : place_of name 0 (entries old) ≡ Some place) (key : ℕ) (room : Bool)
+pub is_stored : (limits : Limits) (count : ℕ) (old : Lines) (store : IsStore limits count old) (name : List ℕ) (place : TableEntry) (is : place_of name 0 (entries old) ≡ Some place) (key : ℕ) (room : Bool)
     → room ≡ (is_some (row_get key (entry_rows old place.entry)) || nat_lt place.entry.rows limits.rows) → room ≡ true → Put ≡ stored_of limits key (rows_of name (tables old))
 is_stored limits count old store name place is key room room_is some = sym (stored_by limits count old store name place is key ∙ ap (λ (b : Bool). if b then Put else TableFull) (sym room_is ∙ some))
 
@@ -186,20 +186,20 @@ pub left_by : (found room : Bool) (rows most : ℕ) → room ≡ (found || nat_l
 left_by true room rows most room_is some absent = absurd (cc)
 left_by false room rows most room_is some absent = let below = ltb-true rows most (sym room_is ∙ some) in omega (arith, below)
 
-pub is_deleted : (old : Lines) (name : List ℕ) (place : Place) (is : place_of name 0 (entries old) ≡ Some place) (key : ℕ) → true ≡ is_some (row_get key (entry_rows old place.entry)) → Gone ≡ deleted_of key (rows_of name (tables old))
+pub is_deleted : (old : Lines) (name : List ℕ) (place : TableEntry) (is : place_of name 0 (entries old) ≡ Some place) (key : ℕ) → true ≡ is_some (row_get key (entry_rows old place.entry)) → Gone ≡ deleted_of key (rows_of name (tables old))
 is_deleted old name place is key found = sym (ap (deleted_of key) (rows_by name old 0 (entries old) (Some place) is) ∙ rw (sym found) refl)
 
-pub is_absent : (old : Lines) (name : List ℕ) (place : Place) (is : place_of name 0 (entries old) ≡ Some place) (key : ℕ) → false ≡ is_some (row_get key (entry_rows old place.entry)) → Absent ≡ deleted_of key (rows_of name (tables old))
+pub is_absent : (old : Lines) (name : List ℕ) (place : TableEntry) (is : place_of name 0 (entries old) ≡ Some place) (key : ℕ) → false ≡ is_some (row_get key (entry_rows old place.entry)) → Absent ≡ deleted_of key (rows_of name (tables old))
 is_absent old name place is key absent = sym (ap (deleted_of key) (rows_by name old 0 (entries old) (Some place) is) ∙ rw (sym absent) refl)
 
 -- the entry as it was written
-pub counted_by : {T : Type 0} (mid new : Lines) (place : Place) (root : Root) (rows : ℕ) (result : Result T Stop) → OnOk result (Enters mid new place root rows) → OnOk result ((entry_in (new 0 (2 + place.at))).rows ≡ rows)
+pub counted_by : {T : Type 0} (mid new : Lines) (place : TableEntry) (root : Root) (rows : ℕ) (result : Result T Stop) → OnOk result (Enters mid new place root rows) → OnOk result ((entry_in (new 0 (2 + place.at))).rows ≡ rows)
 counted_by mid new place root rows (Ok v) enters =
     let line : new 0 (2 + place.at) ≡ enters.line = ap (λ (all : Lines). all 0 (2 + place.at)) enters.after ∙ with_line-here 0 (2 + place.at) enters.line mid in
     ap (λ (l : Line). (entry_in l).rows) line ∙ ap (λ (e : Entry). e.rows) enters.entry
 counted_by mid new place root rows (Err e) enters = tt
 
-module _ (limits : Limits) (count : ℕ) (old : Lines) (store : IsStore limits count old) (name : List ℕ) (place : Place) (found : place_of name 0 (entries old) ≡ Some place) where
+module _ (limits : Limits) (count : ℕ) (old : Lines) (store : IsStore limits count old) (name : List ℕ) (place : TableEntry) (found : place_of name 0 (entries old) ≡ Some place) where
   fits_header : FitsHeader count (old 0 0)
   fits_header =
       let held : AllHold (catalog_checks limits count old) = all_hold (catalog_checks limits count old) store.catalog in
@@ -238,7 +238,7 @@ no_lack at_hand after before (Damaged (Frames first second entry check)) enough 
 no_lack at_hand after before (Damaged (Log offset line tail check)) enough few lack = lack
 no_lack at_hand after before (Damaged (Walk page kept found check)) enough few lack = lack
 
-pub sound_put : {T : Type 0} (limits : Limits) (count : ℕ) (old : Lines) (name : List ℕ) (place : Place) (key : ℕ) (value : List ℕ) (result : Result T Stop) → FitsRoot limits count place → limits.rows ≤ 1000000
+pub sound_put : {T : Type 0} (limits : Limits) (count : ℕ) (old : Lines) (name : List ℕ) (place : TableEntry) (key : ℕ) (value : List ℕ) (result : Result T Stop) → FitsRoot limits count place → limits.rows ≤ 1000000
     → ((rows : List Row) (used free : List ℕ) → StandsIn count old (root_at place) rows used free → IfErr result (IsLack (pages_at_hand count old used free) (length (row_put key value rows)) (length rows)))
     → IsStore limits count old → place_of name 0 (entries old) ≡ Some place → (is_some (row_get key (entry_rows old place.entry)) ≡ false → place.entry.rows + 1 ≤ limits.rows)
     → 1 + limits.tables * (limits.rows / 2 + 8) ≤ count → IfErr result IsFault

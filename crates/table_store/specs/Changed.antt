@@ -8,21 +8,21 @@ use Rattle.tree_search.specs.declared.root.Root.{Root}
 use Rattle.page_alloc.specs.Space.{word, high_of}
 use Rattle.bplus_tree.specs.Damage.{IsTreeDamage, FailsTree}
 use Rattle.rows.specs.declared.limits.Limits.{Limits}
-use Rattle.table_catalog.specs.declared.entry.Place.{Place}
+use Rattle.table_catalog.specs.declared.entry.TableEntry.{TableEntry}
 use Rattle.table_catalog.specs.Catalog.{entry_in, tables, KeepsUnused, IsCatalogDamage, FailsCatalog}
 use Rattle.table_catalog.specs.Stored.{IsStore}
 use Rattle.rows.specs.Tables.{rows_of, with_rows}
 
 -- the root of an entry's tree
-abbrev pub root_at : Place → Root
+abbrev pub root_at : TableEntry → Root
 root_at place = record { page = place.entry.root; levels = place.entry.levels }
 
 -- whether an entry stays as it is with this root and so many rows
-abbrev pub stays_as : Place → Root → ℕ → Bool
+abbrev pub stays_as : TableEntry → Root → ℕ → Bool
 stays_as place root rows = place.entry.root == root.page && place.entry.levels == root.levels && place.entry.rows == rows
 
 -- The entry of a table was written anew: its tree has this root, and the table so many rows. A 0 in its unused word 7 stays 0.
-pub record Enters (old new : Lines) (place : Place) (root : Root) (rows : ℕ) : Type 0 where
+pub record Enters (old new : Lines) (place : TableEntry) (root : Root) (rows : ℕ) : Type 0 where
   pub line : Line
   pub entry : entry_in line ≡ record { field = place.entry.field; root = root.page; levels = root.levels; rows = rows }
   pub after : new ≡ with_line 0 (2 + place.at) line old

@@ -6,7 +6,7 @@ use Rattle.rows.specs.Rows.{Row, row_get, row_delete}
 use Rattle.rows.specs.declared.limits.Limits.{Limits}
 use Rattle.table_store.specs.declared.answer.Deleted.{Deleted}
 use Rattle.table_store.specs.declared.answer.Deleted.TheVariants.{Done, Absent, NoTable}
-use Rattle.table_catalog.specs.declared.entry.Place.{Place}
+use Rattle.table_catalog.specs.declared.entry.TableEntry.{TableEntry}
 use Rattle.table_catalog.specs.Catalog.{entry_in}
 use Rattle.table_store.specs.Changed.{ChangesTable}
 
@@ -29,7 +29,7 @@ DeletesIfDone limits count old new name key NoTable = Unit {0}
 
 -- Where a row was taken out, the entry at this place has one row less; a number that is 0, which no store in order has then,
 -- stays 0.
-abbrev pub CountsIfDone : Lines → Place → Deleted → Type 0
+abbrev pub CountsIfDone : Lines → TableEntry → Deleted → Type 0
 CountsIfDone new place Done = (entry_in (new 0 (2 + place.at))).rows ≡ place.entry.rows - 1
 CountsIfDone new place Absent = Unit {0}
 CountsIfDone new place NoTable = Unit {0}

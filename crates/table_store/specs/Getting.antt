@@ -7,18 +7,18 @@ use Rattle.rows.specs.Rows.{Row, row_get}
 use Rattle.page_format.specs.Search.{IsNodeDamage, FailsNode}
 use Rattle.tree_search.specs.Tree.{path}
 use Rattle.rows.specs.declared.limits.Limits.{Limits}
-use Rattle.table_catalog.specs.declared.entry.Place.{Place}
+use Rattle.table_catalog.specs.declared.entry.TableEntry.{TableEntry}
 use Rattle.table_store.specs.declared.answer.Got.{Got}
 use Rattle.table_store.specs.declared.answer.Got.TheVariants.{Found, Absent, NoTable}
 use Rattle.table_catalog.specs.Stored.{IsStore}
 use Rattle.table_catalog.specs.Catalog.{entries, place_of, IsCatalogDamage, FailsCatalog}
 
 -- the levels of the tree of an entry, and the pages on the way to a key, if there is one
-abbrev pub place_levels : Option Place → ℕ
+abbrev pub place_levels : Option TableEntry → ℕ
 place_levels None = 0
 place_levels (Some place) = place.entry.levels
 
-abbrev pub place_path : Lines → ℕ → Option Place → List ℕ
+abbrev pub place_path : Lines → ℕ → Option TableEntry → List ℕ
 place_path lines key None = []
 place_path lines key (Some place) = path lines (place.entry.levels - 1) place.entry.root key
 

@@ -7,7 +7,7 @@ use Rattle.node_edit.specs.Record.{HoldsLength}
 use Rattle.tree_search.specs.Tree.{leaf_for}
 use Rattle.bplus_tree.specs.Record.{WritesRecord}
 use Rattle.rows.specs.declared.limits.Limits.{Limits}
-use Rattle.table_catalog.specs.declared.entry.Place.{Place}
+use Rattle.table_catalog.specs.declared.entry.TableEntry.{TableEntry}
 use Rattle.table_catalog.specs.Catalog.{entries, place_of, entry_rows}
 use Rattle.table_store.specs.declared.answer.Stored.{Stored}
 use Rattle.table_store.specs.declared.answer.Stored.TheVariants.{Done, TableFull, NoTable}
@@ -39,9 +39,9 @@ KeepsUnlessDone old new NoTable = KeepsLines old new
 -- where the table has a value of this length at the key, lines of the key's record in its leaf are written alone
 abbrev pub RewritesRecord : {A : Type 0} → List ℕ → ℕ → ℕ → Standing A → Standing A → Type 0
 RewritesRecord name key size old new =
-    (place : Place) → place_of name 0 (entries old.current) ≡ Some place → HoldsLength key size (entry_rows old.current place.entry)
+    (place : TableEntry) → place_of name 0 (entries old.current) ≡ Some place → HoldsLength key size (entry_rows old.current place.entry)
     → WritesRecord (leaf_for old.current (place.entry.levels - 1) place.entry.root key) key old new
 
 -- a table of this name has fewer rows than it may have, by its entry
 abbrev pub IsBelowLimit : Limits → List ℕ → Lines → Type 0
-IsBelowLimit limits name lines = (place : Place) × (place_of name 0 (entries lines) ≡ Some place) × (place.entry.rows < limits.rows)
+IsBelowLimit limits name lines = (place : TableEntry) × (place_of name 0 (entries lines) ≡ Some place) × (place.entry.rows < limits.rows)

@@ -4,7 +4,7 @@ use Rattle.line_pages.specs.Lines.{Lines}
 use Rattle.line_pages.specs.Touch.{Access}
 use Rattle.rows.specs.Rows as rows
 use Rattle.tree_search.specs.Way.{AreReadsIn}
-use Rattle.table_catalog.specs.declared.entry.Place.{Place}
+use Rattle.table_catalog.specs.declared.entry.TableEntry.{TableEntry}
 use Rattle.table_store.specs.declared.answer.Next.{Next}
 use Rattle.table_store.specs.declared.answer.Next.TheVariants.{Row, End, NoTable}
 use Rattle.table_catalog.specs.Catalog.{entries, entry_pages, place_of}
@@ -26,7 +26,7 @@ is_no_table End = false
 is_no_table NoTable = true
 
 -- the pages of an entry's tree, if there is one
-abbrev pub place_pages : Lines → Option Place → List ℕ
+abbrev pub place_pages : Lines → Option TableEntry → List ℕ
 place_pages lines None = []
 place_pages lines (Some place) = entry_pages lines place.entry
 

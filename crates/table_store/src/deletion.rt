@@ -8,7 +8,7 @@ ghost use Rattle.rows.specs.Rows.{row_get, row_delete};
 ghost use Rattle.page_format.specs.Search.{Keeps};
 ghost use Rattle.page_alloc.specs.Stops.{IsFault};
 ghost use Rattle.bplus_tree.specs.Damage.{FailsTree};
-ghost use Rattle.table_catalog.specs.declared.entry.Place.{Place};
+ghost use Rattle.table_catalog.specs.declared.entry.TableEntry.{TableEntry};
 ghost use Rattle.table_catalog.specs.Catalog.{entry_in as entry_of_line, entries, tables, place_of, entry_rows, FitsRoot};
 ghost use Rattle.table_catalog.specs.Stored.{IsStore};
 ghost use Rattle.rows.specs.Tables.{is_known, rows_of};
@@ -22,13 +22,13 @@ use bplus_tree::delete_row;
 use line_pages::{Pages, Stop};
 use page_format::Work;
 use rows::{Limits, Name};
-use table_catalog::{Place, find_entry, root_of};
+use table_catalog::{TableEntry, find_entry, root_of};
 
 /// Takes a row out of the tree of a table, and writes its entry with one row less. A number of rows that is 0 stays 0.
 fn remove_row<P: Pages>(
     pages: &mut P,
     limits: &Limits,
-    place: &Place,
+    place: &TableEntry,
     key: u64,
     work: &mut Work,
 ) -> Result<(), Stop>
@@ -65,7 +65,7 @@ fn remove_row<P: Pages>(
 fn delete_at<P: Pages>(
     pages: &mut P,
     limits: &Limits,
-    place: &Place,
+    place: &TableEntry,
     key: u64,
     work: &mut Work,
 ) -> Result<Deleted, Stop>
@@ -130,7 +130,7 @@ pub fn delete<P: Pages>(
         (DeletesIfDone limits.now (P.standing pages.old).count (P.standing pages.old).current
         (P.standing pages.new).current name.now key)) }
     ensures counted { IsTrue (P.standing pages.old).told
-        → IfOk result (λ answer. (place : Place)
+        → IfOk result (λ answer. (place : TableEntry)
         → place_of name.now 0 (entries (P.standing pages.old).current) ≡ Some place
         → CountsIfDone (P.standing pages.new).current place answer) }
     ensures keeps { IfOk result (KeepsUnlessDone (P.standing pages.old) (P.standing pages.new)) }

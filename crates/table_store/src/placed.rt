@@ -16,14 +16,14 @@ ghost use Rattle.table_store.specs.Changed.{root_at, stays_as, Enters};
 use line_pages::{Pages, Stop};
 use page_format::Work;
 use rows::Limits;
-use table_catalog::{Entry, Place, line_of, root_of};
+use table_catalog::{Entry, TableEntry, line_of, root_of};
 use tree_search::{Record, Root, seek};
 
 /// Finds the record of a key of a table, with damage in the words of the calls that change a tree.
 fn seek_at<P: Pages>(
     pages: &mut P,
     _limits: &Limits,
-    place: &Place,
+    place: &TableEntry,
     key: u64,
     work: &mut Work,
 ) -> Result<Option<Record>, Stop>
@@ -48,7 +48,7 @@ fn seek_at<P: Pages>(
 pub(crate) fn has_row<P: Pages>(
     pages: &mut P,
     _limits: &Limits,
-    place: &Place,
+    place: &TableEntry,
     key: u64,
     work: &mut Work,
 ) -> Result<bool, Stop>
@@ -74,7 +74,7 @@ pub(crate) fn has_row<P: Pages>(
 /// Writes the entry of a table anew: its tree has this root now, and the table so many rows.
 pub(crate) fn write_place<P: Pages>(
     pages: &mut P,
-    place: &Place,
+    place: &TableEntry,
     root: &Root,
     rows: u64,
 ) -> Result<(), Stop>
@@ -101,7 +101,7 @@ pub(crate) fn write_place<P: Pages>(
 }
 
 /// Whether the entry of a table stays as it is with this root and so many rows.
-fn stays(place: &Place, root: &Root, rows: u64) -> bool
+fn stays(place: &TableEntry, root: &Root, rows: u64) -> bool
     ensures { result ≡ stays_as place.now root.now rows }
 {
     place.entry.root == root.page
@@ -112,7 +112,7 @@ fn stays(place: &Place, root: &Root, rows: u64) -> bool
 /// Writes the entry of a table anew, unless it stays as it is: its tree has this root now, and the table so many rows.
 pub(crate) fn update_place<P: Pages>(
     pages: &mut P,
-    place: &Place,
+    place: &TableEntry,
     root: &Root,
     rows: u64,
 ) -> Result<(), Stop>

@@ -24,13 +24,13 @@ use crate::placed::{has_row, update_place};
 use line_pages::{Pages, Stop};
 use page_format::Work;
 use rows::{Limits, Name, Value};
-use table_catalog::{Place, find_entry, root_of};
+use table_catalog::{TableEntry, find_entry, root_of};
 
 /// Whether a table takes a row with the key: it has fewer rows than it may have, or one with the key, which is looked up only then.
 fn has_room<P: Pages>(
     pages: &mut P,
     limits: &Limits,
-    place: &Place,
+    place: &TableEntry,
     key: u64,
     work: &mut Work,
 ) -> Result<bool, Stop>
@@ -70,7 +70,7 @@ fn rows_after(rows: u64, fresh: bool) -> u64
 fn store_row<P: Pages>(
     pages: &mut P,
     limits: &Limits,
-    place: &Place,
+    place: &TableEntry,
     key: u64,
     value: &Value,
     work: &mut Work,
@@ -112,7 +112,7 @@ fn store_row<P: Pages>(
 fn put_at<P: Pages>(
     pages: &mut P,
     limits: &Limits,
-    place: &Place,
+    place: &TableEntry,
     key: u64,
     value: &Value,
     work: &mut Work,

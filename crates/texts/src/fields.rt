@@ -31,7 +31,8 @@ pub fn is_word(field: &[u8], word: &[u8]) -> bool
 /// The number that the next field is, and what is left behind it; `None` exactly where nothing is left, or the field is
 /// no number of 64 bits in plain decimal.
 pub fn key_field(left: Option<&[u8]>) -> Option<(u64, Option<&[u8]>)>
-    ensures { option_map (λ p. (p.0, option_copied p.1)) result ≡ field key_of (option_copied left.entry) }
+    ensures { option_map (λ p. (p.0, option_copied p.1)) result
+        ≡ field key_of (option_copied left.entry) }
 {
     let (word, left) = cut(left?);
     let key = key(word)?;

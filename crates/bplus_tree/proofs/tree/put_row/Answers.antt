@@ -1,6 +1,6 @@
 use Rattle.std.proofs.Common.{rules, length, IfErr, ◌≡◌, ◌≢◌, ◌≤◌, ◌-◌, ℕ, arith, refl, IsTrue, sym, subst}
 use Rattle.rows.specs.Rows.{row_put}
-use Rattle.bplus_tree.specs.declared.path.Place.{Place}
+use Rattle.bplus_tree.specs.declared.path.Node.{Node}
 use Rattle.bplus_tree.specs.declared.outcome.Outcome.TheVariants.{Whole, Short, Cut, Alone}
 use Rattle.node_edit.specs.Edit.{IsNewRoot}
 use Rattle.bplus_tree.specs.Edit.{StaysBelow}
@@ -62,7 +62,7 @@ returns-in_ok-write_new-in-Cut-clause-rows g c = λ told.
     let step = row_put c.args.key c.args.value.now in
     let told_mid = subst IsTrue (sym c.in_ok-change.ensures.call.continues.told) told in
     let told_a = subst IsTrue (sym c.in_ok-page-in-Cut.ensures.call.continues.told) told_mid in
-    let stays = subst (λ (p : Place). StaysBelow p.expect (Cut c.in-Cut.separator c.in-Cut.right)) c.top_of-top.ensures (rw c.in-Cut.is at c.in_ok-change.ensures.below) in
+    let stays = subst (λ (p : Node). StaysBelow p.expect (Cut c.in-Cut.separator c.in-Cut.right)) c.top_of-top.ensures (rw c.in-Cut.is at c.in_ok-change.ensures.below) in
     root_cut old.count old.current mid.current a.current new.current root c.in_ok-page-in-Cut.page c.in-Cut.separator c.in-Cut.right c.root_of.new.page step c.requires.some_levels
     (few_levels root.levels c.requires.few_levels (stays refl))
     (at_root old.count _ old.current mid.current root c.top_of-top.result (Cut c.in-Cut.separator c.in-Cut.right) step c.page_count-count.ensures.count c.top_of-top.ensures (rw c.in-Cut.is at (c.in_ok-change.ensures.edits told)))

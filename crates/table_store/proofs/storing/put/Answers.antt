@@ -1,5 +1,5 @@
 use Rattle.std.proofs.Common.{◌≡◌, ◌<◌, arith, rules, not, ap, refl, length, Some, IsTrue, sym, subst, ◌∙◌}
-use Rattle.table_catalog.specs.declared.entry.Place.{Place}
+use Rattle.table_catalog.specs.declared.entry.TableEntry.{TableEntry}
 use Rattle.table_catalog.specs.Catalog.{entries, place_of, tables}
 use Rattle.rows.specs.Tables.{is_known}
 use Rattle.table_store.specs.Putting.{stored_of, is_no_table}
@@ -66,5 +66,5 @@ returns-in-Some-clause-once g c = λ told below.
     let old = g.P.Pages.standing c.args.pages.now in
     let there : place_of c.args.name.now 0 (entries old.current) ≡ Some c.in-Some.place = sym (c.in_ok-find_entry.ensures.place told) ∙ c.in-Some.is in
     let those : below.0 ≡ c.in-Some.place = let is = below.1 in cc in
-    let few = c.put_at.ensures.once (subst (λ (p : Place). p.entry.rows < c.args.limits.now.rows) those below.2) in
+    let few = c.put_at.ensures.once (subst (λ (p : TableEntry). p.entry.rows < c.args.limits.now.rows) those below.2) in
     omega (arith, few, c.in_ok-find_entry.ensures.few)
