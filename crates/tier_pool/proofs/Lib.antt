@@ -25,3 +25,4 @@ pub mod SteadySteps
 pub mod SteadyRooms
 pub mod SteadyLaws
 pub mod SteadyOpening
+pub mod MadeData

@@ -26,7 +26,7 @@ are_clean : (g : given.Over) (c : After-fence g) → AreClean (data_of c.clean_c
 are_clean g c = all_clean (sizes_of c.clean_copies.new.self.pool.geometry) (parts_of c.args.self.now) (parts_of c.clean_copies.new.self) c.requires.steady.fields (is_settled g c)
 
 pub returns-clause-leads : goal.returns-clause-leads
-returns-clause-leads g c = leads_then c.in_ok-clean_copies.ensures.leads (leads_settled (are_clean g c) c.fence.ensures)
+returns-clause-leads g c = leads_then c.in_ok-clean_copies.ensures.leads (leads_settled (are_clean g c) c.fence.ensures.made)
 
 pub returns-clause-clean : goal.returns-clause-clean
 returns-clause-clean g c = on_ok c.fence.result (are_clean g c)
