@@ -17,4 +17,3 @@ mod WroteLaws
 mod TellingLaws
 mod RuleLaws
 mod ReadsLaws
-mod TouchCalls

@@ -18,7 +18,6 @@ use Rattle.tier_facts.specs.Reads.{IsCurrentLine}
 use Rattle.tier_facts.proofs.CurrentLaws.{copied_line, then_copied}
 use Rattle.tier_pool.specs.declared.pool.Spot.{Spot}
 use Rattle.tier_pool.specs.declared.pool.TierPool.{TierPool}
-use Rattle.tier_pool.specs.Calls.{Calls}
 use Rattle.tier_pool.specs.Fields.{parts_of}
 use Rattle.tier_pool.specs.Touching.{HasFrame, LiesInFrame}
 use Rattle.tier_pool.proofs.RangeLaws.{nvm_in}
@@ -91,6 +90,3 @@ leads_by {A = A} {B = B} {a = a} {r = r} same call = subst (λ (d : Standing). L
 
 pub looked_by : {T : Type 0} {a b c : Standing} {r : Result T Stop} → c ≡ b → Looked a b r → Looked a c r
 looked_by {a = a} {r = r} same looked = subst (λ (d : Standing). Looked a d r) (sym same) looked
-
-pub calls_by : {T : Type 0} {a b c : Standing} {r : Result T Stop} → c ≡ b → Calls a b r → Calls a c r
-calls_by {a = a} {r = r} same calls = subst (λ (d : Standing). Calls a d r) (sym same) calls

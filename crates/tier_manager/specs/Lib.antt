@@ -7,4 +7,3 @@ pub mod Cleaning
 pub mod Entering
 pub mod Touching
 pub mod Rules
-pub mod Calls

@@ -9,7 +9,7 @@ use Rattle.tier_rules.specs.Step.{Touch}
 use Rattle.tier_pool.specs.declared.pool.Access.{Access}
 use Rattle.tier_manager.specs.declared.trace.Trace.{Trace}
 use Rattle.tier_manager.specs.declared.tiers.Tiers.{Tiers}
-use Rattle.tier_manager.specs.Fields.{parts_of, access_of}
+use Rattle.tier_manager.specs.Fields.{parts_of}
 
 -- the lines that were told since the trace was cleared, and how many there is room for
 pub record Told : Type 0 where
@@ -51,7 +51,7 @@ abbrev pub telling : Told → Option Access → Telling
 telling told access = record { told = told; lines = told_by access }
 
 abbrev pub telling_of : Tiers → Telling
-telling_of t = telling (told_of t) (access_of t)
+telling_of t = telling (told_of t) t.pool.access
 
 -- something was told, of no line of the access
 abbrev pub telling_with : TraceLine → Telling → Telling

@@ -8,7 +8,7 @@ ghost use Rattle.tier_rules.specs.Opening.{IsTable, opened};
 ghost use Rattle.tier_rules.specs.Entering.{rested};
 ghost use Rattle.tier_rules.specs.State.{counting};
 ghost use Rattle.tier_rules.specs.Tallies.{log_lines_read};
-ghost use Rattle.tier_pool.specs.Opening.{NamesWithin, empty_parts, entries_placed};
+ghost use Rattle.tier_pool.specs.Opening.{NamesWithin, IsMadeFor, empty_parts, entries_placed};
 ghost use Rattle.tier_manager.specs.Sizes.{trace_room};
 ghost use Rattle.pool_laws.specs.States.{IsState};
 
@@ -28,7 +28,7 @@ pub struct Tiers {
 }
 
 impl Tiers {
-    ghost use Rattle.tier_manager.specs.Fields.{parts_of, AreFor, SameSizes};
+    ghost use Rattle.tier_manager.specs.Fields.{parts_of, SameSizes};
     ghost use Rattle.tier_manager.specs.Steady.{IsSteady};
     ghost use Rattle.tier_manager.specs.Rules.{FollowsRule};
     ghost use Rattle.tier_manager.specs.Telling.{told_of, telling_of, nothing_told, log_reads_told};
@@ -53,7 +53,7 @@ impl Tiers {
             telling_of made ≡ record { told = nothing_told room; lines = no_lines }) }
         ensures rule { IfOk result (λ made.
             IsState (parts_of made) (opened (plan_of policy.now) words.now)) }
-        ensures of { IfOk result (λ made. AreFor geometry.now policy.now made) }
+        ensures of { IfOk result (λ made. IsMadeFor geometry.now policy.now made.pool) }
     {
         Ok(Tiers {
             pool: TierPool::new(alloc, geometry, policy, words)?,
@@ -79,9 +79,7 @@ impl Tiers {
     pub fn clear_trace(&mut self)
         ensures told { let told = nothing_told (told_of self.old).room in
             telling_of self.new ≡ record (telling_of self.old) { told = told } }
-        ensures parts { parts_of self.new ≡ parts_of self.old }
-        ensures keeps { IsSteady self.old → IsSteady self.new }
-        ensures same { SameSizes self.old self.new }
+        ensures pool { self.new.pool ≡ self.old.pool }
     {
         self.trace.clear();
     }

@@ -3,7 +3,7 @@ use Rattle.std.specs.Prelude.{Option, IsSome}
 use Rattle.store_model.specs.Layout.{pages}
 use Rattle.nvm_layout.specs.declared.geometry.Geometry.{Geometry}
 use Rattle.nvm_layout.specs.Sizes.{sizes_of}
-use Rattle.device_calls.proofs.LeadsLaws.{leads_ok, leads_data, looked_ok, leads_exit}
+use Rattle.device_calls.proofs.LeadsLaws.{leads_ok, leads_data, looked_ok}
 use Rattle.tier_facts.specs.Facts.{Facts}
 use Rattle.tier_rules.specs.Parts.{Parts}
 use Rattle.tier_pool.specs.Standing.{IsSteady}
@@ -45,6 +45,3 @@ returns-clause-reads g c = fetches_behind _ _ c.in_ok-enter.ensures.reads (ap (�
 
 pub returns-clause-looked : goal.returns-clause-looked
 returns-clause-looked g c = λ copied. looked_ok (c.in_ok-enter.ensures.looked copied)
-
-pub returns-in_err-enter-clause-quiet : goal.returns-in_err-enter-clause-quiet
-returns-in_err-enter-clause-quiet g c = λ copied. leads_exit c.from_residual.result c.from_residual.ensures.1 (c.in_err-enter.ensures.quiet copied)

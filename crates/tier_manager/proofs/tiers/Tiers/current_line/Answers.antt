@@ -8,10 +8,9 @@ use Rattle.tier_facts.specs.Facts.{IsHardened}
 use Rattle.tier_pool.specs.Places.{IsPlace}
 use Rattle.tier_pool.proofs.RangeLaws.{place_in}
 use Rattle.tier_manager.specs.Fields.{parts_of, data_of}
-use Rattle.tier_manager.proofs.TouchedLaws.{has_frame, lies_in_frame, then_current, then_current_hard, then_loaded, then_loaded_hard, copied_there, leads_by, looked_by, calls_by}
+use Rattle.tier_manager.proofs.TouchedLaws.{has_frame, lies_in_frame, then_current, then_current_hard, then_loaded, then_loaded_hard, copied_there, leads_by, looked_by}
 use Rattle.tier_pool.proofs.FetchLaws.{fetches_behind}
 use Rattle.tier_manager.proofs.ReadsLaws.{fetches_by}
-use Rattle.tier_pool.proofs.CallLaws.{calls_exit, calls_then, calls_stored, calls_ok}
 use Rattle.tier_manager.proofs.tiers.Tiers.current_line.Goals.{in-Some, in-None+in_ok-value-in-None}
 use Rattle.tier_manager.proofs.tiers.Tiers.current_line.Goals as goal
 
@@ -92,19 +91,4 @@ returns-clause-reads g c =
     elim c.match-copy_line.branch [
       | in-Some w ↦ fetches_by (ap g.D.Devices.standing w.dev-is) c.in_ok-spot.ensures.reads
       | in-None+in_ok-value-in-None w ↦ fetches_by (ap g.D.Devices.standing w.dev-is) (fetches_behind _ _ c.in_ok-spot.ensures.reads refl w.in_ok-value-in-None.ensures.call.reads)
-    ]
-
-pub returns-in_err-spot-clause-quiet : goal.returns-in_err-spot-clause-quiet
-returns-in_err-spot-clause-quiet g c = λ quiet. leads_exit c.from_residual.result c.from_residual.ensures.1 (c.in_err-spot.ensures.quiet quiet)
-
-pub returns-in_err-value-in-None-clause-call : goal.returns-in_err-value-in-None-clause-call
-returns-in_err-value-in-None-clause-call g c =
-    calls_exit c.from_residual-in_err-value-in-None.result c.from_residual-in_err-value-in-None.ensures.1
-    (calls_then c.in_ok-spot.ensures.call (calls_stored c.in_err-value-in-None.ensures.call))
-
-pub returns-clause-call : goal.returns-clause-call
-returns-clause-call g c =
-    elim c.match-copy_line.branch [
-      | in-Some w ↦ calls_by (ap g.D.Devices.standing w.dev-is) (calls_ok c.whole_line.result c.in_ok-spot.ensures.call)
-      | in-None+in_ok-value-in-None w ↦ calls_by (ap g.D.Devices.standing w.dev-is) (calls_ok c.whole_line.result (calls_then c.in_ok-spot.ensures.call (calls_stored w.in_ok-value-in-None.ensures.call)))
     ]
