@@ -1,6 +1,8 @@
 //! A page comes into a frame, and is given up by it.
 ghost use Rattle.std.specs.Prelude.{◌≡◌, ◌<◌, ◌≤◌, ℕ, ◌+◌, true, false};
 ghost use Rattle.device_calls.specs.Leads.{Made};
+ghost use Rattle.device_calls.specs.Stops.{StopsWith};
+ghost use Rattle.line_pages.specs.declared.stop.Stop.TheVariants.{Nvm};
 ghost use Rattle.store_model.specs.Layout.{pages, nvm_lines, ssd_blocks};
 ghost use Rattle.store_model.specs.Install.{entry_calls, install_calls};
 ghost use Rattle.nvm_layout.specs.Sizes.{sizes_of};
@@ -27,6 +29,7 @@ pub fn install<D: Devices>(
     requires page { page < pages (sizes_of geometry.now) }
     ensures made { Made (install_calls (sizes_of geometry.now) frame page (page_lines lines.now))
         (D.standing dev.old) (D.standing dev.new) result }
+    ensures stops { StopsWith Nvm result }
     ensures keeps { InstallKeeps (sizes_of geometry.now) frame page lines.now
         (D.standing dev.old) (D.standing dev.new) result }
 {
@@ -50,6 +53,7 @@ pub fn release<D: Devices>(
     requires page { page < pages (sizes_of geometry.now) }
     ensures releases { Releases (sizes_of geometry.now) frame page write
         (D.standing dev.old) (D.standing dev.new) result }
+    ensures stops { write ≡ false → StopsWith Nvm result }
     ensures keeps { write ≡ true → ReleaseKeeps (sizes_of geometry.now) frame page
         (D.standing dev.old) (D.standing dev.new) result }
     ensures clears { write ≡ false → ClearKeeps (sizes_of geometry.now) frame page
@@ -91,7 +95,8 @@ fn put_entry<D: Devices>(
 ) -> Result<(), Stop>
     requires fits { nvm_lines (sizes_of geometry.now) ≤ (D.standing dev.old).lines }
     requires frame { frame ≤ geometry.now.frames }
-    ensures { Made (entry_calls frame entry) (D.standing dev.old) (D.standing dev.new) result }
+    ensures made { Made (entry_calls frame entry) (D.standing dev.old) (D.standing dev.new) result }
+    ensures stops { StopsWith Nvm result }
 {
     let (line, word) = geometry.table_word(frame);
     put_word(dev, line, word, entry)

@@ -1,9 +1,7 @@
 -- The fields of the tiers as plain data, and what their sizes are.
 use Rattle.std.specs.Prelude.{◌≡◌}
-use Rattle.devices.specs.World.{Standing}
 use Rattle.tier_rules.specs.Parts.{Parts}
 use Rattle.tier_facts.specs.Data.{Data}
-use Rattle.tier_pool.specs.Calls.{FetchesCounted}
 use Rattle.tier_pool.specs.Fields.{parts_of as pool_parts}
 use Rattle.tier_pool.specs.Storing.{data_of as pool_data}
 use Rattle.tier_manager.specs.declared.tiers.Tiers.{Tiers}
@@ -15,10 +13,6 @@ parts_of t = pool_parts t.pool
 -- what the facts of the tiers speak of
 abbrev pub data_of : Tiers → Data
 data_of t = pool_data t.pool
-
--- as many blocks were read as fetches were counted
-abbrev pub CountsFetches : Tiers → Tiers → Standing → Standing → Type 0
-CountsFetches old new a b = FetchesCounted (parts_of old) (parts_of new) a b
 
 -- what no call changes
 pub record SameSizes (old new : Tiers) : Type 0 where

@@ -4,7 +4,6 @@ ghost use Rattle.store_model.specs.Layout.{pages};
 ghost use Rattle.nvm_layout.specs.Sizes.{sizes_of};
 ghost use Rattle.device_calls.specs.Leads.{Leads};
 ghost use Rattle.tier_facts.specs.Facts.{Held, Hard, Settled, AreClean};
-ghost use Rattle.tier_rules.specs.Cleaning.{clean as rule_clean, settled as rule_settled};
 ghost use Rattle.tier_pool.specs.Calls.{Fits, Stores};
 ghost use Rattle.tier_pool.specs.Fields.{SameSizes as SamePool};
 ghost use Rattle.tier_pool.specs.Handing.{StandsAt};
@@ -14,8 +13,7 @@ ghost use Rattle.tier_pool.specs.Storing.{LeadsHard};
 ghost use Rattle.tier_manager.specs.Cleaning.{cleaned, minis_cleaned, settled, place_cleaned};
 ghost use Rattle.tier_manager.specs.Fields.{parts_of, data_of, SameSizes};
 ghost use Rattle.tier_manager.specs.Steady.{IsSteady};
-ghost use Rattle.tier_manager.specs.Rules.{FollowsRule};
-ghost use Rattle.tier_manager.specs.Telling.{told_of, telling_of, telling_with};
+ghost use Rattle.tier_manager.specs.Telling.{told_of, told_with};
 
 use crate::tiers::Tiers;
 use device_calls::fence;
@@ -35,8 +33,7 @@ impl Tiers {
         ensures call { Stores (D.standing dev.old) (D.standing dev.new) result }
         ensures leads { LeadsHard self.old.pool self.new.pool (D.standing dev.old) (D.standing dev.new) result }
         ensures parts { OnOk result (parts_of self.new ≡ cleaned count (parts_of self.old)) }
-        ensures told { telling_of self.new ≡ telling_with (TraceLine.Clean count) (telling_of self.old) }
-        ensures rule { OnOk result (FollowsRule (rule_clean count) self.old self.new) }
+        ensures told { told_of self.new ≡ told_with (TraceLine.Clean count) (told_of self.old) }
         ensures keeps { OnOk result (IsSteady self.new) }
         ensures same { SameSizes self.old self.new }
     {
@@ -53,8 +50,7 @@ impl Tiers {
             (D.standing dev.old) (D.standing dev.new) result }
         ensures clean { OnOk result (AreClean (data_of self.new)) }
         ensures parts { OnOk result (parts_of self.new ≡ settled (parts_of self.old)) }
-        ensures told { telling_of self.new ≡ telling_with TraceLine.Settle (telling_of self.old) }
-        ensures rule { OnOk result (FollowsRule rule_settled self.old self.new) }
+        ensures told { told_of self.new ≡ told_with TraceLine.Settle (told_of self.old) }
         ensures keeps { OnOk result (IsSteady self.new) }
         ensures same { SameSizes self.old self.new }
     {

@@ -1,7 +1,6 @@
 //! The beginning of an access.
 ghost use Rattle.std.specs.Prelude.{◌≡◌, ◌≢◌, ◌<◌, ◌≤◌, IfOk, OnOk, IfSome, Some, None, not, true};
 ghost use Rattle.std.specs.Option.{is_some};
-ghost use Rattle.device_calls.specs.Leads.{Looked};
 ghost use Rattle.store_model.specs.Layout.{pages};
 ghost use Rattle.nvm_layout.specs.Sizes.{sizes_of};
 ghost use Rattle.tier_rules.specs.Plans.{dram_question};
@@ -12,9 +11,9 @@ ghost use Rattle.tier_pool.specs.Hits.{frame_hit};
 ghost use Rattle.tier_pool.specs.Standing.{IsSteady as AreSteady};
 ghost use Rattle.tier_pool.specs.Storing.{LeadsHard, LeadsFacts};
 ghost use Rattle.tier_manager.specs.Entering.{through_nvm, BroughtIf, BroughtBy, ThroughIf, ThroughBy, ReadInBy, EnteredBelow, Entered, Begun, Opened};
-ghost use Rattle.tier_manager.specs.Fields.{parts_of, CountsFetches, SameSizes};
+ghost use Rattle.tier_manager.specs.Fields.{parts_of, SameSizes};
 ghost use Rattle.tier_manager.specs.Steady.{IsSteady, LiesAt};
-ghost use Rattle.tier_manager.specs.Telling.{told_of, telling_of, access_told};
+ghost use Rattle.tier_manager.specs.Telling.{told_of};
 
 use crate::tiers::Tiers;
 use devices::Devices;
@@ -64,18 +63,12 @@ impl Tiers {
         requires page { page < pages (sizes_of self.old.pool.geometry) }
         requires steady { IsSteady self.old }
         ensures call { Calls (D.standing dev.old) (D.standing dev.new) result }
-        ensures reads { OnOk result (
-            CountsFetches self.old self.new (D.standing dev.old) (D.standing dev.new)) }
-        ensures looked { (parts_of self.old).map.place page ≢ Place.Absent
-            → Looked (D.standing dev.old) (D.standing dev.new) result }
         ensures leads { LeadsHard self.old.pool self.new.pool (D.standing dev.old) (D.standing dev.new) result }
         ensures quiet { (parts_of self.old).map.place page ≢ Place.Absent
             → LeadsFacts self.old.pool self.new.pool (D.standing dev.old) (D.standing dev.new) result }
         ensures opened { OnOk result (Opened page writes (parts_of self.old) (parts_of self.new)) }
         ensures lies { IfOk result (λ spot. LiesAt page spot (parts_of self.new).map) }
         ensures told { told_of self.new ≡ told_of self.old }
-        ensures telling { OnOk result (let begun = begins (parts_of self.old).access page writes in
-            telling_of self.new ≡ access_told begun (telling_of self.old)) }
         ensures keeps { OnOk result (IsSteady self.new) }
         ensures same { SameSizes self.old self.new }
     {
@@ -96,17 +89,12 @@ impl Tiers {
         requires page { page < pages (sizes_of self.old.pool.geometry) }
         requires steady { AreSteady (parts_of self.old) }
         ensures call { Calls (D.standing dev.old) (D.standing dev.new) result }
-        ensures reads { OnOk result (
-            CountsFetches self.old self.new (D.standing dev.old) (D.standing dev.new)) }
-        ensures looked { (parts_of self.old).map.place page ≢ Place.Absent
-            → Looked (D.standing dev.old) (D.standing dev.new) result }
         ensures leads { LeadsHard self.old.pool self.new.pool (D.standing dev.old) (D.standing dev.new) result }
         ensures quiet { (parts_of self.old).map.place page ≢ Place.Absent
             → LeadsFacts self.old.pool self.new.pool (D.standing dev.old) (D.standing dev.new) result }
         ensures begun { OnOk result (Begun page writes (parts_of self.old) (parts_of self.new)) }
         ensures lies { IfOk result (λ spot. LiesAt page spot (parts_of self.new).map) }
         ensures told { told_of self.new ≡ told_of self.old }
-        ensures telling { OnOk result (telling_of self.new ≡ access_told true (telling_of self.old)) }
         ensures keeps { OnOk result (IsSteady self.new) }
         ensures same { SameSizes self.old self.new }
     {
@@ -134,7 +122,7 @@ impl Tiers {
         ensures there { IfSome self.new.pool.access (λ access. access.spot ≡ result) }
         ensures place { result.place ≡ (parts_of self.old).map.place page }
         ensures frame { result.frame ≡ (parts_of self.old).map.nvm page }
-        ensures told { telling_of self.new ≡ access_told true (telling_of self.old) }
+        ensures told { told_of self.new ≡ told_of self.old }
         ensures same { SameSizes self.old self.new }
     {
         let spot = self.spot(page);
@@ -153,10 +141,6 @@ impl Tiers {
         requires page { page < pages (sizes_of self.old.pool.geometry) }
         requires steady { AreSteady (parts_of self.old) }
         ensures call { Calls (D.standing dev.old) (D.standing dev.new) result }
-        ensures reads { OnOk result (
-            CountsFetches self.old self.new (D.standing dev.old) (D.standing dev.new)) }
-        ensures looked { (parts_of self.old).map.place page ≢ Place.Absent
-            → Looked (D.standing dev.old) (D.standing dev.new) result }
         ensures leads { LeadsHard self.old.pool self.new.pool (D.standing dev.old) (D.standing dev.new) result }
         ensures quiet { (parts_of self.old).map.place page ≢ Place.Absent
             → LeadsFacts self.old.pool self.new.pool (D.standing dev.old) (D.standing dev.new) result }
@@ -180,8 +164,6 @@ impl Tiers {
         requires steady { AreSteady (parts_of self.old) }
         requires absent { (parts_of self.old).map.place page ≡ Place.Absent }
         ensures call { Calls (D.standing dev.old) (D.standing dev.new) result }
-        ensures reads { OnOk result (
-            CountsFetches self.old self.new (D.standing dev.old) (D.standing dev.new)) }
         ensures leads { LeadsHard self.old.pool self.new.pool (D.standing dev.old) (D.standing dev.new) result }
         ensures entered { OnOk result (let parts = parts_of self.old in
             EnteredBelow (parts.map.nvm page) page writes parts (parts_of self.new)) }
@@ -209,8 +191,6 @@ impl Tiers {
         requires steady { AreSteady (parts_of self.old) }
         requires absent { (parts_of self.old).map.place page ≡ Place.Absent }
         ensures call { Calls (D.standing dev.old) (D.standing dev.new) result }
-        ensures reads { OnOk result (
-            CountsFetches self.old self.new (D.standing dev.old) (D.standing dev.new)) }
         ensures leads { LeadsHard self.old.pool self.new.pool (D.standing dev.old) (D.standing dev.new) result }
         ensures entered { OnOk result (let answer = drawn (dram_question writes) (frame_hit frame (parts_of self.old)) in
             BroughtBy answer page (parts_of self.new)) }
@@ -230,8 +210,6 @@ impl Tiers {
         requires steady { AreSteady (parts_of self.old) }
         requires absent { (parts_of self.old).map.place page ≡ Place.Absent }
         ensures call { Calls (D.standing dev.old) (D.standing dev.new) result }
-        ensures reads { OnOk result (
-            CountsFetches self.old self.new (D.standing dev.old) (D.standing dev.new)) }
         ensures leads { LeadsHard self.old.pool self.new.pool (D.standing dev.old) (D.standing dev.new) result }
         ensures brought { OnOk result (BroughtIf brings page (parts_of self.old) (parts_of self.new)) }
         ensures told { told_of self.new ≡ told_of self.old }
@@ -252,8 +230,6 @@ impl Tiers {
         requires absent { (parts_of self.old).map.place page ≡ Place.Absent }
         requires homeless { (parts_of self.old).map.nvm page ≡ None }
         ensures call { Calls (D.standing dev.old) (D.standing dev.new) result }
-        ensures reads { OnOk result (
-            CountsFetches self.old self.new (D.standing dev.old) (D.standing dev.new)) }
         ensures leads { LeadsHard self.old.pool self.new.pool (D.standing dev.old) (D.standing dev.new) result }
         ensures entered { OnOk result (ReadInBy (through_nvm (parts_of self.old)) page writes (parts_of self.new)) }
         ensures told { told_of self.new ≡ told_of self.old }
@@ -277,8 +253,6 @@ impl Tiers {
         requires absent { (parts_of self.old).map.place page ≡ Place.Absent }
         requires homeless { (parts_of self.old).map.nvm page ≡ None }
         ensures call { Calls (D.standing dev.old) (D.standing dev.new) result }
-        ensures reads { OnOk result (
-            CountsFetches self.old self.new (D.standing dev.old) (D.standing dev.new)) }
         ensures leads { LeadsHard self.old.pool self.new.pool (D.standing dev.old) (D.standing dev.new) result }
         ensures entered { OnOk result (let answer = drawn (dram_question writes) (parts_of self.old) in
             ThroughBy answer page (parts_of self.new)) }
@@ -304,8 +278,6 @@ impl Tiers {
         requires absent { (parts_of self.old).map.place page ≡ Place.Absent }
         requires homeless { (parts_of self.old).map.nvm page ≡ None }
         ensures call { Calls (D.standing dev.old) (D.standing dev.new) result }
-        ensures reads { OnOk result (
-            CountsFetches self.old self.new (D.standing dev.old) (D.standing dev.new)) }
         ensures leads { LeadsHard self.old.pool self.new.pool (D.standing dev.old) (D.standing dev.new) result }
         ensures through { OnOk result (ThroughIf brings page (parts_of self.old) (parts_of self.new)) }
         ensures told { told_of self.new ≡ told_of self.old }

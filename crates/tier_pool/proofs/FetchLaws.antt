@@ -42,7 +42,7 @@ emptied_tally Absent parts = refl
 emptied_tally (Full i) parts = refl
 emptied_tally (Mini j) parts = refl
 
-pub dropped_tally : (page : ℕ) (parts : Parts) → (copy_dropped page parts).tally ≡ parts.tally
+dropped_tally : (page : ℕ) (parts : Parts) → (copy_dropped page parts).tally ≡ parts.tally
 dropped_tally page parts = emptied_tally (parts.map.place page) parts
 
 given_tally : (page k : ℕ) (parts : Parts) → (copy_given_up page k parts).tally ≡ parts.tally

@@ -1,6 +1,5 @@
 //! A mini copy: a line is loaded to it or written in it, and its lines move to a full place.
 ghost use Rattle.std.specs.Prelude.{◌≡◌, ℕ, ◌<◌, OnOk, None, IsTrue, false};
-ghost use Rattle.device_calls.specs.Leads.{Looked};
 ghost use Rattle.page_frame.specs.LineSets.{no_lines};
 ghost use Rattle.page_frame.specs.Frames.{is_resident, resident_lines};
 ghost use Rattle.mini_page.specs.MiniPages.{mini_at, is_full};
@@ -40,7 +39,6 @@ impl TierPool {
             → LiesInFrame (sizes_of self.old.geometry) page line spot.frame (parts_of self.old)
             → (parts_of self.old).map.place page ≡ Place.Mini mini → AreThere (parts_of self.old)
             → LeadsFacts self.old self.new (D.standing dev.old) (D.standing dev.new) result }
-        ensures looked { Looked (D.standing dev.old) (D.standing dev.new) result }
         ensures parts { OnOk result (LoadedToMini mini line (parts_of self.old) (parts_of self.new)) }
         ensures same { SameSizes self.old self.new }
     {

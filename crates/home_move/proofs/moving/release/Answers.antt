@@ -7,4 +7,4 @@ pub returns-then-write-clause-keeps : goal.returns-then-write-clause-keeps
 returns-then-write-clause-keeps g c write = release_keeps (sizes_of c.args.geometry.now) c.args.frame c.args.page c.requires.frame c.release_written.ensures
 
 pub returns-else-write-clause-clears : goal.returns-else-write-clause-clears
-returns-else-write-clause-clears g c write = clear_keeps (sizes_of c.args.geometry.now) c.args.frame c.args.page c.put_entry.ensures
+returns-else-write-clause-clears g c write = clear_keeps (sizes_of c.args.geometry.now) c.args.frame c.args.page c.put_entry.ensures.made

@@ -10,9 +10,9 @@ returns-in_err-read_frame g c =
 pub returns-in_err-put_block : goal.returns-in_err-put_block
 returns-in_err-put_block g c =
     release_unwritten (sizes_of c.args.geometry.now) c.args.frame c.args.page c.page_block.result c.read_frame.new.into c.from_residual-in_err-put_block.result c.from_residual-in_err-put_block.ensures.0 c.from_residual-in_err-put_block.ensures.1
-    c.page_block.ensures.place c.in_ok-read_frame.ensures.looked c.in_ok-read_frame.ensures.reads c.in_ok-read_frame.ensures.value c.in_err-put_block.ensures
+    c.page_block.ensures.place c.in_ok-read_frame.ensures.looked c.in_ok-read_frame.ensures.reads c.in_ok-read_frame.ensures.value c.in_err-put_block.ensures.made
 
 pub returns : goal.returns
 returns g c =
     release_then (sizes_of c.args.geometry.now) c.args.frame c.args.page c.page_block.result c.read_frame.new.into
-    c.page_block.ensures.place c.in_ok-read_frame.ensures.looked c.in_ok-read_frame.ensures.reads c.in_ok-read_frame.ensures.value c.in_ok-put_block.ensures c.put_entry.ensures
+    c.page_block.ensures.place c.in_ok-read_frame.ensures.looked c.in_ok-read_frame.ensures.reads c.in_ok-read_frame.ensures.value c.in_ok-put_block.ensures.made c.put_entry.ensures.made

@@ -8,7 +8,6 @@ use Rattle.tier_manager.specs.Cleaning.{settled}
 use Rattle.tier_manager.specs.Fields.{parts_of, data_of}
 use Rattle.tier_manager.proofs.SettledLaws.{cleaned_all, all_clean}
 use Rattle.tier_manager.proofs.KeptLaws.{kept}
-use Rattle.tier_manager.proofs.RuleLaws.{settled_rule}
 use Rattle.tier_manager.proofs.tiers.Tiers.settle_all.Given as given
 use Rattle.tier_manager.proofs.tiers.Tiers.settle_all.Goals as goal
 use Rattle.tier_manager.proofs.tiers.Tiers.settle_all.Goals.{After-fence}
@@ -27,7 +26,7 @@ are_clean : (g : given.Over) (c : After-fence g) → AreClean (data_of c.clean_c
 are_clean g c = all_clean (sizes_of c.clean_copies.new.self.pool.geometry) (parts_of c.args.self.now) (parts_of c.clean_copies.new.self) c.requires.steady.fields (is_settled g c)
 
 pub returns-clause-leads : goal.returns-clause-leads
-returns-clause-leads g c = leads_then c.in_ok-clean_copies.ensures.leads (leads_settled (are_clean g c) c.fence.ensures)
+returns-clause-leads g c = leads_then c.in_ok-clean_copies.ensures.leads (leads_settled (are_clean g c) c.fence.ensures.made)
 
 pub returns-clause-clean : goal.returns-clause-clean
 returns-clause-clean g c = on_ok c.fence.result (are_clean g c)
@@ -38,6 +37,3 @@ returns-clause-parts g c = on_ok c.fence.result (is_settled g c)
 pub returns-clause-keeps : goal.returns-clause-keeps
 returns-clause-keeps g c = on_ok c.fence.result
     (kept 4294967295 c.args.self.now c.clean_copies.new.self c.in_ok-clean_copies.ensures.parts c.in_ok-clean_copies.ensures.keeps c.in_ok-clean_copies.ensures.same c.requires.steady)
-
-pub returns-clause-rule : goal.returns-clause-rule
-returns-clause-rule g c = settled_rule c.fence.result c.args.self.now c.clean_copies.new.self c.requires.steady (on_ok c.fence.result (is_settled g c))

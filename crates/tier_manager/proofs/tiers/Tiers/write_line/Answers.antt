@@ -1,8 +1,8 @@
-use Rattle.std.proofs.Common.{ℕ, ◌<◌, sym, ap, ◌∙◌, subst, refl}
+use Rattle.std.proofs.Common.{ℕ, ◌<◌, sym, ap, ◌∙◌, subst}
 use Rattle.nvm_layout.specs.declared.geometry.Geometry.{Geometry}
 use Rattle.nvm_layout.specs.Sizes.{sizes_of}
 use Rattle.store_model.specs.Layout.{pages}
-use Rattle.device_calls.proofs.LeadsLaws.{leads_then, leads_exit, leads_given, leads_map, leads_ok, looked_ok}
+use Rattle.device_calls.proofs.LeadsLaws.{leads_then, leads_exit, leads_given, leads_map, leads_ok}
 use Rattle.tier_map.specs.declared.place.Place.TheVariants.{Absent, Full, Mini}
 use Rattle.tier_facts.specs.Facts.{IsLoose}
 use Rattle.tier_rules.specs.Parts.{Parts}
@@ -12,8 +12,6 @@ use Rattle.tier_pool.proofs.WritingLaws.{full_put, mini_put, facts_written}
 use Rattle.tier_manager.specs.Fields.{parts_of}
 use Rattle.tier_manager.proofs.SteadyTouch.{steady_line_written}
 use Rattle.tier_manager.proofs.WroteLaws.{steady_wrote, facts_hard, absent_line}
-use Rattle.tier_manager.proofs.RuleLaws.{wrote_rule}
-use Rattle.tier_pool.proofs.FetchLaws.{fetches_behind}
 use Rattle.tier_manager.proofs.tiers.Tiers.write_line.Goals as goal
 
 pub returns-in_err-spot-clause-quiet : goal.returns-in_err-spot-clause-quiet
@@ -100,39 +98,3 @@ returns-in-Mini-clause-keeps g c =
     steady_wrote c.touch.new.self (record { pool = c.write_mini.new.self; trace = c.touch.new.self.trace }) c.args.page c.args.line c.args.value.now c.in_ok-spot.spot (Mini c.in-Mini.mini)
     c.requires.line c.in_ok-spot.ensures.keeps c.in_ok-spot.ensures.lies c.in_ok-spot.ensures.there c.in-Mini.is
     c.write_mini.ensures.parts (ap (λ (p : Parts). p.map) c.write_mini.ensures.parts) c.write_mini.ensures.same.access c.write_mini.ensures.same.geometry
-
-pub returns-in_err-spot-clause-leads : goal.returns-in_err-spot-clause-leads
-returns-in_err-spot-clause-leads g c =
-    leads_exit c.from_residual.result c.from_residual.ensures.1 (leads_given (IsLoose c.args.page c.args.line) c.in_err-spot.ensures.leads)
-
-pub returns-in_ok-store_in_place-in-Absent-clause-rule : goal.returns-in_ok-store_in_place-in-Absent-clause-rule
-returns-in_ok-store_in_place-in-Absent-clause-rule g c =
-    let framed = sym c.in_ok-spot.ensures.lies.frame ∙ c.unwrap.ensures in
-    wrote_rule c.args.self.now c.touch.new.self (record { pool = c.store_in_place.new.self; trace = c.touch.new.self.trace }) c.args.page c.args.line c.args.value.now c.in_ok-spot.spot Absent
-    c.requires.line c.requires.steady c.in_ok-spot.ensures.touched c.in_ok-spot.ensures.lies c.in-Absent.is (rw framed c.in_ok-store_in_place-in-Absent.ensures.parts)
-
-pub returns-in-Full-clause-rule : goal.returns-in-Full-clause-rule
-returns-in-Full-clause-rule g c =
-    wrote_rule c.args.self.now c.touch.new.self (record { pool = c.write_full.new.self; trace = c.touch.new.self.trace }) c.args.page c.args.line c.args.value.now c.in_ok-spot.spot (Full c.in-Full.full)
-    c.requires.line c.requires.steady c.in_ok-spot.ensures.touched c.in_ok-spot.ensures.lies c.in-Full.is c.write_full.ensures.parts
-
-pub returns-in-Mini-clause-rule : goal.returns-in-Mini-clause-rule
-returns-in-Mini-clause-rule g c =
-    wrote_rule c.args.self.now c.touch.new.self (record { pool = c.write_mini.new.self; trace = c.touch.new.self.trace }) c.args.page c.args.line c.args.value.now c.in_ok-spot.spot (Mini c.in-Mini.mini)
-    c.requires.line c.requires.steady c.in_ok-spot.ensures.touched c.in_ok-spot.ensures.lies c.in-Mini.is c.write_mini.ensures.parts
-
-pub returns-in_ok-store_in_place-in-Absent-clause-reads : goal.returns-in_ok-store_in_place-in-Absent-clause-reads
-returns-in_ok-store_in_place-in-Absent-clause-reads g c =
-    fetches_behind _ _ c.in_ok-spot.ensures.reads (ap (λ (p : Parts). p.tally.fetches) c.in_ok-store_in_place-in-Absent.ensures.parts) c.in_ok-store_in_place-in-Absent.ensures.call.reads
-
-pub returns-in-Full-clause-reads : goal.returns-in-Full-clause-reads
-returns-in-Full-clause-reads g c = fetches_behind _ _ c.in_ok-spot.ensures.reads (ap (λ (p : Parts). p.tally.fetches) c.write_full.ensures.parts) refl
-
-pub returns-in-Full-clause-looked : goal.returns-in-Full-clause-looked
-returns-in-Full-clause-looked g c = λ quiet. looked_ok (c.in_ok-spot.ensures.looked quiet)
-
-pub returns-in-Mini-clause-reads : goal.returns-in-Mini-clause-reads
-returns-in-Mini-clause-reads g c = fetches_behind _ _ c.in_ok-spot.ensures.reads (ap (λ (p : Parts). p.tally.fetches) c.write_mini.ensures.parts) refl
-
-pub returns-in-Mini-clause-looked : goal.returns-in-Mini-clause-looked
-returns-in-Mini-clause-looked g c = λ quiet. looked_ok (c.in_ok-spot.ensures.looked quiet)

@@ -1,0 +1,11 @@
+pub mod PutLaws
+pub mod EmptyLaws
+pub mod CauseLaws
+pub mod ReadingLaws
+pub mod EntryLaws
+pub mod HeadLaws
+pub mod RunLaws
+pub mod GroupLaws
+pub mod TakeLaws
+pub mod ReopenLaws
+pub mod TableLaws
