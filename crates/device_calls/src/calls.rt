@@ -66,17 +66,6 @@ pub fn put_word<D: Devices>(dev: &mut D, line: u64, word: usize, value: u64) -> 
     fence(dev)
 }
 
-/// Writes the 4,096 bytes of a block, durable: a write, a sync.
-pub fn put_block<D: Devices>(dev: &mut D, block: u64, from: &PageBuf) -> Result<(), Stop>
-    requires { block < (D.standing dev.old).blocks }
-    ensures made { Made (write_block block from.now ∷ sync ∷ [])
-        (D.standing dev.old) (D.standing dev.new) result }
-    ensures stops { StopsWith Ssd result }
-{
-    write_block(dev, block, from)?;
-    sync(dev)
-}
-
 /// Makes durable what was flushed.
 pub fn fence<D: Devices>(dev: &mut D) -> Result<(), Stop>
     ensures made { Made (fence ∷ []) (D.standing dev.old) (D.standing dev.new) result }

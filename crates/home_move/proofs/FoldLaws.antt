@@ -3,7 +3,6 @@
 use Rattle.std.proofs.Common.{◌≡◌, ℕ, zero, suc, ◌+◌, ◌<◌, Bool, true, false, ◌&&◌, ◌||◌, List, [], ◌∷◌, ◌++◌, length, take, refl, sym, ap, ◌∙◌, subst, arith, if◌then◌else◌, eqb, inl, inr, Option, Result, Ok, IsTrue}
 use Rattle.std.proofs.Math.Seq.{take-suc}
 use Rattle.std.proofs.lemmas.Bool.{cases_Bool, eq-eqb, eqb-true, and_parts}
-use Rattle.nvm_model.specs.declared.line.Line.{Line}
 use Rattle.devices.specs.State.{State, current, fenced, after_all}
 use Rattle.devices.specs.World.{Standing, now}
 use Rattle.line_pages.specs.declared.stop.Stop.{Stop}
@@ -15,10 +14,9 @@ use Rattle.store_model.specs.Log.{Words, Change, Group, Log, is_logged, names, n
 use Rattle.store_model.specs.Format.{Format}
 use Rattle.store_model.specs.Format.Format.{whole_lines, named_words, with_cuts}
 use Rattle.store_model.specs.Recovered.{super_of, replay}
-use Rattle.store_model.specs.StoreFacts.{IsWord}
 use Rattle.log_laws.proofs.StartLaws.{start_calls}
 use Rattle.home_laws.proofs.LogLaws.{kept_other}
-use Rattle.home_move.specs.Homes.{Aim, Keeps, KeepsBut, Homes, IsKeptIn, CanWrite, CanReplay, NamesWholeLine, KnowsLogged, IsRecovered, aim_with, over, only_pair, log_in}
+use Rattle.home_move.specs.Homes.{Aim, Keeps, KeepsBut, Homes, IsKeptIn, CanWrite, CanReplay, NamesWholeLine, IsRecovered, aim_with, over, only_pair, log_in}
 use Rattle.home_move.specs.Fold.{ReplayStep, steps_forward, steps_back, steps_if, then_if, steps_group, steps_groups, steps_of, no_step, nth_step, stepped, stepped_known, after_steps, AreAllSteps, IsReplayed}
 use Rattle.home_move.proofs.HomeLaws.{homes_keep}
 use Rattle.home_move.proofs.ReplayLaws.{replay_write, replay_recovers, fold_step, whole_names}
@@ -213,7 +211,7 @@ pub replay_more : {T U : Type 0} {v : U} {a b c : Standing} {r : Result T Stop} 
     → (IsTrue b.told → (aim : Aim) (s : State) → ReadsAs s (now b) → Of aim → Homes g passing (after_steps done aim) s → CanReplay g x.change.page x.change.line at aim)
     → Leads {T = U} Keeps (Given Of (Homes g first)) (λ (aim : Aim). Homes g passing (after_steps done aim)) a b (Ok v)
     → Leads (KeepsBut (only_pair x.change.page x.change.line)) (Given (CanWrite g x.change.page x.change.line at x.value) (Homes g passing))
-        (λ (aim : Aim). Homes g new (aim_with x.change.page x.change.line x.value aim)) b c r
+    (λ (aim : Aim). Homes g new (aim_with x.change.page x.change.line x.value aim)) b c r
     → Leads Keeps (Given Of (Homes g first)) (λ (aim : Aim). Homes g new (after_steps (done ++ x ∷ []) aim)) a c r
 replay_more g first passing new at done x Of whole can before write =
     leads_map longer
@@ -232,7 +230,7 @@ pub replay_step : {T U : Type 0} {v : U} {a b c : Standing} {r : Result T Stop} 
     → (IsTrue b.told → (aim : Aim) (s : State) → ReadsAs s (now b) → Of aim → Homes g passing (after_steps (take k steps) aim) s → CanReplay g x.change.page x.change.line at aim)
     → Leads {T = U} Keeps (Given Of (Homes g first)) (λ (aim : Aim). Homes g passing (after_steps (take k steps) aim)) a b (Ok v)
     → Leads (KeepsBut (only_pair x.change.page x.change.line)) (Given (CanWrite g x.change.page x.change.line at x.value) (Homes g passing))
-        (λ (aim : Aim). Homes g new (aim_with x.change.page x.change.line x.value aim)) b c r
+    (λ (aim : Aim). Homes g new (aim_with x.change.page x.change.line x.value aim)) b c r
     → Leads Keeps (Given Of (Homes g first)) (λ (aim : Aim). Homes g new (after_steps (take (k + 1) steps) aim)) a c r
 replay_step g first passing new at steps k x Of less same whole can before write =
     leads_map (λ aim s homes. subst (λ (xs : List ReplayStep). Homes g new (after_steps xs aim) s) (sym taken) homes)

@@ -96,8 +96,10 @@ nth_whole (x ∷ xs) h zero less = h.0
 nth_whole (x ∷ xs) h (suc k) less = nth_whole xs h.1 k (omega arith)
 
 log_whole : (log : Log) → WholeLog log → AreWhole (steps_of whole_lines log)
-log_whole log is = record { each = λ k less. whole_mask _ (nth_whole (steps_of whole_lines log) (whole_append (steps_groups whole_lines log.closed) (steps_group whole_lines (last_group log))
-    (groups_whole log.closed is.closed) (back_whole (changes log.open_items) is.open_items)) k less) }
+log_whole log is = record {
+  each = λ k less. whole_mask _ (nth_whole (steps_of whole_lines log) (whole_append (steps_groups whole_lines log.closed) (steps_group whole_lines (last_group log))
+      (groups_whole log.closed is.closed) (back_whole (changes log.open_items) is.open_items)) k less);
+}
 
 -- In the format of whole lines each step of a log writes a whole line.
 pub whole_steps : (lines : List Line) → AreWhole (steps_of whole_lines (grouped no_log (entries whole_lines 0 lines)))

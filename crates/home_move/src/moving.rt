@@ -10,7 +10,7 @@ ghost use Rattle.home_move.specs.Frames.{page_lines};
 ghost use Rattle.home_move.specs.Moves.{Releases, InstallKeeps, ReleaseKeeps, ClearKeeps};
 
 use crate::frames::{fill_frame, read_frame};
-use device_calls::{fence, put_block, put_word};
+use device_calls::{fence, put_word, sync, write_block};
 use devices::Devices;
 use line_pages::Stop;
 use nvm_layout::Geometry;
@@ -59,11 +59,10 @@ pub fn release<D: Devices>(
     ensures clears { write ≡ false → ClearKeeps (sizes_of geometry.now) frame page
         (D.standing dev.old) (D.standing dev.new) result }
 {
-    if write {
-        release_written(dev, geometry, frame, page)
-    } else {
-        put_entry(dev, geometry, frame, 0)
+    if !write {
+        return put_entry(dev, geometry, frame, 0);
     }
+    release_written(dev, geometry, frame, page)
 }
 
 /// The same with a write.
@@ -82,7 +81,8 @@ fn release_written<D: Devices>(
 {
     let mut bytes = PageBuf::zero();
     read_frame(dev, geometry, frame, &mut bytes)?;
-    put_block(dev, geometry.page_block(page), &bytes)?;
+    write_block(dev, geometry.page_block(page), &bytes)?;
+    sync(dev)?;
     put_entry(dev, geometry, frame, 0)
 }
 

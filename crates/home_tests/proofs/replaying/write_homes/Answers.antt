@@ -35,8 +35,7 @@ returns-in_err-write_home-clause-call g c =
 pub loop-at-preserved : goal.loop-at-preserved
 loop-at-preserved g c =
     let lines = c.args.lines.now in
-    let k = c.loop-at.at in
-    (
+    let k = c.loop-at.at in (
       replay_step (sizes_of c.args.geometry.now) c.args.passage.now.page c.loop-at.passage.page c.write_home.new.passage.page (nth lines k).home (as_steps lines) k (as_step (nth lines k))
           (CanReplayAll (sizes_of c.args.geometry.now) lines) (below lines k c.loop-at-test.true) (steps_nth lines k c.loop-at-test.true) (whole_mask (as_step (nth lines k)).change refl)
           (λ told aim s reads can homes. can.each k c.loop-at-test.true) c.loop-at.invariant.0 c.in_ok-write_home.ensures.call,
