@@ -82,6 +82,7 @@ where
         SSD_BLOCKS
     }
 
+    #[inline(always)]
     fn load(&mut self, line: u64) -> Result<Line, Failed>
         requires { line < (standing_of self.old.counts).lines }
         ensures goes { Goes (standing_of self.old.counts) (standing_of self.new.counts) }

@@ -27,11 +27,13 @@ impl LineCache {
     }
 
     /// The line, where it is kept.
-    pub fn get(&self, line: u64) -> Option<Line>
-        ensures { MatchOption result ((value : Line) → IsCached self.now line value → ⊥) (λ value. IsCached self.now line value) }
+    #[inline(always)]
+    pub fn get(&self, line: u64) -> Option<&Line>
+        ensures { MatchOption result ((value : Line) → IsCached self.now line value → ⊥)
+            (λ value. IsCached self.now line value.now) }
     {
         match &self.slots[slot_of(line)] {
-            Some(known) if known.line == line => Some(known.value),
+            Some(known) if known.line == line => Some(&known.value),
             _ => None,
         }
     }
