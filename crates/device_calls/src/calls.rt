@@ -45,8 +45,9 @@ pub fn read_block<D: Devices>(dev: &mut D, block: u64, into: &mut PageBuf) -> Re
 /// Stores a line of eight words and flushes it; the next fence makes it durable.
 pub fn put_line<D: Devices>(dev: &mut D, line: u64, value: &Line) -> Result<(), Stop>
     requires { line < (D.standing dev.old).lines }
-    ensures { Made (store_line line value.now ∷ flush line ∷ [])
+    ensures made { Made (store_line line value.now ∷ flush line ∷ [])
         (D.standing dev.old) (D.standing dev.new) result }
+    ensures stops { StopsWith Nvm result }
 {
     store_line(dev, line, value)?;
     flush(dev, line)
@@ -56,27 +57,19 @@ pub fn put_line<D: Devices>(dev: &mut D, line: u64, value: &Line) -> Result<(), 
 pub fn put_word<D: Devices>(dev: &mut D, line: u64, word: usize, value: u64) -> Result<(), Stop>
     requires line { line < (D.standing dev.old).lines }
     requires word { word < 8 }
-    ensures { Made (store_word line word value ∷ flush line ∷ fence ∷ [])
+    ensures made { Made (store_word line word value ∷ flush line ∷ fence ∷ [])
         (D.standing dev.old) (D.standing dev.new) result }
+    ensures stops { StopsWith Nvm result }
 {
     store_word(dev, line, word, value)?;
     flush(dev, line)?;
     fence(dev)
 }
 
-/// Writes the 4,096 bytes of a block, durable: a write, a sync.
-pub fn put_block<D: Devices>(dev: &mut D, block: u64, from: &PageBuf) -> Result<(), Stop>
-    requires { block < (D.standing dev.old).blocks }
-    ensures { Made (write_block block from.now ∷ sync ∷ [])
-        (D.standing dev.old) (D.standing dev.new) result }
-{
-    write_block(dev, block, from)?;
-    sync(dev)
-}
-
 /// Makes durable what was flushed.
 pub fn fence<D: Devices>(dev: &mut D) -> Result<(), Stop>
-    ensures { Made (fence ∷ []) (D.standing dev.old) (D.standing dev.new) result }
+    ensures made { Made (fence ∷ []) (D.standing dev.old) (D.standing dev.new) result }
+    ensures stops { StopsWith Nvm result }
 {
     match dev.fence() {
         Ok(()) => Ok(()),
@@ -87,7 +80,9 @@ pub fn fence<D: Devices>(dev: &mut D) -> Result<(), Stop>
 /// Writes the 4,096 bytes of a block; the next sync settles it. After a `Stop` the block holds any bytes.
 pub fn write_block<D: Devices>(dev: &mut D, block: u64, from: &PageBuf) -> Result<(), Stop>
     requires { block < (D.standing dev.old).blocks }
-    ensures { Made (write_block block from.now ∷ []) (D.standing dev.old) (D.standing dev.new) result }
+    ensures made { Made (write_block block from.now ∷ [])
+        (D.standing dev.old) (D.standing dev.new) result }
+    ensures stops { StopsWith Ssd result }
 {
     match dev.write_block(block, from) {
         Ok(()) => Ok(()),
@@ -97,7 +92,8 @@ pub fn write_block<D: Devices>(dev: &mut D, block: u64, from: &PageBuf) -> Resul
 
 /// Settles all blocks.
 pub fn sync<D: Devices>(dev: &mut D) -> Result<(), Stop>
-    ensures { Made (sync ∷ []) (D.standing dev.old) (D.standing dev.new) result }
+    ensures made { Made (sync ∷ []) (D.standing dev.old) (D.standing dev.new) result }
+    ensures stops { StopsWith Ssd result }
 {
     match dev.sync() {
         Ok(()) => Ok(()),
@@ -108,7 +104,9 @@ pub fn sync<D: Devices>(dev: &mut D) -> Result<(), Stop>
 /// Stores a line of eight words.
 fn store_line<D: Devices>(dev: &mut D, line: u64, value: &Line) -> Result<(), Stop>
     requires { line < (D.standing dev.old).lines }
-    ensures { Made (store_line line value.now ∷ []) (D.standing dev.old) (D.standing dev.new) result }
+    ensures made { Made (store_line line value.now ∷ [])
+        (D.standing dev.old) (D.standing dev.new) result }
+    ensures stops { StopsWith Nvm result }
 {
     match dev.store_line(line, value) {
         Ok(()) => Ok(()),
@@ -120,7 +118,9 @@ fn store_line<D: Devices>(dev: &mut D, line: u64, value: &Line) -> Result<(), St
 fn store_word<D: Devices>(dev: &mut D, line: u64, word: usize, value: u64) -> Result<(), Stop>
     requires line { line < (D.standing dev.old).lines }
     requires word { word < 8 }
-    ensures { Made (store_word line word value ∷ []) (D.standing dev.old) (D.standing dev.new) result }
+    ensures made { Made (store_word line word value ∷ [])
+        (D.standing dev.old) (D.standing dev.new) result }
+    ensures stops { StopsWith Nvm result }
 {
     match dev.store_word(line, word, value) {
         Ok(()) => Ok(()),
@@ -131,7 +131,8 @@ fn store_word<D: Devices>(dev: &mut D, line: u64, word: usize, value: u64) -> Re
 /// Flushes a line.
 fn flush<D: Devices>(dev: &mut D, line: u64) -> Result<(), Stop>
     requires { line < (D.standing dev.old).lines }
-    ensures { Made (flush line ∷ []) (D.standing dev.old) (D.standing dev.new) result }
+    ensures made { Made (flush line ∷ []) (D.standing dev.old) (D.standing dev.new) result }
+    ensures stops { StopsWith Nvm result }
 {
     match dev.flush(line) {
         Ok(()) => Ok(()),

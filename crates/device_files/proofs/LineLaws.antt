@@ -1,7 +1,7 @@
 -- What is remembered of a line.
-use Rattle.std.proofs.Common.{◌≡◌, ◌≢◌, ℕ, ◌+◌, ◌<◌, ◌≤◌, List, length, get_or, set, take, Option, Some, None, sym, ap, ◌∙◌, subst, inl, inr, ◌⊎◌, arith, Bor}
+use Rattle.std.proofs.Common.{◌≡◌, ◌≢◌, ℕ, ◌+◌, ◌<◌, ◌≤◌, List, length, get_or, set, take, Option, Some, None, sym, ap, ◌∙◌, subst, inl, inr, ◌⊎◌, arith}
 use Rattle.std.specs.Prelude.{replicate, MatchOption}
-use Rattle.std.specs.Option.{option_map, option_copied}
+use Rattle.std.specs.Option.{option_map}
 use Rattle.std.proofs.lemmas.List.{get_or-replicate, get_or-set_same, get_or-set_other, get_or-take, length-take-le}
 use Rattle.std.proofs.lemmas.Bool.{cases_eq}
 use Rattle.device_files.proofs.PositionLaws.{one_way}
@@ -66,11 +66,9 @@ no_more_put line gathered new_gathered cache new_cache fewer fewer_cached =
     record { each = λ other value ne h. elim h [ inl hg ↦ inl (fewer other value ne hg) | inr hc ↦ inr (fewer_cached other value ne hc) ] }
 
 -- of a line that is not found nothing is known
-pub unknown_by : (gathered : Gathered) (cache : LineCache) (line : ℕ) (result : Option (Bor Line))
-    → ((value : Line) → Recalls gathered cache line value → option_copied result ≡ Some value) → result ≡ None → IsUnknown gathered cache line
-unknown_by gathered cache line result known none value h =
-    let both : Some value ≡ None = sym (known value h) ∙ ap (λ (o : Option (Bor Line)). option_copied o) none in
-    cc
+pub unknown_by : (gathered : Gathered) (cache : LineCache) (line : ℕ) (result : Option Line)
+    → ((value : Line) → Recalls gathered cache line value → result ≡ Some value) → result ≡ None → IsUnknown gathered cache line
+unknown_by gathered cache line result known none value h = let both : Some value ≡ None = sym (known value h) ∙ none in cc
 
 -- a line of which nothing was known is kept
 pub agree_learn : (line : ℕ) (gathered : Gathered) (cache new_cache : LineCache) → Agree gathered cache → IsUnknown gathered cache line
@@ -198,11 +196,11 @@ recall_cached gathered cache line kept value agree has h = elim h [
 ]
 
 -- one that is not kept is recalled where it is gathered
-pub recall_gathered : (gathered : Gathered) (cache : LineCache) (line : ℕ) (result : Option (Bor Line)) (value : Line) → AreDistinct gathered.count gathered.lines
-    → MatchOption result ((v : Line) → IsGathered gathered line v → ⊥) (λ v. IsGathered gathered line v.now)
-    → ((v : Line) → IsCached cache line v → ⊥) → Recalls gathered cache line value → option_copied result ≡ Some value
+pub recall_gathered : (gathered : Gathered) (cache : LineCache) (line : ℕ) (result : Option Line) (value : Line) → AreDistinct gathered.count gathered.lines
+    → MatchOption result ((v : Line) → IsGathered gathered line v → ⊥) (λ v. IsGathered gathered line v)
+    → ((v : Line) → IsCached cache line v → ⊥) → Recalls gathered cache line value → result ≡ Some value
 recall_gathered gathered cache line None value distinct answer none h = elim h [ inl hg ↦ absurd (answer value hg) | inr hc ↦ absurd (none value hc) ]
 recall_gathered gathered cache line (Some v) value distinct answer none h = elim h [
-  | inl hg ↦ ap (λ (u : Line). Some u) (gathered_once gathered line v.now value distinct answer hg)
+  | inl hg ↦ ap (λ (u : Line). Some u) (gathered_once gathered line v value distinct answer hg)
   | inr hc ↦ absurd (none value hc)
 ]

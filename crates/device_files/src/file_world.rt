@@ -82,7 +82,6 @@ where
         SSD_BLOCKS
     }
 
-    #[inline(always)]
     fn load(&mut self, line: u64) -> Result<Line, Failed>
         requires { line < (standing_of self.old.counts).lines }
         ensures goes { Goes (standing_of self.old.counts) (standing_of self.new.counts) }

@@ -39,12 +39,11 @@ impl Gathered {
     }
 
     /// The line, where it is gathered.
-    pub fn get(&self, line: u64) -> Option<&Line>
-        ensures { MatchOption result ((value : Line) → IsGathered self.now line value → ⊥)
-            (λ value. IsGathered self.now line value.now) }
+    pub fn get(&self, line: u64) -> Option<Line>
+        ensures { MatchOption result ((value : Line) → IsGathered self.now line value → ⊥) (λ value. IsGathered self.now line value) }
     {
         match self.place_of(line) {
-            Some(at) => Some(&self.lines[at].value),
+            Some(at) => Some(self.lines[at].value),
             None => None,
         }
     }

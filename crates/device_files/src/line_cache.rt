@@ -27,13 +27,11 @@ impl LineCache {
     }
 
     /// The line, where it is kept.
-    #[inline(always)]
-    pub fn get(&self, line: u64) -> Option<&Line>
-        ensures { MatchOption result ((value : Line) → IsCached self.now line value → ⊥)
-            (λ value. IsCached self.now line value.now) }
+    pub fn get(&self, line: u64) -> Option<Line>
+        ensures { MatchOption result ((value : Line) → IsCached self.now line value → ⊥) (λ value. IsCached self.now line value) }
     {
         match &self.slots[slot_of(line)] {
-            Some(known) if known.line == line => Some(&known.value),
+            Some(known) if known.line == line => Some(known.value),
             _ => None,
         }
     }

@@ -1,5 +1,5 @@
 //! What is remembered of the lines of the NVM.
-ghost use Rattle.std.specs.Prelude.{◌≡◌, ◌≢◌, ◌<◌, ◌%◌, ℕ, IfSome, IsTrue, Some, false, option_copied};
+ghost use Rattle.std.specs.Prelude.{◌≡◌, ◌≢◌, ◌<◌, ◌%◌, ℕ, IfSome, IsTrue, Some, false};
 ghost use Rattle.nvm_model.specs.declared.line.Line.{Line};
 ghost use Rattle.device_files.specs.FileWorld.{told_lines};
 ghost use Rattle.device_files.specs.Gathered.{IsGathered, IsEmpty};
@@ -29,12 +29,9 @@ impl LineMemory {
     }
 
     /// The line, where it is remembered.
-    #[inline(always)]
-    pub fn get(&self, line: u64) -> Option<&Line>
-        ensures known { (value : Line) → Recalls self.now.gathered self.now.cache line value
-            → option_copied result ≡ Some value }
-        ensures found { IfSome result
-            (λ value. Recalls self.now.gathered self.now.cache line value.now) }
+    pub fn get(&self, line: u64) -> Option<Line>
+        ensures known { (value : Line) → Recalls self.now.gathered self.now.cache line value → result ≡ Some value }
+        ensures found { IfSome result (λ value. Recalls self.now.gathered self.now.cache line value) }
     {
         match self.cache.get(line) {
             Some(value) => Some(value),

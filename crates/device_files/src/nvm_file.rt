@@ -46,7 +46,6 @@ where
     }
 
     /// The line as it was stored last.
-    #[inline(always)]
     pub fn load(&mut self, line: u64) -> io::Result<Line>
         requires { line < told_lines }
         ensures known { (value : Line) → Recalls self.old.memory.gathered self.old.memory.cache line value → result ≡ Ok value }
@@ -54,13 +53,12 @@ where
         ensures unchanged { OnErr result (self.new.memory ≡ self.old.memory) }
     {
         match self.memory.get(line) {
-            Some(known) => Ok(*known),
+            Some(known) => Ok(known),
             None => self.load_unknown(line),
         }
     }
 
     /// Reads a line of which nothing is remembered with those beside it, and keeps them.
-    #[inline(never)]
     fn load_unknown(&mut self, line: u64) -> io::Result<Line>
         requires line { line < told_lines }
         requires unknown { IsUnknown self.old.memory.gathered self.old.memory.cache line }

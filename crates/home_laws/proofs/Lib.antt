@@ -10,6 +10,7 @@ pub mod TableLaws
 pub mod SeenLaws
 pub mod GateLaws
 pub mod QuietLaws
+pub mod SteadyLaws
 pub mod UntouchedLaws
 pub mod BlockLaws
 pub mod Examples

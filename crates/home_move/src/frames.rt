@@ -32,7 +32,8 @@ pub fn load_line<D: Devices>(
     ensures stops { StopsWith Nvm result }
     ensures reads { (D.standing dev.new).block_reads ≡ (D.standing dev.old).block_reads }
     ensures value { IsTrue (D.standing dev.old).told → IfOk result (λ found.
-        found ≡ line_at (now (D.standing dev.old)) (frame_line (sizes_of geometry.now) frame line)) }
+        let place = frame_line (sizes_of geometry.now) frame line in
+        found ≡ line_at (now (D.standing dev.old)) place) }
 {
     load(dev, geometry.frame_line(frame, line))
 }
@@ -50,6 +51,7 @@ pub fn store_line<D: Devices>(
     requires line { line < 64 }
     ensures made { Made (store_calls (sizes_of geometry.now) frame line value.now)
         (D.standing dev.old) (D.standing dev.new) result }
+    ensures stops { StopsWith Nvm result }
     ensures keeps { (page : ℕ) → StoreKeeps (sizes_of geometry.now) frame page line value.now
         (D.standing dev.old) (D.standing dev.new) result }
 {
@@ -68,8 +70,8 @@ pub fn read_frame<D: Devices>(
     ensures looked { Looked (D.standing dev.old) (D.standing dev.new) result }
     ensures stops { StopsWith Nvm result }
     ensures reads { (D.standing dev.new).block_reads ≡ (D.standing dev.old).block_reads }
-    ensures value { IsTrue (D.standing dev.old).told
-        → OnOk result (HoldsFrame (sizes_of geometry.now) frame into.new (now (D.standing dev.old))) }
+    ensures value { IsTrue (D.standing dev.old).told → OnOk result
+        (HoldsFrame (sizes_of geometry.now) frame into.new (now (D.standing dev.old))) }
 {
     for line in 0..64usize {
         let found = load_line(dev, geometry, frame, line)?;
@@ -91,7 +93,8 @@ pub fn read_home_block<D: Devices>(
     ensures stops { StopsWith Ssd result }
     ensures reads { Counts (D.standing dev.old) (D.standing dev.new) }
     ensures value { IsTrue (D.standing dev.old).told → OnOk result
-        (into.new ≡ ((now (D.standing dev.old)).ssd (page_block (sizes_of geometry.now) page)).bytes) }
+        (let block = page_block (sizes_of geometry.now) page in
+        into.new ≡ ((now (D.standing dev.old)).ssd block).bytes) }
 {
     read_block(dev, geometry.page_block(page), into)
 }
@@ -105,8 +108,9 @@ pub(crate) fn fill_frame<D: Devices>(
 ) -> Result<(), Stop>
     requires fits { nvm_lines (sizes_of geometry.now) ≤ (D.standing dev.old).lines }
     requires frame { frame ≤ geometry.now.frames }
-    ensures { Made (frame_calls (sizes_of geometry.now) frame 0 (page_lines lines.now))
+    ensures made { Made (frame_calls (sizes_of geometry.now) frame 0 (page_lines lines.now))
         (D.standing dev.old) (D.standing dev.new) result }
+    ensures stops { StopsWith Nvm result }
 {
     for line in 0..64usize {
         store_line(dev, geometry, frame, line, &page_line(lines, line))?;

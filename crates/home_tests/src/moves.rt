@@ -1,7 +1,7 @@
 //! Installs, releases and installs elsewhere, stopped after each event, with each choice of what a crash leaves.
 use crate::worlds::{
-    CHOICES, Ended, again, filled, fits, give_up, left, logged, page_of, put, same_lines, small,
-    start, store,
+    CHOICES, Ended, PAIRS, again, filled, fits, give_up, left, logged, page_of, put, same_lines,
+    small, start, store,
 };
 use devices::{Devices, Fault, FaultKind, MemWorld};
 use home_move::{install, release};
@@ -31,33 +31,13 @@ fn stays(
     page: &PageBuf,
 ) -> Result<(), Fail> {
     for at in events.0..=events.1 {
-        for words in [Choice::Oldest, Choice::Newest, Choice::Alternating] {
-            stays_at(rt, alloc, world, at, words, page)?;
+        for (words, blocks) in CHOICES {
+            let mut after = left(alloc, world, at, words, blocks)?;
+            let third = page_of(&mut after, 3)?;
+            let fourth = page_of(&mut after, 4)?;
+            assert!(rt; same_lines(&third, page), "page 3 at {at}");
+            assert!(rt; same_lines(&fourth, &filled(4)), "page 4 at {at}");
         }
-    }
-    Ok(())
-}
-
-fn stays_at(
-    rt: &impl Abort,
-    alloc: Global,
-    world: &MemWorld,
-    at: u64,
-    words: Choice,
-    page: &PageBuf,
-) -> Result<(), Fail> {
-    let choices = [
-        BlockChoice::Settled,
-        BlockChoice::Current,
-        BlockChoice::Alternating,
-        BlockChoice::Fill(0xA5),
-    ];
-    for blocks in choices {
-        let mut after = left(alloc, world, at, words, blocks)?;
-        let third = page_of(&mut after, 3)?;
-        let fourth = page_of(&mut after, 4)?;
-        assert!(rt; same_lines(&third, page), "page 3 at {at}");
-        assert!(rt; same_lines(&fourth, &filled(4)), "page 4 at {at}");
     }
     Ok(())
 }
@@ -111,7 +91,7 @@ fn moved_under_a_log(rt: &impl Abort, alloc: Global, ended: Ended) -> Result<(),
     world.fence()?;
     give_up(&mut world, 1, 3, true)?;
     for at in 0..=world.events() {
-        for (words, blocks) in CHOICES {
+        for (words, blocks) in PAIRS {
             let mut after = left(alloc, &world, at, words, blocks)?;
             assert!(rt;
                 same_lines(&page_of(&mut after, 3)?, &recovered),

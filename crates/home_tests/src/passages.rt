@@ -4,9 +4,9 @@ ghost use Rattle.nvm_layout.specs.Sizes.{sizes_of};
 ghost use Rattle.home_tests.specs.Replay.{IsInStore, AreInStore};
 
 use crate::replaying::{HomeLine, write_homes};
+use crate::tables::entries;
 use crate::worlds::{
-    AFTER, CHOICES, Ended, entry, filled, fits, left, logged, page_of, put, same_lines, small,
-    start,
+    AFTER, Ended, PAIRS, entry, filled, fits, left, logged, page_of, put, same_lines, small, start,
 };
 use devices::{Devices, MemWorld};
 use home_move::{Passage, end_passage, write_home};
@@ -210,12 +210,12 @@ fn lines_of_one_page_make_one_write(rt: HostRuntime) -> Result<(), Fail> {
     Ok(())
 }
 
-/// Ends the passage that an opening finds, by the entry of the last frame.
-fn end_left(rt: &impl Abort, world: &mut MemWorld) -> Result<(), Fail> {
-    let found = entry(world, &small(), 2)?;
-    let mut passage = Passage::left_by(found);
+/// Reads the table, which passes its checks, and ends the passage that was left, by the entry of the last frame.
+fn end_left(rt: &impl Abort, alloc: Global, world: &mut MemWorld) -> Result<(), Fail> {
+    let [first, second, last] = entries(alloc, world)?;
+    let mut passage = Passage::left_by(last);
     end(world, &mut passage)?;
-    assert!(rt; entry(world, &small(), 2)? == 0);
+    assert!(rt; entries(alloc, world)? == [first, second, 0]);
     Ok(())
 }
 
@@ -233,7 +233,7 @@ fn reopened(
         same_lines(&page_of(&mut after, 4)?, fourth),
         "page 4 at {at}"
     );
-    end_left(rt, &mut after)?;
+    end_left(rt, alloc, &mut after)?;
     assert!(rt;
         same_lines(&page_of(&mut after, 4)?, fourth),
         "page 4 opened at {at}"
@@ -255,7 +255,7 @@ fn passed_under_a_log(rt: &impl Abort, alloc: Global, ended: Ended) -> Result<()
     write(&mut world, &mut passage, None, 5, 1, &same)?;
     end(&mut world, &mut passage)?;
     for at in 0..=world.events() {
-        for choice in CHOICES {
+        for choice in PAIRS {
             reopened(rt, alloc, &world, at, choice, &fourth)?;
         }
     }

@@ -9,5 +9,6 @@ pub mod KeptPlaceFacts
 pub mod KeptRecordFacts
 pub mod ChangeFacts
 pub mod OpenFacts
+pub mod EmptyFacts
 pub mod StepFacts
 pub mod UpdateExample

@@ -8,3 +8,4 @@ pub mod ShownLaws
 pub mod Example
 pub mod CallLaws
 pub mod CurrentLaws
+pub mod OpenLaws

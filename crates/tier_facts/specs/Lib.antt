@@ -2,3 +2,4 @@ pub mod Data
 pub mod Facts
 pub mod Shown
 pub mod Reads
+pub mod Opening

@@ -14,3 +14,7 @@ mod KeptMini
 mod ReadyLaws
 mod TouchedLaws
 mod WroteLaws
+mod TellingLaws
+mod RuleLaws
+mod ReadsLaws
+mod TouchCalls

@@ -6,3 +6,5 @@ pub mod Quiet
 pub mod Cleaning
 pub mod Entering
 pub mod Touching
+pub mod Rules
+pub mod Calls

@@ -1,6 +1,6 @@
 mod CopyLaws
 pub mod RangeLaws
-mod CallLaws
+pub mod CallLaws
 mod ClockLaws
 pub mod NvmRoomLaws
 pub mod FullRoomLaws
@@ -25,3 +25,4 @@ pub mod SteadySteps
 pub mod SteadyRooms
 pub mod SteadyLaws
 pub mod SteadyOpening
+pub mod MadeData

@@ -5,10 +5,9 @@ ghost use Rattle.device_calls.specs.Leads.{Looked};
 ghost use Rattle.store_model.specs.Layout.{pages, page_block};
 ghost use Rattle.nvm_layout.specs.Sizes.{sizes_of};
 ghost use Rattle.clock_sweep.specs.Clock.{lowest_empty, victim};
-ghost use Rattle.tier_rules.specs.Sound.{Clocked};
 ghost use Rattle.tier_pool.specs.Fields.{parts_of, SameSizes};
 ghost use Rattle.tier_pool.specs.Bringing.{full_placed, mini_placed, block_fetched, place_filled, placed_at, copied_to, BroughtTo, Brought, dram_room, IsFree, fetched_to_frame, fetched_to_nvm, brought_through, FetchedInto, mini_given_up, mini_left, mini_swept, mini_swept_left, mini_room};
-ghost use Rattle.tier_pool.specs.Standing.{IsStanding, IsBare, IsSteady};
+ghost use Rattle.tier_pool.specs.Standing.{FramesStand, FullsStand, IsStanding, IsBare, IsSteady};
 ghost use Rattle.tier_pool.specs.Places.{IsPlace};
 ghost use Rattle.tier_pool.specs.FullRoom.{full_room};
 ghost use Rattle.tier_pool.specs.Calls.{Fits, Calls, Stores, FetchesCounted};
@@ -36,7 +35,8 @@ impl TierPool {
         ensures leads { (parts_of self.old).map.nvm page ≡ None
             → IsBare (parts_of self.old) (Place.Full full)
             → LeadsFacts self.old self.new (D.standing dev.old) (D.standing dev.new) result }
-        ensures parts { OnOk result (FetchedInto page full (parts_of self.old) (parts_of self.new)) }
+        ensures parts { OnOk result (
+            FetchedInto page full (parts_of self.old) (parts_of self.new)) }
         ensures reads { OnOk result (let parts = parts_of self.old in
             FetchesCounted parts (parts_of self.new) (D.standing dev.old) (D.standing dev.new)) }
         ensures same { SameSizes self.old self.new }
@@ -53,7 +53,8 @@ impl TierPool {
         requires full { full < self.old.policy.dram_frames }
         requires absent { (parts_of self.old).map.place page ≡ Place.Absent }
         requires free { (parts_of self.old).map.full_page full ≡ None }
-        ensures parts { parts_of self.new ≡ full_placed page full (place_filled full lines.now (parts_of self.old)) }
+        ensures parts { parts_of self.new
+            ≡ full_placed page full (place_filled full lines.now (parts_of self.old)) }
         ensures same { SameSizes self.old self.new }
     {
         self.arena.fill(full, lines);
@@ -91,7 +92,8 @@ impl TierPool {
         requires fits { Fits self.old.geometry (D.standing dev.old) }
         requires some { 1 ≤ self.old.policy.minis }
         ensures call { Stores (D.standing dev.old) (D.standing dev.new) result }
-        ensures leads { LeadsHard self.old self.new (D.standing dev.old) (D.standing dev.new) result }
+        ensures leads { LeadsHard self.old self.new
+            (D.standing dev.old) (D.standing dev.new) result }
         ensures room { IfOk result (λ j.
             mini_room (parts_of self.old) ≡ record { place = j; parts = parts_of self.new }) }
         ensures within { IfOk result (λ j. j < self.new.policy.minis) }
@@ -107,11 +109,13 @@ impl TierPool {
     fn evict_mini<D: Devices>(&mut self, dev: &mut D) -> Result<u32, Stop>
         requires fits { Fits self.old.geometry (D.standing dev.old) }
         requires some { 1 ≤ self.old.policy.minis }
-        requires all_stand { lowest_empty self.old.mini_clock ≡ None }
+        requires all_stand { lowest_empty (parts_of self.old).mini_clock ≡ None }
         ensures call { Stores (D.standing dev.old) (D.standing dev.new) result }
-        ensures leads { LeadsHard self.old self.new (D.standing dev.old) (D.standing dev.new) result }
+        ensures leads { LeadsHard self.old self.new
+            (D.standing dev.old) (D.standing dev.new) result }
         ensures room { IfOk result (λ j. let parts = parts_of self.old in
-            mini_swept_left (mini_swept (victim parts.mini_clock) parts) ≡ record { place = j; parts = parts_of self.new }) }
+            mini_swept_left (mini_swept (victim parts.mini_clock) parts)
+            ≡ record { place = j; parts = parts_of self.new }) }
         ensures within { IfOk result (λ j. j < self.new.policy.minis) }
         ensures same { SameSizes self.old self.new }
     {
@@ -123,9 +127,10 @@ impl TierPool {
     /// The victim of the clock of mini places.
     fn sweep_minis(&mut self) -> u32
         requires some { 1 ≤ self.old.policy.minis }
-        requires all_stand { lowest_empty self.old.mini_clock ≡ None }
+        requires all_stand { lowest_empty (parts_of self.old).mini_clock ≡ None }
         ensures swept { let parts = parts_of self.old in
-            mini_swept (victim parts.mini_clock) parts ≡ record { place = result; parts = parts_of self.new } }
+            mini_swept (victim parts.mini_clock) parts
+            ≡ record { place = result; parts = parts_of self.new } }
         ensures within { result < self.new.policy.minis }
         ensures same { SameSizes self.old self.new }
     {
@@ -139,7 +144,8 @@ impl TierPool {
         requires fits { Fits self.old.geometry (D.standing dev.old) }
         requires mini { mini < self.old.policy.minis }
         ensures call { Stores (D.standing dev.old) (D.standing dev.new) result }
-        ensures leads { LeadsHard self.old self.new (D.standing dev.old) (D.standing dev.new) result }
+        ensures leads { LeadsHard self.old self.new
+            (D.standing dev.old) (D.standing dev.new) result }
         ensures parts { OnOk result (let parts = parts_of self.old in
             parts_of self.new ≡ mini_left (parts.map.mini_owner mini) parts) }
         ensures same { SameSizes self.old self.new }
@@ -155,7 +161,8 @@ impl TierPool {
         requires fits { Fits self.old.geometry (D.standing dev.old) }
         requires page { page < pages (sizes_of self.old.geometry) }
         ensures call { Stores (D.standing dev.old) (D.standing dev.new) result }
-        ensures leads { LeadsHard self.old self.new (D.standing dev.old) (D.standing dev.new) result }
+        ensures leads { LeadsHard self.old self.new
+            (D.standing dev.old) (D.standing dev.new) result }
         ensures parts { OnOk result (let parts = parts_of self.old in
             parts_of self.new ≡ mini_given_up (parts.map.nvm page) page parts) }
         ensures same { SameSizes self.old self.new }
@@ -191,7 +198,7 @@ impl TierPool {
         requires fits { Fits self.old.geometry (D.standing dev.old) }
         requires page { page < pages (sizes_of self.old.geometry) }
         requires some { 1 ≤ self.old.geometry.frames }
-        requires clocked { Clocked self.old.nvm_clock (parts_of self.old).map.frame_page }
+        requires clocked { FramesStand (parts_of self.old) }
         requires homeless { (parts_of self.old).map.nvm page ≡ None }
         ensures call { Calls (D.standing dev.old) (D.standing dev.new) result }
         ensures leads { (parts_of self.old).map.place page ≡ Place.Absent
@@ -215,7 +222,8 @@ impl TierPool {
         ensures call { Calls (D.standing dev.old) (D.standing dev.new) result }
         ensures leads { (parts_of self.old).map.place page ≡ Place.Absent
             → LeadsFacts self.old self.new (D.standing dev.old) (D.standing dev.new) result }
-        ensures parts { OnOk result (parts_of self.new ≡ fetched_to_frame page frame (parts_of self.old)) }
+        ensures parts { OnOk result (parts_of self.new
+            ≡ fetched_to_frame page frame (parts_of self.old)) }
         ensures reads { OnOk result (let parts = parts_of self.old in
             FetchesCounted parts (parts_of self.new) (D.standing dev.old) (D.standing dev.new)) }
         ensures same { SameSizes self.old self.new }
@@ -229,13 +237,14 @@ impl TierPool {
     pub fn bring_past<D: Devices>(&mut self, dev: &mut D, page: u64) -> Result<Place, Stop>
         requires fits { Fits self.old.geometry (D.standing dev.old) }
         requires page { page < pages (sizes_of self.old.geometry) }
-        requires frames { Clocked self.old.nvm_clock (parts_of self.old).map.frame_page }
-        requires fulls { Clocked self.old.full_clock (parts_of self.old).map.full_page }
+        requires frames { FramesStand (parts_of self.old) }
+        requires fulls { FullsStand (parts_of self.old) }
         requires absent { (parts_of self.old).map.place page ≡ Place.Absent }
         ensures call { Calls (D.standing dev.old) (D.standing dev.new) result }
         ensures leads { IsSteady (parts_of self.old) → (parts_of self.old).map.nvm page ≡ None
             → LeadsHard self.old self.new (D.standing dev.old) (D.standing dev.new) result }
-        ensures place { IfOk result (λ place. place ≡ Place.Full (full_room (parts_of self.old)).place) }
+        ensures place { IfOk result (λ place. place
+            ≡ Place.Full (full_room (parts_of self.old)).place) }
         ensures parts { OnOk result (let room = full_room (parts_of self.old) in
             FetchedInto page room.place room.parts (parts_of self.new)) }
         ensures reads { OnOk result (let parts = parts_of self.old in
@@ -250,7 +259,7 @@ impl TierPool {
     /// Room for a copy over a frame: a mini place, or a full one where there are no mini places.
     fn room_in_dram<D: Devices>(&mut self, dev: &mut D) -> Result<Place, Stop>
         requires fits { Fits self.old.geometry (D.standing dev.old) }
-        requires frames { Clocked self.old.nvm_clock (parts_of self.old).map.frame_page }
+        requires frames { FramesStand (parts_of self.old) }
         ensures call { Stores (D.standing dev.old) (D.standing dev.new) result }
         ensures leads { AreWhole (parts_of self.old)
             → LeadsHard self.old self.new (D.standing dev.old) (D.standing dev.new) result }
@@ -355,7 +364,8 @@ impl TierPool {
         ensures call { Calls (D.standing dev.old) (D.standing dev.new) result }
         ensures leads { (parts_of self.old).map.nvm page ≡ None → IsBare (parts_of self.old) place
             → LeadsFacts self.old self.new (D.standing dev.old) (D.standing dev.new) result }
-        ensures parts { OnOk result (BroughtTo None page place (parts_of self.old) (parts_of self.new)) }
+        ensures parts { OnOk result (
+            BroughtTo None page place (parts_of self.old) (parts_of self.new)) }
         ensures reads { OnOk result (let parts = parts_of self.old in
             FetchesCounted parts (parts_of self.new) (D.standing dev.old) (D.standing dev.new)) }
         ensures same { SameSizes self.old self.new }

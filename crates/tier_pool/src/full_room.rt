@@ -3,12 +3,12 @@ ghost use Rattle.std.specs.Prelude.{◌≡◌, ◌≢◌, ◌<◌, ◌≤◌, If
 ghost use Rattle.store_model.specs.Layout.{pages};
 ghost use Rattle.nvm_layout.specs.Sizes.{sizes_of};
 ghost use Rattle.clock_sweep.specs.Clock.{lowest_empty, victim};
-ghost use Rattle.tier_rules.specs.Sound.{Clocked};
 ghost use Rattle.tier_pool.specs.Fields.{parts_of, SameSizes};
 ghost use Rattle.tier_pool.specs.FullRoom.{drawn, drawn_if, admitted, moved_down, moved_by, handed_down, full_dirty_at, full_left, full_swept, full_swept_left, full_room};
 ghost use Rattle.tier_pool.specs.NvmRoom.{page_installed};
 ghost use Rattle.tier_pool.specs.Places.{copy_cleaned};
 ghost use Rattle.tier_pool.specs.Calls.{Fits, Stores};
+ghost use Rattle.tier_pool.specs.Standing.{FramesStand};
 ghost use Rattle.tier_pool.specs.Storing.{LeadsHard};
 ghost use Rattle.tier_pool.specs.Handing.{StandsWhole, StandsAt, AreWhole};
 
@@ -25,7 +25,7 @@ impl TierPool {
     /// Room for a full copy: the lowest empty place, or else that of a victim, which is evicted.
     pub fn room_in_full<D: Devices>(&mut self, dev: &mut D) -> Result<u32, Stop>
         requires fits { Fits self.old.geometry (D.standing dev.old) }
-        requires clocked { Clocked self.old.nvm_clock (parts_of self.old).map.frame_page }
+        requires clocked { FramesStand (parts_of self.old) }
         ensures call { Stores (D.standing dev.old) (D.standing dev.new) result }
         ensures leads { AreWhole (parts_of self.old)
             → LeadsHard self.old self.new (D.standing dev.old) (D.standing dev.new) result }
@@ -43,13 +43,14 @@ impl TierPool {
     /// The victim's copy is dropped.
     fn evict_full<D: Devices>(&mut self, dev: &mut D) -> Result<u32, Stop>
         requires fits { Fits self.old.geometry (D.standing dev.old) }
-        requires clocked { Clocked self.old.nvm_clock (parts_of self.old).map.frame_page }
-        requires all_stand { lowest_empty self.old.full_clock ≡ None }
+        requires clocked { FramesStand (parts_of self.old) }
+        requires all_stand { lowest_empty (parts_of self.old).full_clock ≡ None }
         ensures call { Stores (D.standing dev.old) (D.standing dev.new) result }
         ensures leads { AreWhole (parts_of self.old)
             → LeadsHard self.old self.new (D.standing dev.old) (D.standing dev.new) result }
         ensures room { IfOk result (λ i. let parts = parts_of self.old in
-            full_swept_left (full_swept (victim parts.full_clock) parts) ≡ record { place = i; parts = parts_of self.new }) }
+            full_swept_left (full_swept (victim parts.full_clock) parts)
+            ≡ record { place = i; parts = parts_of self.new }) }
         ensures within { IfOk result (λ i. i < self.new.policy.dram_frames) }
         ensures same { SameSizes self.old self.new }
     {
@@ -60,11 +61,12 @@ impl TierPool {
 
     /// The victim of the clock of full places.
     fn sweep_full(&mut self) -> u32
-        requires all_stand { lowest_empty self.old.full_clock ≡ None }
+        requires all_stand { lowest_empty (parts_of self.old).full_clock ≡ None }
         ensures swept { let parts = parts_of self.old in
-            full_swept (victim parts.full_clock) parts ≡ record { place = result; parts = parts_of self.new } }
+            full_swept (victim parts.full_clock) parts
+            ≡ record { place = result; parts = parts_of self.new } }
         ensures within { result < self.new.policy.dram_frames }
-        ensures frames { self.new.nvm_clock ≡ self.old.nvm_clock }
+        ensures frames { (parts_of self.new).nvm_clock ≡ (parts_of self.old).nvm_clock }
         ensures map { (parts_of self.new).map ≡ (parts_of self.old).map }
         ensures same { SameSizes self.old self.new }
     {
@@ -76,7 +78,7 @@ impl TierPool {
     /// The page of a full place, if there is one, leaves it.
     fn leave_full<D: Devices>(&mut self, dev: &mut D, full: u32) -> Result<(), Stop>
         requires fits { Fits self.old.geometry (D.standing dev.old) }
-        requires clocked { Clocked self.old.nvm_clock (parts_of self.old).map.frame_page }
+        requires clocked { FramesStand (parts_of self.old) }
         requires full { full < self.old.policy.dram_frames }
         ensures call { Stores (D.standing dev.old) (D.standing dev.new) result }
         ensures leads { AreWhole (parts_of self.old)
@@ -98,13 +100,14 @@ impl TierPool {
     /// Where the lines of a full copy go: to its page's frame, to a new one, to the home block, or nowhere.
     fn hand_down<D: Devices>(&mut self, dev: &mut D, page: u64, full: u32) -> Result<(), Stop>
         requires fits { Fits self.old.geometry (D.standing dev.old) }
-        requires clocked { Clocked self.old.nvm_clock (parts_of self.old).map.frame_page }
+        requires clocked { FramesStand (parts_of self.old) }
         requires full { full < self.old.policy.dram_frames }
         requires page { page < pages (sizes_of self.old.geometry) }
         ensures call { Stores (D.standing dev.old) (D.standing dev.new) result }
         ensures leads { StandsAt page (Place.Full full) (parts_of self.old)
             → LeadsHard self.old self.new (D.standing dev.old) (D.standing dev.new) result }
-        ensures parts { OnOk result (parts_of self.new ≡ handed_down page full (parts_of self.old)) }
+        ensures parts { OnOk result (parts_of self.new
+            ≡ handed_down page full (parts_of self.old)) }
         ensures same { SameSizes self.old self.new }
     {
         match self.frame(page) {
@@ -116,14 +119,15 @@ impl TierPool {
     /// A page without a frame is admitted to NVM, passes through where it is dirty, or is left.
     fn admit_or_pass<D: Devices>(&mut self, dev: &mut D, page: u64, full: u32) -> Result<(), Stop>
         requires fits { Fits self.old.geometry (D.standing dev.old) }
-        requires clocked { Clocked self.old.nvm_clock (parts_of self.old).map.frame_page }
+        requires clocked { FramesStand (parts_of self.old) }
         requires full { full < self.old.policy.dram_frames }
         requires page { page < pages (sizes_of self.old.geometry) }
         requires homeless { (parts_of self.old).map.nvm page ≡ None }
         ensures call { Stores (D.standing dev.old) (D.standing dev.new) result }
         ensures leads { StandsWhole page (Place.Full full) (parts_of self.old)
             → LeadsHard self.old self.new (D.standing dev.old) (D.standing dev.new) result }
-        ensures parts { OnOk result (let parts = parts_of self.old in let dirty = full_dirty_at full parts in
+        ensures parts { OnOk result (let parts = parts_of self.old in
+            let dirty = full_dirty_at full parts in
             parts_of self.new ≡ moved_by (admitted dirty page parts) dirty page full) }
         ensures same { SameSizes self.old self.new }
     {
@@ -148,10 +152,11 @@ impl TierPool {
 
     /// Whether a page that has no frame is admitted to NVM, by whether its copy is dirty.
     fn admits(&mut self, page: u64, dirty: bool) -> bool
-        ensures answer { admitted dirty page (parts_of self.old) ≡ record { yes = result; parts = parts_of self.new } }
+        ensures answer { admitted dirty page (parts_of self.old)
+            ≡ record { yes = result; parts = parts_of self.new } }
         ensures some { result ≡ true → 1 ≤ self.new.geometry.frames }
         ensures map { (parts_of self.new).map ≡ (parts_of self.old).map }
-        ensures frames { self.new.nvm_clock ≡ self.old.nvm_clock }
+        ensures frames { (parts_of self.new).nvm_clock ≡ (parts_of self.old).nvm_clock }
         ensures same { SameSizes self.old self.new }
     {
         if self.geometry.frames == 0 {
@@ -165,9 +170,10 @@ impl TierPool {
 
     /// One draw for a dirty copy; a clean one is not admitted.
     fn draws_for(&mut self, dirty: bool) -> bool
-        ensures answer { drawn_if dirty (parts_of self.old) ≡ record { yes = result; parts = parts_of self.new } }
+        ensures answer { drawn_if dirty (parts_of self.old)
+            ≡ record { yes = result; parts = parts_of self.new } }
         ensures map { (parts_of self.new).map ≡ (parts_of self.old).map }
-        ensures frames { self.new.nvm_clock ≡ self.old.nvm_clock }
+        ensures frames { (parts_of self.new).nvm_clock ≡ (parts_of self.old).nvm_clock }
         ensures same { SameSizes self.old self.new }
     {
         if dirty {
@@ -179,9 +185,10 @@ impl TierPool {
 
     /// One draw with the probability that decides the question.
     pub fn decides(&mut self, question: Question) -> bool
-        ensures answer { drawn question (parts_of self.old) ≡ record { yes = result; parts = parts_of self.new } }
+        ensures answer { drawn question (parts_of self.old)
+            ≡ record { yes = result; parts = parts_of self.new } }
         ensures map { (parts_of self.new).map ≡ (parts_of self.old).map }
-        ensures frames { self.new.nvm_clock ≡ self.old.nvm_clock }
+        ensures frames { (parts_of self.new).nvm_clock ≡ (parts_of self.old).nvm_clock }
         ensures same { SameSizes self.old self.new }
     {
         self.policy.decide(&mut self.draws, question)
@@ -197,7 +204,7 @@ impl TierPool {
     ) -> Result<(), Stop>
         requires fits { Fits self.old.geometry (D.standing dev.old) }
         requires some { 1 ≤ self.old.geometry.frames }
-        requires clocked { Clocked self.old.nvm_clock (parts_of self.old).map.frame_page }
+        requires clocked { FramesStand (parts_of self.old) }
         requires full { full < self.old.policy.dram_frames }
         requires page { page < pages (sizes_of self.old.geometry) }
         requires homeless { (parts_of self.old).map.nvm page ≡ None }
@@ -205,7 +212,8 @@ impl TierPool {
         ensures leads { StandsWhole page (Place.Full full) (parts_of self.old)
             → dirty ≡ full_dirty_at full (parts_of self.old)
             → LeadsHard self.old self.new (D.standing dev.old) (D.standing dev.new) result }
-        ensures parts { OnOk result (parts_of self.new ≡ moved_down dirty page full (parts_of self.old)) }
+        ensures parts { OnOk result (parts_of self.new
+            ≡ moved_down dirty page full (parts_of self.old)) }
         ensures same { SameSizes self.old self.new }
     {
         let frame = self.room_in_nvm(dev)?;
@@ -232,7 +240,8 @@ impl TierPool {
             → dirty ≡ full_dirty_at full (parts_of self.old)
             → LeadsHard self.old self.new (D.standing dev.old) (D.standing dev.new) result }
         ensures parts { OnOk result (
-            parts_of self.new ≡ copy_cleaned (Place.Full full) (page_installed page frame dirty (parts_of self.old))) }
+            parts_of self.new ≡ copy_cleaned (Place.Full full)
+            (page_installed page frame dirty (parts_of self.old))) }
         ensures same { SameSizes self.old self.new }
     {
         let mut lines = PageBuf::zero();

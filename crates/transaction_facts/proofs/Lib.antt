@@ -8,3 +8,5 @@ pub mod ShowingLaws
 pub mod AsPagesLaws
 pub mod BackLaws
 pub mod WholeLaws
+pub mod ImageLaws
+pub mod OrderLaws

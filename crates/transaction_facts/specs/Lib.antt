@@ -3,3 +3,4 @@ pub mod Books
 pub mod Showing
 pub mod AsPages
 pub mod Aborts
+pub mod Order

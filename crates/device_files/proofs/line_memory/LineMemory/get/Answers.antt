@@ -2,7 +2,7 @@ use Rattle.device_files.proofs.LineLaws.{recall_cached, recall_gathered}
 use Rattle.device_files.proofs.line_memory.LineMemory.get.Goals as goal
 
 pub returns-in-Some-clause-known : goal.returns-in-Some-clause-known
-returns-in-Some-clause-known c = λ value h. recall_cached _ _ c.args.line c.in-Some.value.now value c.args.self.now.agree c.in-Some.ensures h
+returns-in-Some-clause-known c = λ value h. recall_cached _ _ c.args.line c.in-Some.value value c.args.self.now.agree c.in-Some.ensures h
 
 pub returns-in-None-clause-known : goal.returns-in-None-clause-known
 returns-in-None-clause-known c = λ value h.

@@ -1,0 +1,13 @@
+pub mod TierWords
+pub mod Fields
+pub mod BookCalls
+pub mod Sound
+pub mod Lines
+pub mod Ending
+pub mod Taking
+pub mod Shown
+pub mod StoreStanding
+pub mod OpenStore
+pub mod StoreCalls
+pub mod Order
+pub mod Laws
