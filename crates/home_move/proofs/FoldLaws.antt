@@ -3,6 +3,7 @@
 use Rattle.std.proofs.Common.{◌≡◌, ℕ, zero, suc, ◌+◌, ◌<◌, Bool, true, false, ◌&&◌, ◌||◌, List, [], ◌∷◌, ◌++◌, length, take, refl, sym, ap, ◌∙◌, subst, arith, if◌then◌else◌, eqb, inl, inr, Option, Result, Ok, IsTrue}
 use Rattle.std.proofs.Math.Seq.{take-suc}
 use Rattle.std.proofs.lemmas.Bool.{cases_Bool, eq-eqb, eqb-true, and_parts}
+use Rattle.nvm_model.specs.declared.line.Line.{Line}
 use Rattle.devices.specs.State.{State, current, fenced, after_all}
 use Rattle.devices.specs.World.{Standing, now}
 use Rattle.line_pages.specs.declared.stop.Stop.{Stop}
@@ -14,9 +15,10 @@ use Rattle.store_model.specs.Log.{Words, Change, Group, Log, is_logged, names, n
 use Rattle.store_model.specs.Format.{Format}
 use Rattle.store_model.specs.Format.Format.{whole_lines, named_words, with_cuts}
 use Rattle.store_model.specs.Recovered.{super_of, replay}
+use Rattle.store_model.specs.StoreFacts.{IsWord}
 use Rattle.log_laws.proofs.StartLaws.{start_calls}
 use Rattle.home_laws.proofs.LogLaws.{kept_other}
-use Rattle.home_move.specs.Homes.{Aim, Keeps, KeepsBut, Homes, IsKeptIn, CanWrite, CanReplay, NamesWholeLine, IsRecovered, aim_with, over, only_pair, log_in}
+use Rattle.home_move.specs.Homes.{Aim, Keeps, KeepsBut, Homes, IsKeptIn, CanWrite, CanReplay, NamesWholeLine, KnowsLogged, IsRecovered, aim_with, over, only_pair, log_in}
 use Rattle.home_move.specs.Fold.{ReplayStep, steps_forward, steps_back, steps_if, then_if, steps_group, steps_groups, steps_of, no_step, nth_step, stepped, stepped_known, after_steps, AreAllSteps, IsReplayed}
 use Rattle.home_move.proofs.HomeLaws.{homes_keep}
 use Rattle.home_move.proofs.ReplayLaws.{replay_write, replay_recovers, fold_step, whole_names}

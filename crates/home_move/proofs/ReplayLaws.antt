@@ -2,16 +2,16 @@
 -- each home is the word that recovery gives.
 use Rattle.std.proofs.Common.{◌≡◌, ◌≢◌, ◌⊎◌, ℕ, ◌+◌, ◌-◌, ◌<◌, arith, Bool, true, false, ◌&&◌, ◌||◌, zero, suc, List, [], ◌∷◌, ◌++◌, slice_index, refl, sym, ap, ◌∙◌, subst, inl, inr, eqb, cond, Option, Some, None, Result, Ok, IsTrue}
 use Rattle.std.specs.Int.{bit_at}
-use Rattle.std.proofs.lemmas.Bool.{cases_Bool, cases_eq, eq-eqb, ne_eqb}
+use Rattle.std.proofs.lemmas.Bool.{cases_Bool, cases_eq, eq-eqb, ne_eqb, eqb-true, and_parts}
 use Rattle.nvm_model.specs.declared.line.Line.{Line}
 use Rattle.devices.specs.State.{State, Image, Leaves, Amid, current, fenced, after_all}
 use Rattle.devices.specs.World.{Standing, now}
 use Rattle.line_pages.specs.declared.stop.Stop.{Stop}
-use Rattle.line_pages.specs.Pairs.{Pairs, with_pair}
+use Rattle.line_pages.specs.Pairs.{Pairs, no_pairs, with_pair}
 use Rattle.device_calls.specs.Leads.{ReadsAs, Leads, Given}
 use Rattle.device_calls.proofs.LeadsLaws.{leads_then, leads_from, leads_given, leads_map, leads_seen, leads_held}
 use Rattle.store_model.specs.Layout.{Sizes, frame_line, entry_line, entry_word}
-use Rattle.store_model.specs.Log.{Words, Change, Log, no_log, grouped, is_logged, names, named_in, written}
+use Rattle.store_model.specs.Log.{Words, Change, Group, Log, no_log, grouped, is_logged, names, named_in, named_in_groups, changes, written, redone, undone, applied_all}
 use Rattle.store_model.specs.Format.{entries, word_in}
 use Rattle.store_model.specs.Recovered.{Super, super_of, entry_at, frame_of, home, log_line, log_of, from, replay}
 use Rattle.store_model.specs.InOrder.{HomeStands}
@@ -25,7 +25,7 @@ use Rattle.home_laws.proofs.SeenLaws.{facts_log}
 use Rattle.home_laws.proofs.QuietLaws.{fence_facts}
 use Rattle.home_laws.proofs.GateLaws.{moved_current}
 use Rattle.home_laws.proofs.ShownLaws.{home_kept}
-use Rattle.home_move.specs.Homes.{Aim, keeping, Keeps, KeepsBut, Homes, AreFlushed, IsKeptIn, CanWrite, CanReplay, NamesWholeLine, KnowsLogged, IsRecovered, aim_with, over, only_pair, log_in}
+use Rattle.home_move.specs.Homes.{Aim, keeping, Keeps, KeepsBut, Homes, AreFlushed, IsKeptIn, CanWrite, CanReplay, NamesWholeLine, KnowsLogged, knowing, records_of, all_records, IsRecovered, aim_with, over, only_pair, log_in}
 use Rattle.home_move.proofs.FlushLaws.{known_durable}
 
 -- ---- a write behind other changes of the words
@@ -118,6 +118,17 @@ pub fold_step : {T : Type 0} {a b : Standing} {r : Result T Stop} {A : Aim → S
 fold_step g passing c values change more whole call =
     leads_map (λ aim s homes. homes_same g passing (λ (words : Words). with_line (change words) c.page c.line values) (λ (words : Words). written c values (change words)) more aim s (λ p l w word. written_line c values (change aim.words) whole p l w word.word) homes) call
 
+pub redone_more : (cs : List Change) (c : Change) (words : Words) → redone (cs ++ c ∷ []) words ≡ written c c.after (redone cs words)
+redone_more [] c words = refl
+redone_more (x ∷ xs) c words = redone_more xs c (written x x.after words)
+
+pub undone_more : (cs : List Change) (c : Change) (words : Words) → undone (c ∷ cs) words ≡ written c c.before (undone cs words)
+undone_more cs c words = refl
+
+pub applied_more : (apply : Group → Words → Words) (groups : List Group) (group : Group) (words : Words) → applied_all apply (groups ++ group ∷ []) words ≡ apply group (applied_all apply groups words)
+applied_more apply [] group words = refl
+applied_more apply (x ∷ xs) group words = applied_more apply xs group (apply x words)
+
 -- ---- what the log names
 
 or_first : (x y : Bool) → x ≡ true → (x || y) ≡ true
@@ -132,6 +143,22 @@ or_second false y h = h
 pub named_among : (before after : List Change) (c : Change) (p l w : ℕ) → names c p l w ≡ true → named_in (before ++ c ∷ after) p l w ≡ true
 named_among [] after c p l w h = or_first (names c p l w) (named_in after p l w) h
 named_among (x ∷ xs) after c p l w h = or_second (names x p l w) (named_in (xs ++ c ∷ after) p l w) (named_among xs after c p l w h)
+
+grouped_among : (before after : List Group) (group : Group) (p l w : ℕ) → named_in (changes group.items) p l w ≡ true → named_in_groups (before ++ group ∷ after) p l w ≡ true
+grouped_among [] after group p l w h = or_first (named_in (changes group.items) p l w) (named_in_groups after p l w) h
+grouped_among (x ∷ xs) after group p l w h = or_second (named_in (changes x.items) p l w) (named_in_groups (xs ++ group ∷ after) p l w) (grouped_among xs after group p l w h)
+
+-- So a record of a group that was ended is logged,
+pub logged_closed : (log : Log) (groups later : List Group) (group : Group) (before after : List Change) (c : Change) → log.closed ≡ groups ++ group ∷ later → changes group.items ≡ before ++ c ∷ after
+    → (p l w : ℕ) → names c p l w ≡ true → is_logged log p l w ≡ true
+logged_closed log groups later group before after c closed items p l w h =
+    or_first (named_in_groups log.closed p l w) (named_in (changes log.open_items) p l w)
+    (ap (λ gs. named_in_groups gs p l w) closed ∙ grouped_among groups later group p l w (ap (λ cs. named_in cs p l w) items ∙ named_among before after c p l w h))
+
+-- and one that stands behind the last end.
+pub logged_open : (log : Log) (before after : List Change) (c : Change) → changes log.open_items ≡ before ++ c ∷ after → (p l w : ℕ) → names c p l w ≡ true → is_logged log p l w ≡ true
+logged_open log before after c items p l w h =
+    or_second (named_in_groups log.closed p l w) (named_in (changes log.open_items) p l w) (ap (λ cs. named_in cs p l w) items ∙ named_among before after c p l w h)
 
 -- a record of a whole line names each word of it
 pub whole_names : (c : Change) → NamesWholeLine c → (w : ℕ) → w < 8 → names c c.page c.line w ≡ true
@@ -151,6 +178,66 @@ whole_mask c all = record { each = λ w hw. ap (λ n. bit_at n w) all ∙ ones w
     ones (suc (suc (suc (suc (suc (suc zero)))))) h = refl
     ones (suc (suc (suc (suc (suc (suc (suc zero))))))) h = refl
     ones (suc (suc (suc (suc (suc (suc (suc (suc n)))))))) h = absurd (omega arith)
+
+-- ---- which lines are known
+
+-- a known line stays so, and the line of each record is one
+pub knowing_stays : (cs : List Change) (known : Pairs) (p l : ℕ) → known p l ≡ true → knowing cs known p l ≡ true
+knowing_stays [] known p l h = h
+knowing_stays (c ∷ cs) known p l h = or_second (eqb p c.page && eqb l c.line) (knowing cs known p l) (knowing_stays cs known p l h)
+
+pub knowing_named : (cs : List Change) (known : Pairs) (p l w : ℕ) → named_in cs p l w ≡ true → knowing cs known p l ≡ true
+knowing_named [] known p l w h = absurd (never h)
+  where
+    never : false ≡ true → ⊥
+    never e = cc
+knowing_named (c ∷ cs) known p l w h = elim (cases_Bool (names c p l w)) [
+  | inl here ↦
+      (let page : (eqb c.page p ≡ true) × _ = and_parts (eqb c.page p) _ here in
+      let line : (eqb c.line l ≡ true) × _ = and_parts (eqb c.line l) _ page.1 in
+      or_first (eqb p c.page && eqb l c.line) (knowing cs known p l) (true_and _ _ (eq-eqb p c.page (sym (eqb-true c.page p page.0))) (eq-eqb l c.line (sym (eqb-true c.line l line.0)))))
+  | inr away ↦ or_second (eqb p c.page && eqb l c.line) (knowing cs known p l) (knowing_named cs known p l w (other (names c p l w) (named_in cs p l w) away h))
+]
+  where
+    other : (x y : Bool) → x ≡ false → (x || y) ≡ true → y ≡ true
+    other true y e f = cc
+    other false y e f = f
+
+named_front : (xs ys : List Change) (p l w : ℕ) → named_in xs p l w ≡ true → named_in (xs ++ ys) p l w ≡ true
+named_front [] ys p l w h = absurd (never h)
+  where
+    never : false ≡ true → ⊥
+    never e = cc
+named_front (x ∷ xs) ys p l w h = by_first (names x p l w) (named_in xs p l w) (named_in (xs ++ ys) p l w) (named_front xs ys p l w) h
+  where
+    by_first : (x y z : Bool) → (y ≡ true → z ≡ true) → (x || y) ≡ true → (x || z) ≡ true
+    by_first true y z f e = refl
+    by_first false y z f e = f e
+
+named_back : (xs ys : List Change) (p l w : ℕ) → named_in ys p l w ≡ true → named_in (xs ++ ys) p l w ≡ true
+named_back [] ys p l w h = h
+named_back (x ∷ xs) ys p l w h = or_second (names x p l w) (named_in (xs ++ ys) p l w) (named_back xs ys p l w h)
+
+groups_named : (groups : List Group) (p l w : ℕ) → named_in_groups groups p l w ≡ true → named_in (records_of groups) p l w ≡ true
+groups_named [] p l w h = h
+groups_named (group ∷ groups) p l w h = by_first (named_in (changes group.items) p l w) refl (groups_named groups p l w) h
+  where
+    by_first : (x : Bool) → named_in (changes group.items) p l w ≡ x → (named_in_groups groups p l w ≡ true → named_in (records_of groups) p l w ≡ true) → (x || named_in_groups groups p l w) ≡ true
+        → named_in (changes group.items ++ records_of groups) p l w ≡ true
+    by_first true here later e = named_front (changes group.items) (records_of groups) p l w here
+    by_first false here later e = named_back (changes group.items) (records_of groups) p l w (later e)
+
+-- what the log names a record of it names
+pub logged_named : (log : Log) (p l w : ℕ) → is_logged log p l w ≡ true → named_in (all_records log) p l w ≡ true
+logged_named log p l w h = by_first (named_in_groups log.closed p l w) refl h
+  where
+    by_first : (x : Bool) → named_in_groups log.closed p l w ≡ x → (x || named_in (changes log.open_items) p l w) ≡ true → named_in (all_records log) p l w ≡ true
+    by_first true closed e = named_front (records_of log.closed) (changes log.open_items) p l w (groups_named log.closed p l w closed)
+    by_first false closed e = named_back (records_of log.closed) (changes log.open_items) p l w e
+
+-- So behind the writes of all records, in whatever order, each line that the log names is known.
+pub knows_logged : (change : Words → Words) (more : Pairs → Pairs) (aim : Aim) → ((p l : ℕ) → knowing (all_records (log_in aim)) no_pairs p l ≡ true → more aim.known p l ≡ true) → KnowsLogged (over change more aim)
+knows_logged change more aim records p l w word logged = records p l (knowing_named (all_records (log_in aim)) no_pairs p l w (logged_named (log_in aim) p l w logged))
 
 -- ---- behind the fold
 

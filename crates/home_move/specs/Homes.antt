@@ -1,11 +1,11 @@
 -- What a run of writes to homes knows and keeps: where the words of each page are, and what recovery gives.
 use Rattle.std.specs.Int.{bit_at}
-use Rattle.std.specs.Prelude.{◌≡◌, ◌≢◌, ℕ, true, false, ◌+◌, ◌<◌, ◌≤◌, List, [], Option, Some, None, IsTrue}
+use Rattle.std.specs.Prelude.{◌≡◌, ◌≢◌, ℕ, true, false, ◌+◌, ◌<◌, ◌≤◌, List, [], ◌∷◌, ◌++◌, Option, Some, None, IsTrue}
 use Rattle.nvm_model.specs.declared.line.Line.{Line}
 use Rattle.devices.specs.State.{State, current}
 use Rattle.line_pages.specs.Pairs.{Pairs, no_pairs, with_pair}
 use Rattle.store_model.specs.Layout.{Sizes, pages, frame_line, page_block}
-use Rattle.store_model.specs.Log.{Words, Change, Log, no_log, grouped, is_logged}
+use Rattle.store_model.specs.Log.{Words, Change, Group, Log, no_log, grouped, is_logged, changes}
 use Rattle.store_model.specs.Format.{Format, entries, word_in}
 use Rattle.store_model.specs.Recovered.{Super, super_of, entry_at, home, log_lines}
 use Rattle.store_model.specs.StoreFacts.{Changing, Bookkeeping, IsWord, StoreFacts}
@@ -109,6 +109,19 @@ pub record CanReplay (g : Sizes) (page line : ℕ) (kept_in : Option ℕ) (aim :
 -- the record names each word of its line
 pub record NamesWholeLine (change : Change) : Type 0 where
   pub each : (w : ℕ) → w < 8 → bit_at change.mask w ≡ 1
+
+-- these lines and those of the records
+abbrev pub knowing : List Change → Pairs → Pairs
+knowing [] known = known
+knowing (change ∷ changes) known = with_pair change.page change.line (knowing changes known)
+
+-- all records of a log
+abbrev pub records_of : List Group → List Change
+records_of [] = []
+records_of (group ∷ groups) = changes group.items ++ records_of groups
+
+abbrev pub all_records : Log → List Change
+all_records log = records_of log.closed ++ changes log.open_items
 
 -- All lines that the log names are known.
 abbrev pub KnowsLogged : Aim → Type 0

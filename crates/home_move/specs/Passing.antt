@@ -5,9 +5,7 @@ use Rattle.devices.specs.State.{Call}
 use Rattle.devices.specs.State.Call.{store_word, store_line, flush, fence, write_block, sync}
 use Rattle.devices.specs.World.{Standing, Counts, MakesAll}
 use Rattle.line_pages.specs.declared.stop.Stop.{Stop}
-use Rattle.line_pages.specs.declared.stop.Stop.TheVariants.{Nvm}
 use Rattle.device_calls.specs.Leads.{Made}
-use Rattle.device_calls.specs.Stops.{StopsWith}
 use Rattle.store_model.specs.Layout.{Sizes, pages, nvm_lines, ssd_blocks}
 use Rattle.store_model.specs.Install.{store_calls}
 
@@ -34,11 +32,6 @@ passing_behind None page there = Some page
 pub record StoresAlone {T : Type 0} (g : Sizes) (home : Option ℕ) (page : ℕ) (there : Option ℕ) (line : ℕ) (value : Line) (old new : Standing) (result : Result T Stop) : Type 0 where
   pub kept : IfSome home (λ frame. Made (store_calls g frame line value) old new result)
   pub passing : home ≡ None → there ≡ Some page → Made (store_calls g g.frames line value) old new result
-
--- So it stops with the NVM alone.
-pub record StopsAlone {T : Type 0} (home : Option ℕ) (page : ℕ) (there : Option ℕ) (result : Result T Stop) : Type 0 where
-  pub kept : IfSome home (λ frame. StopsWith Nvm result)
-  pub passing : home ≡ None → there ≡ Some page → StopsWith Nvm result
 
 -- Where the page comes in one block is read.
 abbrev pub ReadsWhereItComes : {T : Type 0} → Option ℕ → ℕ → Option ℕ → Standing → Standing → Result T Stop → Type 0

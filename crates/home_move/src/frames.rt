@@ -32,8 +32,7 @@ pub fn load_line<D: Devices>(
     ensures stops { StopsWith Nvm result }
     ensures reads { (D.standing dev.new).block_reads ≡ (D.standing dev.old).block_reads }
     ensures value { IsTrue (D.standing dev.old).told → IfOk result (λ found.
-        let place = frame_line (sizes_of geometry.now) frame line in
-        found ≡ line_at (now (D.standing dev.old)) place) }
+        found ≡ line_at (now (D.standing dev.old)) (frame_line (sizes_of geometry.now) frame line)) }
 {
     load(dev, geometry.frame_line(frame, line))
 }
@@ -70,8 +69,8 @@ pub fn read_frame<D: Devices>(
     ensures looked { Looked (D.standing dev.old) (D.standing dev.new) result }
     ensures stops { StopsWith Nvm result }
     ensures reads { (D.standing dev.new).block_reads ≡ (D.standing dev.old).block_reads }
-    ensures value { IsTrue (D.standing dev.old).told → OnOk result
-        (HoldsFrame (sizes_of geometry.now) frame into.new (now (D.standing dev.old))) }
+    ensures value { IsTrue (D.standing dev.old).told
+        → OnOk result (HoldsFrame (sizes_of geometry.now) frame into.new (now (D.standing dev.old))) }
 {
     for line in 0..64usize {
         let found = load_line(dev, geometry, frame, line)?;
@@ -93,8 +92,7 @@ pub fn read_home_block<D: Devices>(
     ensures stops { StopsWith Ssd result }
     ensures reads { Counts (D.standing dev.old) (D.standing dev.new) }
     ensures value { IsTrue (D.standing dev.old).told → OnOk result
-        (let block = page_block (sizes_of geometry.now) page in
-        into.new ≡ ((now (D.standing dev.old)).ssd block).bytes) }
+        (into.new ≡ ((now (D.standing dev.old)).ssd (page_block (sizes_of geometry.now) page)).bytes) }
 {
     read_block(dev, geometry.page_block(page), into)
 }

@@ -8,7 +8,7 @@ ghost use Rattle.nvm_layout.specs.Sizes.{sizes_of};
 ghost use Rattle.line_pages.specs.Pairs.{no_pairs};
 ghost use Rattle.home_move.specs.Homes.{Aim, KeepsBut, Homes, CanWrite, IsKeptIn, aim_with, only_pair};
 ghost use Rattle.home_move.specs.Passing.{FitsStore, IsPassing, ReadsOneAtMost, ReadsWhereItComes};
-ghost use Rattle.home_move.specs.Passing.{StoresAlone, StopsAlone, passing_behind, WritesBlocks};
+ghost use Rattle.home_move.specs.Passing.{StoresAlone, passing_behind, WritesBlocks};
 ghost use Rattle.home_move.specs.Passing.{leaving, leaving_for};
 ghost use Rattle.home_move.specs.Moves.{Releases};
 
@@ -68,7 +68,6 @@ pub fn write_home<D: Devices>(
         (D.standing dev.old) (D.standing dev.new) result }
     ensures stores { StoresAlone (sizes_of geometry.now) home page passage.old.page line value.now
         (D.standing dev.old) (D.standing dev.new) result }
-    ensures stops { StopsAlone home page passage.old.page result }
     ensures passing { OnOk result (IsPassing (sizes_of geometry.now) passage.new.page) }
     ensures behind { OnOk result (passage.new.page ≡ passing_behind home page passage.old.page) }
     ensures reads { ReadsOneAtMost (D.standing dev.old) (D.standing dev.new) }

@@ -1,7 +1,7 @@
 //! Installs, releases and installs elsewhere, stopped after each event, with each choice of what a crash leaves.
 use crate::worlds::{
-    CHOICES, Ended, PAIRS, again, filled, fits, give_up, left, logged, page_of, put, same_lines,
-    small, start, store,
+    CHOICES, Ended, again, filled, fits, give_up, left, logged, page_of, put, same_lines, small,
+    start, store,
 };
 use devices::{Devices, Fault, FaultKind, MemWorld};
 use home_move::{install, release};
@@ -91,7 +91,7 @@ fn moved_under_a_log(rt: &impl Abort, alloc: Global, ended: Ended) -> Result<(),
     world.fence()?;
     give_up(&mut world, 1, 3, true)?;
     for at in 0..=world.events() {
-        for (words, blocks) in PAIRS {
+        for (words, blocks) in CHOICES {
             let mut after = left(alloc, &world, at, words, blocks)?;
             assert!(rt;
                 same_lines(&page_of(&mut after, 3)?, &recovered),

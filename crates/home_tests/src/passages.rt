@@ -6,7 +6,8 @@ ghost use Rattle.home_tests.specs.Replay.{IsInStore, AreInStore};
 use crate::replaying::{HomeLine, write_homes};
 use crate::tables::entries;
 use crate::worlds::{
-    AFTER, Ended, PAIRS, entry, filled, fits, left, logged, page_of, put, same_lines, small, start,
+    AFTER, CHOICES, Ended, entry, filled, fits, left, logged, page_of, put, same_lines, small,
+    start,
 };
 use devices::{Devices, MemWorld};
 use home_move::{Passage, end_passage, write_home};
@@ -255,7 +256,7 @@ fn passed_under_a_log(rt: &impl Abort, alloc: Global, ended: Ended) -> Result<()
     write(&mut world, &mut passage, None, 5, 1, &same)?;
     end(&mut world, &mut passage)?;
     for at in 0..=world.events() {
-        for choice in PAIRS {
+        for choice in CHOICES {
             reopened(rt, alloc, &world, at, choice, &fourth)?;
         }
     }

@@ -28,8 +28,7 @@ pub(crate) fn small() -> Geometry
 /// Whether the store fits the devices.
 pub(crate) fn fits<D: Devices>(dev: &D, geometry: &Geometry) -> bool
     ensures lines { result ≡ true → nvm_lines (sizes_of geometry.now) ≤ (D.standing dev.now).lines }
-    ensures blocks { result ≡ true
-        → ssd_blocks (sizes_of geometry.now) ≤ (D.standing dev.now).blocks }
+    ensures blocks { result ≡ true → ssd_blocks (sizes_of geometry.now) ≤ (D.standing dev.now).blocks }
 {
     geometry.nvm_lines() <= dev.nvm_lines() && geometry.ssd_blocks() <= dev.ssd_blocks()
 }
@@ -74,14 +73,6 @@ fn write_page<D: Devices>(dev: &mut D, geometry: &Geometry, page: u64) -> Result
     dev.write_block(geometry.page_block(page), &filled((page % 256) as u8))?;
     Ok(())
 }
-
-/// Each choice of words and each of blocks, in pairs.
-pub(crate) const PAIRS: [(Choice, BlockChoice); 4] = [
-    (Choice::Oldest, BlockChoice::Settled),
-    (Choice::Newest, BlockChoice::Current),
-    (Choice::Alternating, BlockChoice::Alternating),
-    (Choice::Oldest, BlockChoice::Fill(0xA5)),
-];
 
 /// Each choice of words with each of blocks.
 pub(crate) const CHOICES: [(Choice, BlockChoice); 12] = [

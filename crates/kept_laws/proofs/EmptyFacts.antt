@@ -1,16 +1,16 @@
 -- A store whose log is empty: each home is the current word in every image, and a fence makes all of them durable, whatever was flushed.
-use Rattle.std.proofs.Common.{◌≡◌, ◌≢◌, ℕ, zero, suc, ◌+◌, ◌<◌, ◌≤◌, List, [], refl, ap, ◌∙◌, subst, arith, false, ◌||◌, None}
+use Rattle.std.proofs.Common.{◌≡◌, ◌≢◌, ℕ, zero, suc, ◌+◌, ◌<◌, ◌≤◌, List, [], refl, sym, ap, ◌∙◌, subst, arith, false, ◌||◌, IsTrue, Option, Some, None}
 use Rattle.nvm_model.specs.declared.line.Line.{Line}
 use Rattle.nvm_model.specs.Word.{IsSteady}
 use Rattle.devices.specs.State.{State, Image, Leaves, current}
-use Rattle.store_model.specs.Layout.{Sizes, pages, frame_line}
+use Rattle.store_model.specs.Layout.{Sizes, pages, frame_line, page_block}
 use Rattle.store_model.specs.Log.{Change, Log, no_log, grouped, is_logged, named_in}
 use Rattle.store_model.specs.Format.{entries}
 use Rattle.store_model.specs.Recovered.{super_of, entry_at, frame_of, home, log_lines, log_of}
 use Rattle.store_model.specs.InOrder.{HomeStands}
 use Rattle.store_model.specs.Checked.{TablePasses}
 use Rattle.store_model.specs.StoreFacts.{Bookkeeping, IsWord, is_written, StoreFacts}
-use Rattle.store_model.specs.Shown.{HomesFlushed}
+use Rattle.store_model.specs.Shown.{IsSteadyFenced, HomesFlushed}
 use Rattle.home_laws.proofs.CheckLaws.{checks_none}
 use Rattle.home_laws.proofs.FactsLaws.{current_leaves}
 use Rattle.home_laws.proofs.InstallLaws.{frame_of-here}

@@ -1,6 +1,6 @@
 -- All homes are steady behind a fence, or settled, and stay so over each kind of step; so a fence makes them durable, which is
 -- what emptying the log asks for.
-use Rattle.std.proofs.Common.{◌≡◌, ◌≢◌, ℕ, ◌+◌, ◌<◌, ◌≤◌, List, refl, sym, ap, ◌∙◌, subst, inl, inr, arith, IsTrue, Option, Some, None}
+use Rattle.std.proofs.Common.{◌≡◌, ◌≢◌, ℕ, ◌+◌, ◌<◌, ◌≤◌, List, [], ◌∷◌, take, refl, sym, ap, ◌∙◌, subst, inl, inr, arith, IsTrue, Option, Some, None}
 use Rattle.std.proofs.lemmas.Bool.{cases_eq}
 use Rattle.nvm_model.specs.Word.{IsSteady}
 use Rattle.devices.specs.State.{State, Image, Leaves, current, fenced, after_all, Call}

@@ -1,8 +1,8 @@
 -- A store that was opened begins with the facts that hold between two calls: every home is as it should be, whatever was flushed.
-use Rattle.std.proofs.Common.{◌≡◌, ℕ, ◌≤◌, refl, sym, ap, ◌∙◌, subst, arith, Option, Some, None}
+use Rattle.std.proofs.Common.{◌≡◌, ℕ, ◌+◌, ◌<◌, ◌≤◌, true, false, [], refl, sym, ap, ◌∙◌, subst, arith, Option, Some, None}
 use Rattle.nvm_model.specs.declared.line.Line.{Line}
 use Rattle.devices.specs.State.{State, current}
-use Rattle.store_model.specs.Layout.{Sizes}
+use Rattle.store_model.specs.Layout.{Sizes, pages}
 use Rattle.store_model.specs.Log.{Words}
 use Rattle.store_model.specs.Format.{Format}
 use Rattle.store_model.specs.Recovered.{super_of, entry_at}
@@ -12,8 +12,8 @@ use Rattle.home_laws.proofs.FactsLaws.{current_leaves}
 use Rattle.kept_laws.proofs.CopyFacts.{copies_facts}
 use Rattle.kept_laws.proofs.EmptyFacts.{empty_current, empty_named, empty_flushed}
 use Rattle.tier_facts.specs.Data.{Data, entry_of, or_home, home_of, current_in}
-use Rattle.tier_facts.specs.Facts.{Facts, Hard}
-use Rattle.tier_facts.specs.Opening.{opened_book, Opening, opening_aim}
+use Rattle.tier_facts.specs.Facts.{Facts, Hard, keeping}
+use Rattle.tier_facts.specs.Opening.{opened_book, IsBare, Opening, opening_aim}
 use Rattle.tier_facts.proofs.PlaceLaws.{IsPlaced, home_placed, frame_flushed, block_settled, clash}
 
 module _ (format : Format) (g : Sizes) (words : Words) (t : Data) (s : State) (it : Opening format g words t s) where

@@ -4,7 +4,7 @@ use Rattle.devices.specs.State.{State, current}
 use Rattle.store_model.specs.Layout.{Sizes}
 use Rattle.store_model.specs.Log.{Words}
 use Rattle.store_model.specs.Format.{Format}
-use Rattle.store_model.specs.Recovered.{Super, entry_at, log_lines}
+use Rattle.store_model.specs.Recovered.{Super, super_of, entry_at, log_lines}
 use Rattle.store_model.specs.StoreFacts.{Bookkeeping, StoreFacts}
 use Rattle.tier_facts.specs.Data.{Data, entry_of}
 use Rattle.tier_facts.specs.Facts.{Aim}

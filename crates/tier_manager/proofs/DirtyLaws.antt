@@ -1,5 +1,5 @@
 -- Which copies are still to be cleaned, place by place.
-use Rattle.std.proofs.Common.{Bool, true, false, not, ◌||◌, ◌≡◌, ◌≢◌, ℕ, zero, suc, ◌+◌, ◌-◌, ◌<◌, ◌≤◌, cond, List, [], ◌∷◌, ◌++◌, take, refl, sym, ap, ◌∙◌, arith, Option, Some, None}
+use Rattle.std.proofs.Common.{Bool, true, false, not, ◌||◌, ◌≡◌, ◌≢◌, ℕ, zero, suc, ◌+◌, ◌-◌, ◌<◌, ◌≤◌, cond, List, [], ◌∷◌, ◌++◌, take, refl, sym, ap, ◌∙◌, subst, arith, Option, Some, None}
 use Rattle.std.specs.Prelude.{◌==◌, filter}
 use Rattle.std.specs.List.{filter_map, cons_option}
 use Rattle.std.proofs.lemmas.Bool.{ne_eqb}
@@ -11,9 +11,10 @@ use Rattle.page_frame.specs.LineSets.{no_lines}
 use Rattle.tier_rules.specs.Plans.{Plan}
 use Rattle.tier_rules.specs.Parts.{Parts, dirty_at}
 use Rattle.tier_rules.specs.Cleaning.{numbers_from}
+use Rattle.part_laws.specs.PartData.{dirty_lines}
 use Rattle.tier_pool.specs.Cleaning.{copy_written}
 use Rattle.tier_manager.specs.Cleaning.{is_dirty, dirty_of, pages_in_fulls, pages_in_minis, dirty_pages, all_written, cleaned, minis_cleaned, PartsLeft, written_unless, place_cleaned}
-use Rattle.tier_manager.proofs.WrittenLaws.{SameMap, written_map, written_others}
+use Rattle.tier_manager.proofs.WrittenLaws.{SameMap, written_map, written_others, written_clean}
 
 -- ---- lists of pages
 

@@ -5,7 +5,7 @@ use Rattle.nvm_model.specs.declared.line.Line.{Line}
 use Rattle.line_pages.specs.declared.stop.Stop.{Stop}
 use Rattle.tier_map.specs.declared.place.Place.{Place}
 use Rattle.tier_rules.specs.Tallies.{log_lines_read}
-use Rattle.tier_rules.specs.State.{counting}
+use Rattle.tier_rules.specs.State.{TierState, counting}
 use Rattle.tier_rules.specs.Entering.{rested}
 use Rattle.tier_rules.specs.Cleaning as rule
 use Rattle.tier_rules.specs.Runs.{read_of, write_of}

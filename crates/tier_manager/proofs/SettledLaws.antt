@@ -1,6 +1,6 @@
 -- Once every dirty copy became clean, no copy is dirty.
 use Rattle.std.proofs.Common.{Bool, true, false, not, ◌≡◌, ◌≢◌, ◌⊎◌, inl, inr, ℕ, zero, suc, ◌+◌, ◌<◌, ◌≤◌, cond, List, [], ◌∷◌, ◌++◌, length, take, refl, sym, ap, ◌∙◌, subst, arith, Option, Some, None}
-use Rattle.std.specs.Prelude.{filter}
+use Rattle.std.specs.Prelude.{◌==◌, filter}
 use Rattle.std.specs.List.{filter_map, cons_option}
 use Rattle.std.proofs.lemmas.Bool.{cases_eq, ne_eqb}
 use Rattle.std.proofs.lemmas.List.{length-append, take_all}
@@ -19,7 +19,7 @@ use Rattle.tier_laws.proofs.StandLaws.{stand_le}
 use Rattle.tier_pool.specs.Places.{IsPlace}
 use Rattle.tier_pool.specs.Standing.{IsSteady}
 use Rattle.tier_pool.specs.Cleaning.{copy_written}
-use Rattle.tier_manager.specs.Cleaning.{is_dirty, pages_in_fulls, pages_in_minis, dirty_pages, all_written, cleaned, settled}
+use Rattle.tier_manager.specs.Cleaning.{is_dirty, dirty_of, pages_in_fulls, pages_in_minis, dirty_pages, all_written, cleaned, settled}
 use Rattle.tier_manager.proofs.WrittenLaws.{written_map, written_others, written_clean}
 
 -- ---- so many copies are all

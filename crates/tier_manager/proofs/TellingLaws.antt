@@ -7,7 +7,7 @@ use Rattle.tier_rules.specs.Step.{Touch}
 use Rattle.tier_pool.specs.declared.pool.Access.{Access}
 use Rattle.tier_manager.specs.declared.tiers.Tiers.{Tiers}
 use Rattle.tier_manager.specs.Fields.{parts_of}
-use Rattle.tier_manager.specs.Telling.{Told, Telling, told_by, telling, telling_of, told_after, Tells}
+use Rattle.tier_manager.specs.Telling.{Told, Telling, told_of, told_by, telling, telling_of, told_after, Tells}
 
 -- with this told, in the same access
 pub telling_from : {t u : Told} {o p : Option Access} → t ≡ u → o ≡ p → telling t o ≡ telling u p

@@ -11,13 +11,13 @@ use Rattle.tier_rules.specs.Step.{Touch}
 use Rattle.tier_pool.specs.Calls.{Calls, Stores}
 use Rattle.tier_pool.proofs.CallLaws.{calls_exit, stores_exit}
 use Rattle.tier_manager.specs.declared.tiers.Tiers.{Tiers}
-use Rattle.tier_manager.specs.Calls.{TouchesLine, IsCleaning}
+use Rattle.tier_manager.specs.Calls.{IsTouch, IsCleaning}
 use Rattle.tier_manager.specs.Fields.{SameSizes}
 use Rattle.tier_manager.specs.Quiet.{is_quiet}
 use Rattle.tier_manager.specs.Telling.{telling_of, telling_with, Tells}
 
 pub touch_stopped : {T U : Type 0} {why : Stop} {a b : Standing} (r : Result T Stop) (step : Touch → TierState → TierState) (touch : Touch) (old new : Tiers) → IsErrAnd r (λ y. y ≡ why) → Calls {T = U} a b (Err why)
-    → (is_quiet old touch.page touch.line ≡ true → Looked {T = U} a b (Err why)) → Tells {T = U} touch old new (Err why) → SameSizes old new → TouchesLine step touch old new a b r
+    → (is_quiet old touch.page touch.line ≡ true → Looked {T = U} a b (Err why)) → Tells {T = U} touch old new (Err why) → SameSizes old new → IsTouch step touch old new a b r
 touch_stopped (Ok value) step touch old new failed call looked told same = absurd failed
 touch_stopped (Err stop) step touch old new failed call looked told same = record {
   call = calls_exit (Err stop) failed call;

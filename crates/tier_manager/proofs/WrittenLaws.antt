@@ -1,14 +1,15 @@
 -- What the cleaning of one copy leaves: the map and the plan, and the copies of the other pages; its own copy is clean.
-use Rattle.std.proofs.Common.{Bool, true, false, ◌≡◌, ℕ, refl, Option, Some, None}
+use Rattle.std.proofs.Common.{Bool, true, false, ◌≡◌, ◌≢◌, ℕ, refl, sym, ap, ◌∙◌, Option, Some, None}
 use Rattle.std.specs.Prelude.{◌==◌}
 use Rattle.tier_map.specs.declared.place.Place.{Place}
 use Rattle.tier_map.specs.declared.place.Place.TheVariants.{Absent, Full, Mini}
-use Rattle.tier_map.specs.Placement.{Agrees}
+use Rattle.tier_map.specs.Placement.{Placement, Agrees}
 use Rattle.page_frame.specs.LineSets.{no_lines}
 use Rattle.tier_rules.specs.Parts.{Parts, dirty_at}
 use Rattle.tier_rules.specs.Tallies.{one_pass}
+use Rattle.tier_rules.specs.Plans.{Plan}
 use Rattle.part_laws.specs.PartData.{dirty_lines, SameOthers}
-use Rattle.tier_pool.specs.Places.{copy_cleaned, stored_unless, frame_marked}
+use Rattle.tier_pool.specs.Places.{copy_cleaned, copy_stored, stored_unless, frame_marked, copy_passed}
 use Rattle.tier_pool.specs.Cleaning.{written_by, copy_written}
 use Rattle.tier_pool.proofs.StoringLaws.{cleaned_others, cleaned_marks}
 use Rattle.tier_pool.proofs.RoomLaws.{stored_clean}

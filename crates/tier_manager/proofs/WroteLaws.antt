@@ -1,5 +1,5 @@
 -- A line that is written behind its touch: what the tiers keep, and what the facts become.
-use Rattle.std.proofs.Common.{◌≡◌, ℕ, ◌<◌, sym, ap, ◌∙◌, subst}
+use Rattle.std.proofs.Common.{◌≡◌, ℕ, ◌<◌, refl, sym, ap, ◌∙◌, subst}
 use Rattle.std.specs.Prelude.{None}
 use Rattle.std.proofs.lemmas.List.{get_or-replicate}
 use Rattle.nvm_model.specs.declared.line.Line.{Line}
@@ -8,7 +8,7 @@ use Rattle.device_calls.specs.Leads.{Given}
 use Rattle.tier_map.specs.declared.place.Place.{Place}
 use Rattle.tier_map.specs.declared.place.Place.TheVariants.{Absent}
 use Rattle.tier_facts.specs.Data.{SameData, put_in}
-use Rattle.tier_facts.specs.Facts.{Aim, Hard, IsLoose, FactsWith}
+use Rattle.tier_facts.specs.Facts.{Aim, Facts, Hard, IsLoose, FactsWith}
 use Rattle.page_frame.specs.Frames.{line_at}
 use Rattle.tier_rules.specs.Parts.{Parts, copy_at, copy_line}
 use Rattle.tier_pool.specs.declared.pool.TierPool.{TierPool}

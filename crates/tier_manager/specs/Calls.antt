@@ -2,10 +2,8 @@
 use Rattle.std.specs.Prelude.{◌≡◌, ℕ, ◌<◌, true, Result, OnOk}
 use Rattle.devices.specs.World.{Standing}
 use Rattle.line_pages.specs.declared.stop.Stop.{Stop}
-use Rattle.nvm_model.specs.declared.line.Line.{Line}
-use Rattle.device_calls.specs.Leads.{Leads, Looked, Given}
-use Rattle.tier_facts.specs.Facts.{Held, Facts, Hard, IsLoose, FactsWith}
-use Rattle.tier_facts.specs.Reads.{IsCurrentLine}
+use Rattle.device_calls.specs.Leads.{Leads, Looked}
+use Rattle.tier_facts.specs.Facts.{Held, Facts, Hard}
 use Rattle.tier_rules.specs.declared.trace.TraceLine.{TraceLine}
 use Rattle.tier_rules.specs.State.{TierState}
 use Rattle.tier_rules.specs.Step.{Touch}
@@ -28,27 +26,9 @@ LeadsHard before after old new result = Leads Held (Hard (data_of before)) (Hard
 abbrev pub LeadsFacts : {T : Type 0} → Tiers → Tiers → Standing → Standing → Result T Stop → Type 0
 LeadsFacts before after old new result = Leads Held (Facts (data_of before)) (Facts (data_of after)) old new result
 
--- The line that a call answers is the current one, and the facts of the tiers hold behind it.
-abbrev pub LeadsToLine : ℕ → ℕ → Tiers → Tiers → Standing → Standing → Result Line Stop → Type 0
-LeadsToLine page line before after old new result =
-    Leads Held (Hard (data_of before)) (Given (IsCurrentLine page line result) (Hard (data_of after))) old new result
-
-abbrev pub FactsToLine : ℕ → ℕ → Tiers → Tiers → Standing → Standing → Result Line Stop → Type 0
-FactsToLine page line before after old new result =
-    Leads Held (Facts (data_of before)) (Given (IsCurrentLine page line result) (Facts (data_of after))) old new result
-
--- Where the line is loose, a call leads to the facts with this line.
-abbrev pub LeadsWritten : {T : Type 0} → ℕ → ℕ → Line → Tiers → Tiers → Standing → Standing → Result T Stop → Type 0
-LeadsWritten page line value before after old new result =
-    Leads Held (Given (IsLoose page line) (Hard (data_of before))) (FactsWith page line value (data_of after)) old new result
-
-abbrev pub FactsWritten : {T : Type 0} → ℕ → ℕ → Line → Tiers → Tiers → Standing → Standing → Result T Stop → Type 0
-FactsWritten page line value before after old new result =
-    Leads Held (Given (IsLoose page line) (Facts (data_of before))) (FactsWith page line value (data_of after)) old new result
-
 -- What a touch of a line asks: it is a line of a page of the store, the devices are as large, and the tiers are as each call
 -- leaves them.
-pub record MayTouchLine (touch : Touch) (t : Tiers) (d : Standing) : Type 0 where
+pub record MayTouch (touch : Touch) (t : Tiers) (d : Standing) : Type 0 where
   pub fits : Fits t d
   pub page : touch.page < page_count t
   pub line : touch.line < 64
@@ -56,7 +36,7 @@ pub record MayTouchLine (touch : Touch) (t : Tiers) (d : Standing) : Type 0 wher
 
 -- What a touch of a line is, whatever it answers: a stop has its cause, as many blocks are read as fetches are counted, where it
 -- is quiet the devices stay, it tells its line of the trace, it is this step of the rules, and the tiers are again as each call asks.
-pub record TouchesLine {T : Type 0} (step : Touch → TierState → TierState) (touch : Touch) (old new : Tiers) (a b : Standing) (result : Result T Stop) : Type 0 where
+pub record IsTouch {T : Type 0} (step : Touch → TierState → TierState) (touch : Touch) (old new : Tiers) (a b : Standing) (result : Result T Stop) : Type 0 where
   pub call : pool.Calls a b result
   pub reads : OnOk result (CountsFetches old new a b)
   pub looked : is_quiet old touch.page touch.line ≡ true → Looked a b result

@@ -1,6 +1,8 @@
 -- A touch of one line, by the fields.
-use Rattle.std.specs.Prelude.{◌≡◌, ℕ, ⊤, Bool, true, false, nat_lt, IsTrue, Option, Some, None}
+use Rattle.std.specs.Prelude.{◌≡◌, ℕ, ◌<◌, ⊤, Bool, true, false, nat_lt, IsTrue, Option, Some, None, Result, IfOk}
 use Rattle.nvm_model.specs.declared.line.Line.{Line}
+use Rattle.devices.specs.World.{Standing}
+use Rattle.line_pages.specs.declared.stop.Stop.{Stop}
 use Rattle.tier_map.specs.declared.place.Place.{Place}
 use Rattle.tier_map.specs.declared.place.Place.TheVariants.{Absent, Full, Mini}
 use Rattle.page_frame.specs.LineSets.{has_line, line_count}

@@ -1,5 +1,5 @@
 //! The tiers: a pool and what is told of it.
-ghost use Rattle.std.specs.Prelude.{◌≡◌, ◌+◌, IfOk, None, length};
+ghost use Rattle.std.specs.Prelude.{◌≡◌, ◌+◌, ◌<◌, IfOk, IfSome, None, length};
 ghost use Rattle.store_model.specs.Layout.{pages};
 ghost use Rattle.nvm_layout.specs.Sizes.{sizes_of};
 ghost use Rattle.tier_rules.specs.Plans.{plan_of};
@@ -28,7 +28,7 @@ pub struct Tiers {
 }
 
 impl Tiers {
-    ghost use Rattle.tier_manager.specs.Fields.{parts_of, AreFor, SameSizes};
+    ghost use Rattle.tier_manager.specs.Fields.{parts_of, data_of, AreFor, SameSizes};
     ghost use Rattle.tier_manager.specs.Steady.{IsSteady};
     ghost use Rattle.tier_manager.specs.Rules.{FollowsRule};
     ghost use Rattle.tier_manager.specs.Telling.{told_of, telling_of, nothing_told, log_reads_told};
@@ -59,6 +59,15 @@ impl Tiers {
             pool: TierPool::new(alloc, geometry, policy, words)?,
             trace: Trace::new(alloc, geometry, trace)?,
         })
+    }
+
+    /// The frame of the NVM in which a page is, if it is in one.
+    pub fn frame(&self, page: u64) -> Option<u32>
+        requires { page < pages (data_of self.now).sizes }
+        ensures frame { result ≡ (data_of self.now).frame page }
+        ensures within { IfSome result (λ frame. frame < (data_of self.now).sizes.frames) }
+    {
+        self.pool.frame(page)
     }
 
     /// What was counted since the tiers were made.

@@ -1,7 +1,9 @@
 //! The touch of a line: it is read, made ready to be written, or written.
 ghost use Rattle.std.specs.Prelude.{◌≡◌, ℕ, ◌<◌, ◌≤◌, IfOk, OnOk, IfSome, IsSome, None, true, false};
 ghost use Rattle.line_pages.specs.Lines.{IsLine};
-ghost use Rattle.device_calls.specs.Leads.{Looked};
+ghost use Rattle.device_calls.specs.Leads.{Leads, Looked, Given};
+ghost use Rattle.tier_facts.specs.Facts.{Held, Facts, Hard, IsLoose, FactsWith};
+ghost use Rattle.tier_facts.specs.Reads.{IsCurrentLine};
 ghost use Rattle.tier_rules.specs.Parts.{copy_line};
 ghost use Rattle.tier_rules.specs.Runs.{read_of, write_of};
 ghost use Rattle.tier_rules.specs.Step.{ready_step, tier_step};
@@ -9,8 +11,8 @@ ghost use Rattle.tier_pool.specs.Calls.{Calls};
 ghost use Rattle.tier_pool.specs.Bringing.{FetchedInto};
 ghost use Rattle.tier_pool.specs.Standing.{IsSteady as AreSteady};
 ghost use Rattle.tier_pool.specs.Touching.{LoadedToFull, promoted};
-ghost use Rattle.tier_manager.specs.Calls.{Fits, LeadsHard, LeadsFacts, LeadsToLine, FactsToLine, LeadsWritten, FactsWritten, MayTouchLine, TouchesLine};
-ghost use Rattle.tier_manager.specs.Fields.{parts_of, page_count, policy_of, access_of, CountsFetches, SameSizes};
+ghost use Rattle.tier_manager.specs.Calls.{Fits, LeadsHard, LeadsFacts, MayTouch, IsTouch};
+ghost use Rattle.tier_manager.specs.Fields.{parts_of, data_of, page_count, policy_of, access_of, CountsFetches, SameSizes};
 ghost use Rattle.tier_manager.specs.Quiet.{is_quiet};
 ghost use Rattle.tier_manager.specs.Steady.{IsSteady, LiesAt};
 ghost use Rattle.tier_manager.specs.Telling.{telling_of, line_of, touch_of, touch_told, Tells};
@@ -38,21 +40,21 @@ fn touch_told(page: u64, line: usize, writes: bool) -> TraceLine
 }
 
 impl Tiers {
-    /// The current line of a page, counted from 0 to 63: a touch for reading. An access of the page begins, or goes on where one for
-    /// reading is open. A stop names the device on which a call failed.
+    /// The current line.
     pub fn read_line<D: Devices>(
         &mut self,
         dev: &mut D,
         page: u64,
         line: usize,
     ) -> Result<Line, Stop>
-        requires { MayTouchLine (read_of page line) self.old (D.standing dev.old) }
-        ensures touch { TouchesLine tier_step (read_of page line) self.old self.new
+        requires { MayTouch (read_of page line) self.old (D.standing dev.old) }
+        ensures touch { IsTouch tier_step (read_of page line) self.old self.new
             (D.standing dev.old) (D.standing dev.new) result }
-        ensures leads { LeadsToLine page line self.old self.new
+        ensures leads { Leads Held (Hard (data_of self.old))
+            (Given (IsCurrentLine page line result) (Hard (data_of self.new)))
             (D.standing dev.old) (D.standing dev.new) result }
-        ensures quiet { is_quiet self.old page line ≡ true
-            → FactsToLine page line self.old self.new
+        ensures quiet { is_quiet self.old page line ≡ true → Leads Held (Facts (data_of self.old))
+            (Given (IsCurrentLine page line result) (Facts (data_of self.new)))
             (D.standing dev.old) (D.standing dev.new) result }
         ensures is_line { IfOk result IsLine }
         ensures touched { OnOk result (
@@ -61,21 +63,21 @@ impl Tiers {
         self.current_line(dev, page, line, false)
     }
 
-    /// The line is ready to be written: the touch for writing, up to the new value. The answer is the current line, as it is
-    /// before the write. A stop names the device on which a call failed.
+    /// The line is ready to be written: its access stands open. The answer is the current line.
     pub fn ready_line<D: Devices>(
         &mut self,
         dev: &mut D,
         page: u64,
         line: usize,
     ) -> Result<Line, Stop>
-        requires { MayTouchLine (write_of page line) self.old (D.standing dev.old) }
-        ensures touch { TouchesLine ready_step (write_of page line) self.old self.new
+        requires { MayTouch (write_of page line) self.old (D.standing dev.old) }
+        ensures touch { IsTouch ready_step (write_of page line) self.old self.new
             (D.standing dev.old) (D.standing dev.new) result }
-        ensures leads { LeadsToLine page line self.old self.new
+        ensures leads { Leads Held (Hard (data_of self.old))
+            (Given (IsCurrentLine page line result) (Hard (data_of self.new)))
             (D.standing dev.old) (D.standing dev.new) result }
-        ensures quiet { is_quiet self.old page line ≡ true
-            → FactsToLine page line self.old self.new
+        ensures quiet { is_quiet self.old page line ≡ true → Leads Held (Facts (data_of self.old))
+            (Given (IsCurrentLine page line result) (Facts (data_of self.new)))
             (D.standing dev.old) (D.standing dev.new) result }
         ensures is_line { IfOk result IsLine }
         ensures touched { OnOk result (
@@ -84,8 +86,7 @@ impl Tiers {
         self.current_line(dev, page, line, true)
     }
 
-    /// The line has this value: the touch for writing, and in the copy the line is dirty. A page without a copy has its line stored in
-    /// its frame, durable, which is dirty then. A stop names the device on which a call failed.
+    /// The line has this value.
     pub fn write_line<D: Devices>(
         &mut self,
         dev: &mut D,
@@ -93,13 +94,15 @@ impl Tiers {
         line: usize,
         value: &Line,
     ) -> Result<(), Stop>
-        requires { MayTouchLine (write_of page line) self.old (D.standing dev.old) }
-        ensures touch { TouchesLine tier_step (write_of page line) self.old self.new
+        requires { MayTouch (write_of page line) self.old (D.standing dev.old) }
+        ensures touch { IsTouch tier_step (write_of page line) self.old self.new
             (D.standing dev.old) (D.standing dev.new) result }
-        ensures leads { LeadsWritten page line value.now self.old self.new
+        ensures leads { Leads Held (Given (IsLoose page line) (Hard (data_of self.old)))
+            (FactsWith page line value.now (data_of self.new))
             (D.standing dev.old) (D.standing dev.new) result }
         ensures quiet { is_quiet self.old page line ≡ true
-            → FactsWritten page line value.now self.old self.new
+            → Leads Held (Given (IsLoose page line) (Facts (data_of self.old)))
+            (FactsWith page line value.now (data_of self.new))
             (D.standing dev.old) (D.standing dev.new) result }
         ensures written { OnOk result (
             Wrote page line value.now (parts_of self.old) (parts_of self.new)) }
@@ -132,10 +135,11 @@ impl Tiers {
             CountsFetches self.old self.new (D.standing dev.old) (D.standing dev.new)) }
         ensures looked { is_quiet self.old page line ≡ true
             → Looked (D.standing dev.old) (D.standing dev.new) result }
-        ensures leads { LeadsToLine page line self.old self.new
+        ensures leads { Leads Held (Hard (data_of self.old))
+            (Given (IsCurrentLine page line result) (Hard (data_of self.new)))
             (D.standing dev.old) (D.standing dev.new) result }
-        ensures quiet { is_quiet self.old page line ≡ true
-            → FactsToLine page line self.old self.new
+        ensures quiet { is_quiet self.old page line ≡ true → Leads Held (Facts (data_of self.old))
+            (Given (IsCurrentLine page line result) (Facts (data_of self.new)))
             (D.standing dev.old) (D.standing dev.new) result }
         ensures is_line { IfOk result IsLine }
         ensures touched { OnOk result (

@@ -25,4 +25,3 @@ pub mod SteadySteps
 pub mod SteadyRooms
 pub mod SteadyLaws
 pub mod SteadyOpening
-pub mod MadeData

@@ -17,13 +17,6 @@ use Rattle.tier_pool.specs.Handing.{AreWhole}
 pub record OverFrames (m : Placement) : Type 0 where
   pub frame : (page j : ℕ) → m.place page ≡ Mini j → (k : ℕ) × (m.nvm page ≡ Some k)
 
--- the clock knows the frames that have a page, and the full places
-abbrev pub FramesStand : Parts → Type 0
-FramesStand parts = Clocked parts.nvm_clock parts.map.frame_page
-
-abbrev pub FullsStand : Parts → Type 0
-FullsStand parts = Clocked parts.full_clock parts.map.full_page
-
 -- The clocks know the places that have a page, and a mini copy lies over a frame.
 pub record IsStanding (parts : Parts) : Type 0 where
   pub fulls : Clocked parts.full_clock parts.map.full_page

@@ -5,9 +5,10 @@ ghost use Rattle.device_calls.specs.Leads.{Looked};
 ghost use Rattle.store_model.specs.Layout.{pages, page_block};
 ghost use Rattle.nvm_layout.specs.Sizes.{sizes_of};
 ghost use Rattle.clock_sweep.specs.Clock.{lowest_empty, victim};
+ghost use Rattle.tier_rules.specs.Sound.{Clocked};
 ghost use Rattle.tier_pool.specs.Fields.{parts_of, SameSizes};
 ghost use Rattle.tier_pool.specs.Bringing.{full_placed, mini_placed, block_fetched, place_filled, placed_at, copied_to, BroughtTo, Brought, dram_room, IsFree, fetched_to_frame, fetched_to_nvm, brought_through, FetchedInto, mini_given_up, mini_left, mini_swept, mini_swept_left, mini_room};
-ghost use Rattle.tier_pool.specs.Standing.{FramesStand, FullsStand, IsStanding, IsBare, IsSteady};
+ghost use Rattle.tier_pool.specs.Standing.{IsStanding, IsBare, IsSteady};
 ghost use Rattle.tier_pool.specs.Places.{IsPlace};
 ghost use Rattle.tier_pool.specs.FullRoom.{full_room};
 ghost use Rattle.tier_pool.specs.Calls.{Fits, Calls, Stores, FetchesCounted};
@@ -109,7 +110,7 @@ impl TierPool {
     fn evict_mini<D: Devices>(&mut self, dev: &mut D) -> Result<u32, Stop>
         requires fits { Fits self.old.geometry (D.standing dev.old) }
         requires some { 1 ≤ self.old.policy.minis }
-        requires all_stand { lowest_empty (parts_of self.old).mini_clock ≡ None }
+        requires all_stand { lowest_empty self.old.mini_clock ≡ None }
         ensures call { Stores (D.standing dev.old) (D.standing dev.new) result }
         ensures leads { LeadsHard self.old self.new
             (D.standing dev.old) (D.standing dev.new) result }
@@ -127,7 +128,7 @@ impl TierPool {
     /// The victim of the clock of mini places.
     fn sweep_minis(&mut self) -> u32
         requires some { 1 ≤ self.old.policy.minis }
-        requires all_stand { lowest_empty (parts_of self.old).mini_clock ≡ None }
+        requires all_stand { lowest_empty self.old.mini_clock ≡ None }
         ensures swept { let parts = parts_of self.old in
             mini_swept (victim parts.mini_clock) parts
             ≡ record { place = result; parts = parts_of self.new } }
@@ -198,7 +199,7 @@ impl TierPool {
         requires fits { Fits self.old.geometry (D.standing dev.old) }
         requires page { page < pages (sizes_of self.old.geometry) }
         requires some { 1 ≤ self.old.geometry.frames }
-        requires clocked { FramesStand (parts_of self.old) }
+        requires clocked { Clocked self.old.nvm_clock (parts_of self.old).map.frame_page }
         requires homeless { (parts_of self.old).map.nvm page ≡ None }
         ensures call { Calls (D.standing dev.old) (D.standing dev.new) result }
         ensures leads { (parts_of self.old).map.place page ≡ Place.Absent
@@ -237,8 +238,8 @@ impl TierPool {
     pub fn bring_past<D: Devices>(&mut self, dev: &mut D, page: u64) -> Result<Place, Stop>
         requires fits { Fits self.old.geometry (D.standing dev.old) }
         requires page { page < pages (sizes_of self.old.geometry) }
-        requires frames { FramesStand (parts_of self.old) }
-        requires fulls { FullsStand (parts_of self.old) }
+        requires frames { Clocked self.old.nvm_clock (parts_of self.old).map.frame_page }
+        requires fulls { Clocked self.old.full_clock (parts_of self.old).map.full_page }
         requires absent { (parts_of self.old).map.place page ≡ Place.Absent }
         ensures call { Calls (D.standing dev.old) (D.standing dev.new) result }
         ensures leads { IsSteady (parts_of self.old) → (parts_of self.old).map.nvm page ≡ None
@@ -259,7 +260,7 @@ impl TierPool {
     /// Room for a copy over a frame: a mini place, or a full one where there are no mini places.
     fn room_in_dram<D: Devices>(&mut self, dev: &mut D) -> Result<Place, Stop>
         requires fits { Fits self.old.geometry (D.standing dev.old) }
-        requires frames { FramesStand (parts_of self.old) }
+        requires frames { Clocked self.old.nvm_clock (parts_of self.old).map.frame_page }
         ensures call { Stores (D.standing dev.old) (D.standing dev.new) result }
         ensures leads { AreWhole (parts_of self.old)
             → LeadsHard self.old self.new (D.standing dev.old) (D.standing dev.new) result }

@@ -3,12 +3,12 @@ ghost use Rattle.std.specs.Prelude.{◌≡◌, ◌≢◌, ◌<◌, ◌≤◌, If
 ghost use Rattle.store_model.specs.Layout.{pages};
 ghost use Rattle.nvm_layout.specs.Sizes.{sizes_of};
 ghost use Rattle.clock_sweep.specs.Clock.{lowest_empty, victim};
+ghost use Rattle.tier_rules.specs.Sound.{Clocked};
 ghost use Rattle.tier_pool.specs.Fields.{parts_of, SameSizes};
 ghost use Rattle.tier_pool.specs.FullRoom.{drawn, drawn_if, admitted, moved_down, moved_by, handed_down, full_dirty_at, full_left, full_swept, full_swept_left, full_room};
 ghost use Rattle.tier_pool.specs.NvmRoom.{page_installed};
 ghost use Rattle.tier_pool.specs.Places.{copy_cleaned};
 ghost use Rattle.tier_pool.specs.Calls.{Fits, Stores};
-ghost use Rattle.tier_pool.specs.Standing.{FramesStand};
 ghost use Rattle.tier_pool.specs.Storing.{LeadsHard};
 ghost use Rattle.tier_pool.specs.Handing.{StandsWhole, StandsAt, AreWhole};
 
@@ -25,7 +25,7 @@ impl TierPool {
     /// Room for a full copy: the lowest empty place, or else that of a victim, which is evicted.
     pub fn room_in_full<D: Devices>(&mut self, dev: &mut D) -> Result<u32, Stop>
         requires fits { Fits self.old.geometry (D.standing dev.old) }
-        requires clocked { FramesStand (parts_of self.old) }
+        requires clocked { Clocked self.old.nvm_clock (parts_of self.old).map.frame_page }
         ensures call { Stores (D.standing dev.old) (D.standing dev.new) result }
         ensures leads { AreWhole (parts_of self.old)
             → LeadsHard self.old self.new (D.standing dev.old) (D.standing dev.new) result }
@@ -43,8 +43,8 @@ impl TierPool {
     /// The victim's copy is dropped.
     fn evict_full<D: Devices>(&mut self, dev: &mut D) -> Result<u32, Stop>
         requires fits { Fits self.old.geometry (D.standing dev.old) }
-        requires clocked { FramesStand (parts_of self.old) }
-        requires all_stand { lowest_empty (parts_of self.old).full_clock ≡ None }
+        requires clocked { Clocked self.old.nvm_clock (parts_of self.old).map.frame_page }
+        requires all_stand { lowest_empty self.old.full_clock ≡ None }
         ensures call { Stores (D.standing dev.old) (D.standing dev.new) result }
         ensures leads { AreWhole (parts_of self.old)
             → LeadsHard self.old self.new (D.standing dev.old) (D.standing dev.new) result }
@@ -61,12 +61,12 @@ impl TierPool {
 
     /// The victim of the clock of full places.
     fn sweep_full(&mut self) -> u32
-        requires all_stand { lowest_empty (parts_of self.old).full_clock ≡ None }
+        requires all_stand { lowest_empty self.old.full_clock ≡ None }
         ensures swept { let parts = parts_of self.old in
             full_swept (victim parts.full_clock) parts
             ≡ record { place = result; parts = parts_of self.new } }
         ensures within { result < self.new.policy.dram_frames }
-        ensures frames { (parts_of self.new).nvm_clock ≡ (parts_of self.old).nvm_clock }
+        ensures frames { self.new.nvm_clock ≡ self.old.nvm_clock }
         ensures map { (parts_of self.new).map ≡ (parts_of self.old).map }
         ensures same { SameSizes self.old self.new }
     {
@@ -78,7 +78,7 @@ impl TierPool {
     /// The page of a full place, if there is one, leaves it.
     fn leave_full<D: Devices>(&mut self, dev: &mut D, full: u32) -> Result<(), Stop>
         requires fits { Fits self.old.geometry (D.standing dev.old) }
-        requires clocked { FramesStand (parts_of self.old) }
+        requires clocked { Clocked self.old.nvm_clock (parts_of self.old).map.frame_page }
         requires full { full < self.old.policy.dram_frames }
         ensures call { Stores (D.standing dev.old) (D.standing dev.new) result }
         ensures leads { AreWhole (parts_of self.old)
@@ -100,7 +100,7 @@ impl TierPool {
     /// Where the lines of a full copy go: to its page's frame, to a new one, to the home block, or nowhere.
     fn hand_down<D: Devices>(&mut self, dev: &mut D, page: u64, full: u32) -> Result<(), Stop>
         requires fits { Fits self.old.geometry (D.standing dev.old) }
-        requires clocked { FramesStand (parts_of self.old) }
+        requires clocked { Clocked self.old.nvm_clock (parts_of self.old).map.frame_page }
         requires full { full < self.old.policy.dram_frames }
         requires page { page < pages (sizes_of self.old.geometry) }
         ensures call { Stores (D.standing dev.old) (D.standing dev.new) result }
@@ -119,7 +119,7 @@ impl TierPool {
     /// A page without a frame is admitted to NVM, passes through where it is dirty, or is left.
     fn admit_or_pass<D: Devices>(&mut self, dev: &mut D, page: u64, full: u32) -> Result<(), Stop>
         requires fits { Fits self.old.geometry (D.standing dev.old) }
-        requires clocked { FramesStand (parts_of self.old) }
+        requires clocked { Clocked self.old.nvm_clock (parts_of self.old).map.frame_page }
         requires full { full < self.old.policy.dram_frames }
         requires page { page < pages (sizes_of self.old.geometry) }
         requires homeless { (parts_of self.old).map.nvm page ≡ None }
@@ -156,7 +156,7 @@ impl TierPool {
             ≡ record { yes = result; parts = parts_of self.new } }
         ensures some { result ≡ true → 1 ≤ self.new.geometry.frames }
         ensures map { (parts_of self.new).map ≡ (parts_of self.old).map }
-        ensures frames { (parts_of self.new).nvm_clock ≡ (parts_of self.old).nvm_clock }
+        ensures frames { self.new.nvm_clock ≡ self.old.nvm_clock }
         ensures same { SameSizes self.old self.new }
     {
         if self.geometry.frames == 0 {
@@ -173,7 +173,7 @@ impl TierPool {
         ensures answer { drawn_if dirty (parts_of self.old)
             ≡ record { yes = result; parts = parts_of self.new } }
         ensures map { (parts_of self.new).map ≡ (parts_of self.old).map }
-        ensures frames { (parts_of self.new).nvm_clock ≡ (parts_of self.old).nvm_clock }
+        ensures frames { self.new.nvm_clock ≡ self.old.nvm_clock }
         ensures same { SameSizes self.old self.new }
     {
         if dirty {
@@ -188,7 +188,7 @@ impl TierPool {
         ensures answer { drawn question (parts_of self.old)
             ≡ record { yes = result; parts = parts_of self.new } }
         ensures map { (parts_of self.new).map ≡ (parts_of self.old).map }
-        ensures frames { (parts_of self.new).nvm_clock ≡ (parts_of self.old).nvm_clock }
+        ensures frames { self.new.nvm_clock ≡ self.old.nvm_clock }
         ensures same { SameSizes self.old self.new }
     {
         self.policy.decide(&mut self.draws, question)
@@ -204,7 +204,7 @@ impl TierPool {
     ) -> Result<(), Stop>
         requires fits { Fits self.old.geometry (D.standing dev.old) }
         requires some { 1 ≤ self.old.geometry.frames }
-        requires clocked { FramesStand (parts_of self.old) }
+        requires clocked { Clocked self.old.nvm_clock (parts_of self.old).map.frame_page }
         requires full { full < self.old.policy.dram_frames }
         requires page { page < pages (sizes_of self.old.geometry) }
         requires homeless { (parts_of self.old).map.nvm page ≡ None }

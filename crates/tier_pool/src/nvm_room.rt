@@ -41,7 +41,7 @@ impl TierPool {
     fn evict_frame<D: Devices>(&mut self, dev: &mut D) -> Result<u32, Stop>
         requires fits { Fits self.old.geometry (D.standing dev.old) }
         requires some { 1 ≤ self.old.geometry.frames }
-        requires all_stand { lowest_empty (parts_of self.old).nvm_clock ≡ None }
+        requires all_stand { lowest_empty self.old.nvm_clock ≡ None }
         ensures call { Stores (D.standing dev.old) (D.standing dev.new) result }
         ensures leads { LeadsHard self.old self.new
             (D.standing dev.old) (D.standing dev.new) result }
@@ -59,7 +59,7 @@ impl TierPool {
     /// The victim of the clock of frames.
     fn sweep_frames(&mut self) -> u32
         requires some { 1 ≤ self.old.geometry.frames }
-        requires all_stand { lowest_empty (parts_of self.old).nvm_clock ≡ None }
+        requires all_stand { lowest_empty self.old.nvm_clock ≡ None }
         ensures swept { let parts = parts_of self.old in
             frame_swept (victim parts.nvm_clock) parts
             ≡ record { place = result; parts = parts_of self.new } }

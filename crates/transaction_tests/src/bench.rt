@@ -2,9 +2,8 @@
 ghost use Rattle.std.specs.Prelude.{◌≡◌, ◌≤◌, ◌<◌, ◌+◌, ◌^◌, true, false, OnOk, IfOk};
 ghost use Rattle.transactions.specs.OpenStore.{account};
 ghost use Rattle.transactions.specs.StoreStanding.{IsReady, book_sizes, reach};
-ghost use Rattle.transactions.specs.StoreCalls.{NextWrite};
 
-use crate::worlds::{Broken, Untold, small, start};
+use crate::worlds::{Untold, small, start};
 use devices::{Devices, Fault};
 use line_pages::{LineSet, Pages};
 use migration_policy::Policy;
@@ -12,6 +11,7 @@ use nvm_layout::Super;
 use nvm_log::Log;
 use nvm_model::Line;
 use std::alloc::Global;
+use std::test::Fail;
 use tier_manager::Tiers;
 use transactions::{Book, Store};
 
@@ -32,14 +32,14 @@ pub(crate) struct Bench {
 }
 
 /// A book of the small store, with an empty log.
-fn opened(alloc: Global, policy: &Policy, dev: &Untold) -> Result<Book, Broken>
+fn opened(alloc: Global, policy: &Policy, dev: &Untold) -> Result<Book, Fail>
     ensures ready { IfOk result (λ book. IsReady book (⟦<Untold as Devices>⟧.standing dev.now)) }
     ensures writes { IfOk result (λ book. (book_sizes book).writes ≡ 8) }
     ensures low { IfOk result (λ book. reach book ≡ 0) }
 {
     let geometry = small();
     if dev.nvm_lines() < geometry.nvm_lines() || dev.ssd_blocks() < geometry.ssd_blocks() {
-        return Err(Broken::Condition);
+        return Err("the store is larger")?;
     }
     let tiers = Tiers::new(alloc, &geometry, policy, &[0; 2], true)?;
     let loose = LineSet::new(alloc, 10)?;
@@ -53,7 +53,7 @@ fn opened(alloc: Global, policy: &Policy, dev: &Untold) -> Result<Book, Broken>
     Ok(Book::new(tiers, log, loose, &geometry))
 }
 
-fn begin(book: &mut Book, dev: &mut Untold) -> Result<(), Broken>
+fn begin(book: &mut Book, dev: &mut Untold) -> Result<(), Fail>
     requires ready { IsReady book.old (⟦<Untold as Devices>⟧.standing dev.old) }
     requires closed { (account book.old).is_open ≡ false }
     requires low { reach book.old ≤ 2 ^ 61 }
@@ -73,7 +73,7 @@ fn write(
     page: u64,
     line: usize,
     value: &Line,
-) -> Result<(), Broken>
+) -> Result<(), Fail>
     requires ready { IsReady book.old (⟦<Untold as Devices>⟧.standing dev.old) }
     requires room { 1 ≤ (account book.old).room }
     ensures ready { OnOk result (IsReady book.new (⟦<Untold as Devices>⟧.standing dev.new)) }
@@ -83,13 +83,13 @@ fn write(
 {
     let mut store = Store::over(book, dev);
     if page >= store.page_count() || line >= 64 {
-        return Err(Broken::Condition);
+        return Err("no such line")?;
     }
     store.write_line(page, line, value)?;
     Ok(())
 }
 
-fn read(book: &mut Book, dev: &mut Untold, page: u64, line: usize) -> Result<Line, Broken>
+fn read(book: &mut Book, dev: &mut Untold, page: u64, line: usize) -> Result<Line, Fail>
     requires ready { IsReady book.old (⟦<Untold as Devices>⟧.standing dev.old) }
     ensures ready { OnOk result (IsReady book.new (⟦<Untold as Devices>⟧.standing dev.new)) }
     ensures sizes { book_sizes book.new ≡ book_sizes book.old }
@@ -98,7 +98,7 @@ fn read(book: &mut Book, dev: &mut Untold, page: u64, line: usize) -> Result<Lin
 {
     let mut store = Store::over(book, dev);
     if page >= store.page_count() || line >= 64 {
-        return Err(Broken::Condition);
+        return Err("no such line")?;
     }
     Ok(store.read_line(page, line)?)
 }
@@ -108,14 +108,15 @@ fn next_write(book: &mut Book, dev: &mut Untold)
     requires is_open { (account book.old).is_open ≡ true }
     requires more { (account book.old).accepted < (book_sizes book.old).writes }
     ensures ready { IsReady book.new (⟦<Untold as Devices>⟧.standing dev.new) }
-    ensures next { NextWrite book.old book.new }
+    ensures sizes { book_sizes book.new ≡ book_sizes book.old }
+    ensures rises { reach book.new ≤ reach book.old + 1921 }
 {
     let mut store = Store::over(book, dev);
     store.next_write();
 }
 
 /// Ends the transaction: it stands, or is taken back.
-fn end(book: &mut Book, dev: &mut Untold, stands: bool) -> Result<(), Broken>
+fn end(book: &mut Book, dev: &mut Untold, stands: bool) -> Result<(), Fail>
     requires ready { IsReady book.old (⟦<Untold as Devices>⟧.standing dev.old) }
     requires is_open { (account book.old).is_open ≡ true }
     ensures ready { OnOk result (IsReady book.new (⟦<Untold as Devices>⟧.standing dev.new)) }
@@ -131,7 +132,7 @@ fn end(book: &mut Book, dev: &mut Untold, stands: bool) -> Result<(), Broken>
     Ok(())
 }
 
-fn checkpoint(book: &mut Book, dev: &mut Untold) -> Result<(), Broken>
+fn checkpoint(book: &mut Book, dev: &mut Untold) -> Result<(), Fail>
     requires ready { IsReady book.old (⟦<Untold as Devices>⟧.standing dev.old) }
     requires closed { (account book.old).is_open ≡ false }
     ensures ready { OnOk result (IsReady book.new (⟦<Untold as Devices>⟧.standing dev.new)) }
@@ -144,7 +145,7 @@ fn checkpoint(book: &mut Book, dev: &mut Untold) -> Result<(), Broken>
 }
 
 /// Drains the log, and then cleans so many copies.
-fn drain_and_clean(book: &mut Book, dev: &mut Untold, count: u32) -> Result<(), Broken>
+fn drain_and_clean(book: &mut Book, dev: &mut Untold, count: u32) -> Result<(), Fail>
     requires ready { IsReady book.old (⟦<Untold as Devices>⟧.standing dev.old) }
     ensures ready { OnOk result (IsReady book.new (⟦<Untold as Devices>⟧.standing dev.new)) }
     ensures sizes { book_sizes book.new ≡ book_sizes book.old }
@@ -158,7 +159,7 @@ fn drain_and_clean(book: &mut Book, dev: &mut Untold, count: u32) -> Result<(), 
 
 impl Bench {
     /// The small store over zeros.
-    pub(crate) fn open(alloc: Global, policy: &Policy, fail: &[Fault]) -> Result<Bench, Broken> {
+    pub(crate) fn open(alloc: Global, policy: &Policy, fail: &[Fault]) -> Result<Bench, Fail> {
         let dev = Untold {
             world: start(alloc, fail)?,
             fences: 0,
@@ -172,7 +173,7 @@ impl Bench {
         })
     }
 
-    pub(crate) fn begin(self) -> Result<Bench, Broken> {
+    pub(crate) fn begin(self) -> Result<Bench, Fail> {
         let Bench {
             mut book,
             mut dev,
@@ -180,7 +181,7 @@ impl Bench {
             ..
         } = self;
         if book.is_open() || far > FAR {
-            return Err(Broken::Condition);
+            return Err("it cannot begin")?;
         }
         begin(&mut book, &mut dev)?;
         Ok(Bench {
@@ -191,7 +192,7 @@ impl Bench {
         })
     }
 
-    pub(crate) fn write(self, page: u64, line: usize, value: &Line) -> Result<Bench, Broken> {
+    pub(crate) fn write(self, page: u64, line: usize, value: &Line) -> Result<Bench, Fail> {
         let Bench {
             mut book,
             mut dev,
@@ -199,7 +200,7 @@ impl Bench {
             far,
         } = self;
         if left == 0 {
-            return Err(Broken::Condition);
+            return Err("no room")?;
         }
         write(&mut book, &mut dev, page, line, value)?;
         Ok(Bench {
@@ -210,7 +211,7 @@ impl Bench {
         })
     }
 
-    pub(crate) fn read(self, page: u64, line: usize) -> Result<(Bench, Line), Broken> {
+    pub(crate) fn read(self, page: u64, line: usize) -> Result<(Bench, Line), Fail> {
         let Bench {
             mut book,
             mut dev,
@@ -227,7 +228,7 @@ impl Bench {
         Ok((bench, found))
     }
 
-    pub(crate) fn next_write(self) -> Result<Bench, Broken> {
+    pub(crate) fn next_write(self) -> Result<Bench, Fail> {
         let Bench {
             mut book,
             mut dev,
@@ -235,7 +236,7 @@ impl Bench {
             ..
         } = self;
         if !book.is_open() || book.accepted() >= 8 || far > FAR {
-            return Err(Broken::Condition);
+            return Err("no next write")?;
         }
         next_write(&mut book, &mut dev);
         let left = if book.accepted() == 8 { 0 } else { 640 };
@@ -247,7 +248,7 @@ impl Bench {
         })
     }
 
-    pub(crate) fn end(self, stands: bool) -> Result<Bench, Broken> {
+    pub(crate) fn end(self, stands: bool) -> Result<Bench, Fail> {
         let Bench {
             mut book,
             mut dev,
@@ -255,7 +256,7 @@ impl Bench {
             ..
         } = self;
         if !book.is_open() || far > FAR {
-            return Err(Broken::Condition);
+            return Err("none is open")?;
         }
         end(&mut book, &mut dev, stands)?;
         Ok(Bench {
@@ -266,7 +267,7 @@ impl Bench {
         })
     }
 
-    pub(crate) fn checkpoint(self) -> Result<Bench, Broken> {
+    pub(crate) fn checkpoint(self) -> Result<Bench, Fail> {
         let Bench {
             mut book,
             mut dev,
@@ -274,7 +275,7 @@ impl Bench {
             ..
         } = self;
         if book.is_open() {
-            return Err(Broken::Condition);
+            return Err("one is open")?;
         }
         checkpoint(&mut book, &mut dev)?;
         Ok(Bench {
@@ -285,7 +286,7 @@ impl Bench {
         })
     }
 
-    pub(crate) fn drain_and_clean(self, count: u32) -> Result<Bench, Broken> {
+    pub(crate) fn drain_and_clean(self, count: u32) -> Result<Bench, Fail> {
         let Bench {
             mut book,
             mut dev,

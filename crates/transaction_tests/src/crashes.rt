@@ -9,6 +9,14 @@ use std::alloc::Global;
 use std::process::Abort;
 use std::test::Fail;
 
+/// Each choice of words and each of blocks, in pairs.
+const CHOICES: [(Choice, BlockChoice); 4] = [
+    (Choice::Oldest, BlockChoice::Settled),
+    (Choice::Newest, BlockChoice::Current),
+    (Choice::Alternating, BlockChoice::Alternating),
+    (Choice::Oldest, BlockChoice::Fill(0xA5)),
+];
+
 /// One full page and one mini page in DRAM; pages go each way by turns.
 fn narrow() -> Policy {
     Policy {
@@ -34,92 +42,35 @@ fn written(alloc: Global) -> Result<Bench, Fail> {
 }
 
 /// Up to the call that ends it recovery gives the lines before, and from its answer on those that it wrote where it stands.
-fn stopped(
-    rt: &impl Abort,
-    alloc: Global,
-    stands: bool,
-    words: Choice,
-    blocks: BlockChoice,
-) -> Result<(), Fail> {
+fn stopped(rt: &impl Abort, alloc: Global, stands: bool) -> Result<(), Fail> {
     let bench = written(alloc)?;
     let asked = bench.dev.world.events();
     let bench = bench.end(stands)?;
     let answered = bench.dev.world.events();
+    let bench = bench.checkpoint()?;
     for events in 0..=answered {
-        let mut after = left(alloc, &bench.dev.world, events, words, blocks)?;
-        let found = is_new(&mut after)?;
-        let may_be_old = !stands || events < answered;
-        let may_be_new = stands && events > asked;
-        assert!(rt;
-            (found == Some(false) && may_be_old) || (found == Some(true) && may_be_new),
-            "at {events} of {asked}"
-        );
+        for (words, blocks) in CHOICES {
+            let mut after = left(alloc, &bench.dev.world, events, words, blocks)?;
+            let found = is_new(&mut after)?;
+            let may_be_old = !stands || events < answered;
+            let may_be_new = stands && events > asked;
+            assert!(rt;
+                (found == Some(false) && may_be_old) || (found == Some(true) && may_be_new),
+                "at {events} of {asked}"
+            );
+        }
     }
     Ok(())
 }
 
 #[test]
-fn a_commit_that_leaves_the_oldest_versions(rt: HostRuntime) -> Result<(), Fail> {
-    stopped(&rt, rt.alloc(), true, Choice::Oldest, BlockChoice::Settled)
+fn a_commit_behind_a_ring_that_wrapped(rt: HostRuntime) -> Result<(), Fail> {
+    stopped(&rt, rt.alloc(), true)
 }
 
 #[test]
-fn a_commit_that_leaves_the_newest_versions(rt: HostRuntime) -> Result<(), Fail> {
-    stopped(&rt, rt.alloc(), true, Choice::Newest, BlockChoice::Current)
-}
-
-#[test]
-fn a_commit_that_leaves_versions_by_turns(rt: HostRuntime) -> Result<(), Fail> {
-    stopped(
-        &rt,
-        rt.alloc(),
-        true,
-        Choice::Alternating,
-        BlockChoice::Alternating,
-    )
-}
-
-#[test]
-fn a_commit_that_leaves_torn_blocks(rt: HostRuntime) -> Result<(), Fail> {
-    stopped(
-        &rt,
-        rt.alloc(),
-        true,
-        Choice::Oldest,
-        BlockChoice::Fill(0xA5),
-    )
-}
-
-#[test]
-fn an_abort_that_leaves_the_oldest_versions(rt: HostRuntime) -> Result<(), Fail> {
-    stopped(&rt, rt.alloc(), false, Choice::Oldest, BlockChoice::Settled)
-}
-
-#[test]
-fn an_abort_that_leaves_the_newest_versions(rt: HostRuntime) -> Result<(), Fail> {
-    stopped(&rt, rt.alloc(), false, Choice::Newest, BlockChoice::Current)
-}
-
-#[test]
-fn an_abort_that_leaves_versions_by_turns(rt: HostRuntime) -> Result<(), Fail> {
-    stopped(
-        &rt,
-        rt.alloc(),
-        false,
-        Choice::Alternating,
-        BlockChoice::Alternating,
-    )
-}
-
-#[test]
-fn an_abort_that_leaves_torn_blocks(rt: HostRuntime) -> Result<(), Fail> {
-    stopped(
-        &rt,
-        rt.alloc(),
-        false,
-        Choice::Oldest,
-        BlockChoice::Fill(0xA5),
-    )
+fn an_abort_behind_a_ring_that_wrapped(rt: HostRuntime) -> Result<(), Fail> {
+    stopped(&rt, rt.alloc(), false)
 }
 
 /// The log wraps, and an abort reads the lines of it that stand on the SSD.

@@ -27,14 +27,13 @@ pub(crate) fn value(at: u64) -> Line {
 }
 
 /// Where the log starts, which of its lines stand on the SSD, and its tail.
-#[derive(Clone, Copy)]
 struct Gates {
     start: u64,
     drained: u64,
     tail: u64,
 }
 
-fn read_gates<D: Devices>(dev: &mut D) -> Result<Gates, Fail> {
+fn gates<D: Devices>(dev: &mut D) -> Result<Gates, Fail> {
     if dev.nvm_lines() <= 3 {
         return Err("no gates")?;
     }
@@ -100,7 +99,12 @@ fn is_committed<D: Devices>(dev: &mut D, gates: &Gates) -> Result<bool, Fail> {
 }
 
 /// What recovery gives for the line of a write.
-fn recovered<D: Devices>(dev: &mut D, gates: &Gates, committed: bool, at: u64) -> Result<Line, Fail>
+fn recovered<D: Devices>(
+    dev: &mut D,
+    gates: &Gates,
+    committed: bool,
+    at: u64,
+) -> Result<Line, Fail>
     requires { at < 45 }
 {
     let (page, line) = place(at);
@@ -114,7 +118,7 @@ fn recovered<D: Devices>(dev: &mut D, gates: &Gates, committed: bool, at: u64) -
 
 /// Whether recovery gives the lines that the transaction writes, or those before it. `None` where it gives neither.
 pub(crate) fn is_new<D: Devices>(dev: &mut D) -> Result<Option<bool>, Fail> {
-    let gates = read_gates(dev)?;
+    let gates = gates(dev)?;
     let committed = is_committed(dev, &gates)?;
     let mut new = 0u64;
     for at in 0..LINES {

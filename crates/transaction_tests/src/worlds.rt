@@ -4,43 +4,11 @@ ghost use Rattle.store_model.specs.Layout.{nvm_lines, ssd_blocks};
 ghost use Rattle.nvm_layout.specs.Sizes.{sizes_of};
 
 use devices::{Devices, Failed, Fault, MemWorld};
-use line_pages::Stop;
 use nvm_layout::{Geometry, MAGIC};
-use nvm_model::{Choice, Line, NoMemory};
+use nvm_model::{Choice, Line};
 use ssd_model::{BlockChoice, PageBuf};
 use std::alloc::Global;
 use std::test::Fail;
-
-/// Why a call over a world stopped.
-#[derive(Clone, Copy, Debug, PartialEq, Eq)]
-pub(crate) enum Broken {
-    /// A call of a store stopped.
-    Stop(Stop),
-    /// A device failed while the store was made.
-    Failed,
-    /// There was no memory.
-    NoMemory,
-    /// The call's condition does not hold.
-    Condition,
-}
-
-impl From<Stop> for Broken {
-    fn from(stop: Stop) -> Broken {
-        Broken::Stop(stop)
-    }
-}
-
-impl From<Failed> for Broken {
-    fn from(_failed: Failed) -> Broken {
-        Broken::Failed
-    }
-}
-
-impl From<NoMemory> for Broken {
-    fn from(_error: NoMemory) -> Broken {
-        Broken::NoMemory
-    }
-}
 
 /// A world of whose content nothing is told, so that a store may stand over it as it is. It counts its fences.
 #[derive(Drop)]
@@ -118,13 +86,13 @@ pub(crate) fn fits<D: Devices>(dev: &D, geometry: &Geometry) -> bool
 }
 
 /// A world with an empty log and an empty frame table, and pages of zeros.
-pub(crate) fn start(alloc: Global, fail: &[Fault]) -> Result<MemWorld, Broken> {
+pub(crate) fn start(alloc: Global, fail: &[Fault]) -> Result<MemWorld, Fail> {
     let geometry = small();
     let lines = geometry.nvm_lines();
     let blocks = geometry.ssd_blocks();
     let mut first = MemWorld::new(alloc, lines, blocks, b"", b"", &[])?;
     if first.nvm_lines() == 0 {
-        return Err(Broken::Condition);
+        return Err("no line")?;
     }
     let head = Line {
         words: [MAGIC, 1, 2, 8, 1, 2, 0, 0],

@@ -1,4 +1,4 @@
-use Rattle.std.proofs.Common.{◌≤◌, sym, subst}
+use Rattle.std.proofs.Common.{◌≡◌, ◌≤◌, sym, subst}
 use Rattle.migration_policy.specs.declared.policy.Policy.{Policy}
 use Rattle.tier_rules.specs.Plans.{plan_of}
 use Rattle.tier_rules.specs.Opening.{opened}

@@ -1,4 +1,4 @@
-use Rattle.std.proofs.Common.{inr, ◌<◌, sym, ap, ◌∙◌, subst, refl}
+use Rattle.std.proofs.Common.{inr, ℕ, ◌<◌, sym, ap, ◌∙◌, subst, refl}
 use Rattle.nvm_layout.specs.declared.geometry.Geometry.{Geometry}
 use Rattle.nvm_layout.specs.Sizes.{sizes_of}
 use Rattle.store_model.specs.Layout.{pages}
@@ -10,6 +10,7 @@ use Rattle.tier_pool.proofs.RangeLaws.{nvm_in}
 use Rattle.tier_pool.proofs.SteadyLaws.{full_low, mini_low}
 use Rattle.tier_pool.proofs.WritingLaws.{full_put, mini_put, facts_written}
 use Rattle.tier_manager.specs.Fields.{parts_of}
+use Rattle.tier_manager.proofs.SteadyTouch.{steady_line_written}
 use Rattle.tier_manager.proofs.WroteLaws.{steady_wrote, facts_hard, absent_line}
 use Rattle.tier_manager.specs.Telling.{Telling}
 use Rattle.tier_manager.specs.Touching.{IsCopy}
