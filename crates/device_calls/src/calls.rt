@@ -45,9 +45,8 @@ pub fn read_block<D: Devices>(dev: &mut D, block: u64, into: &mut PageBuf) -> Re
 /// Stores a line of eight words and flushes it; the next fence makes it durable.
 pub fn put_line<D: Devices>(dev: &mut D, line: u64, value: &Line) -> Result<(), Stop>
     requires { line < (D.standing dev.old).lines }
-    ensures made { Made (store_line line value.now ∷ flush line ∷ [])
+    ensures { Made (store_line line value.now ∷ flush line ∷ [])
         (D.standing dev.old) (D.standing dev.new) result }
-    ensures stops { StopsWith Nvm result }
 {
     store_line(dev, line, value)?;
     flush(dev, line)
@@ -57,19 +56,27 @@ pub fn put_line<D: Devices>(dev: &mut D, line: u64, value: &Line) -> Result<(), 
 pub fn put_word<D: Devices>(dev: &mut D, line: u64, word: usize, value: u64) -> Result<(), Stop>
     requires line { line < (D.standing dev.old).lines }
     requires word { word < 8 }
-    ensures made { Made (store_word line word value ∷ flush line ∷ fence ∷ [])
+    ensures { Made (store_word line word value ∷ flush line ∷ fence ∷ [])
         (D.standing dev.old) (D.standing dev.new) result }
-    ensures stops { StopsWith Nvm result }
 {
     store_word(dev, line, word, value)?;
     flush(dev, line)?;
     fence(dev)
 }
 
+/// Writes the 4,096 bytes of a block, durable: a write, a sync.
+pub fn put_block<D: Devices>(dev: &mut D, block: u64, from: &PageBuf) -> Result<(), Stop>
+    requires { block < (D.standing dev.old).blocks }
+    ensures { Made (write_block block from.now ∷ sync ∷ [])
+        (D.standing dev.old) (D.standing dev.new) result }
+{
+    write_block(dev, block, from)?;
+    sync(dev)
+}
+
 /// Makes durable what was flushed.
 pub fn fence<D: Devices>(dev: &mut D) -> Result<(), Stop>
-    ensures made { Made (fence ∷ []) (D.standing dev.old) (D.standing dev.new) result }
-    ensures stops { StopsWith Nvm result }
+    ensures { Made (fence ∷ []) (D.standing dev.old) (D.standing dev.new) result }
 {
     match dev.fence() {
         Ok(()) => Ok(()),
@@ -80,9 +87,7 @@ pub fn fence<D: Devices>(dev: &mut D) -> Result<(), Stop>
 /// Writes the 4,096 bytes of a block; the next sync settles it. After a `Stop` the block holds any bytes.
 pub fn write_block<D: Devices>(dev: &mut D, block: u64, from: &PageBuf) -> Result<(), Stop>
     requires { block < (D.standing dev.old).blocks }
-    ensures made { Made (write_block block from.now ∷ [])
-        (D.standing dev.old) (D.standing dev.new) result }
-    ensures stops { StopsWith Ssd result }
+    ensures { Made (write_block block from.now ∷ []) (D.standing dev.old) (D.standing dev.new) result }
 {
     match dev.write_block(block, from) {
         Ok(()) => Ok(()),
@@ -92,8 +97,7 @@ pub fn write_block<D: Devices>(dev: &mut D, block: u64, from: &PageBuf) -> Resul
 
 /// Settles all blocks.
 pub fn sync<D: Devices>(dev: &mut D) -> Result<(), Stop>
-    ensures made { Made (sync ∷ []) (D.standing dev.old) (D.standing dev.new) result }
-    ensures stops { StopsWith Ssd result }
+    ensures { Made (sync ∷ []) (D.standing dev.old) (D.standing dev.new) result }
 {
     match dev.sync() {
         Ok(()) => Ok(()),
@@ -104,9 +108,7 @@ pub fn sync<D: Devices>(dev: &mut D) -> Result<(), Stop>
 /// Stores a line of eight words.
 fn store_line<D: Devices>(dev: &mut D, line: u64, value: &Line) -> Result<(), Stop>
     requires { line < (D.standing dev.old).lines }
-    ensures made { Made (store_line line value.now ∷ [])
-        (D.standing dev.old) (D.standing dev.new) result }
-    ensures stops { StopsWith Nvm result }
+    ensures { Made (store_line line value.now ∷ []) (D.standing dev.old) (D.standing dev.new) result }
 {
     match dev.store_line(line, value) {
         Ok(()) => Ok(()),
@@ -118,9 +120,7 @@ fn store_line<D: Devices>(dev: &mut D, line: u64, value: &Line) -> Result<(), St
 fn store_word<D: Devices>(dev: &mut D, line: u64, word: usize, value: u64) -> Result<(), Stop>
     requires line { line < (D.standing dev.old).lines }
     requires word { word < 8 }
-    ensures made { Made (store_word line word value ∷ [])
-        (D.standing dev.old) (D.standing dev.new) result }
-    ensures stops { StopsWith Nvm result }
+    ensures { Made (store_word line word value ∷ []) (D.standing dev.old) (D.standing dev.new) result }
 {
     match dev.store_word(line, word, value) {
         Ok(()) => Ok(()),
@@ -131,8 +131,7 @@ fn store_word<D: Devices>(dev: &mut D, line: u64, word: usize, value: u64) -> Re
 /// Flushes a line.
 fn flush<D: Devices>(dev: &mut D, line: u64) -> Result<(), Stop>
     requires { line < (D.standing dev.old).lines }
-    ensures made { Made (flush line ∷ []) (D.standing dev.old) (D.standing dev.new) result }
-    ensures stops { StopsWith Nvm result }
+    ensures { Made (flush line ∷ []) (D.standing dev.old) (D.standing dev.new) result }
 {
     match dev.flush(line) {
         Ok(()) => Ok(()),

@@ -7,4 +7,4 @@
 
 mod calls;
 
-pub use calls::{fence, load, put_line, put_word, read_block, sync, write_block};
+pub use calls::{fence, load, put_block, put_line, put_word, read_block, sync, write_block};

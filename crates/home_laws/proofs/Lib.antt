@@ -10,7 +10,6 @@ pub mod TableLaws
 pub mod SeenLaws
 pub mod GateLaws
 pub mod QuietLaws
-pub mod SteadyLaws
 pub mod UntouchedLaws
 pub mod BlockLaws
 pub mod Examples

@@ -6,20 +6,17 @@ use Rattle.ssd_model.specs.Block.{Block}
 use Rattle.devices.specs.State.{State, Call, after, after_all, word_stored, line_stored, block_written}
 use Rattle.devices.specs.State.Call.{store_word, store_line, flush, fence, write_block, sync}
 use Rattle.store_model.specs.Untouched.{Untouched}
-use Rattle.store_model.specs.Shown.{IsSteadyFenced}
-use Rattle.home_laws.proofs.SteadyLaws.{fence_steady, flush_steady}
 use Rattle.devices.specs.Growth.{IsWithin, AreWithin}
 use Rattle.devices.proofs.StateLaws.{word_stored_other, line_stored_other}
 
 module _ (stores : ℕ → ℕ → ℕ → Type 0) (writes : ℕ → Type 0) where
   Untouched-refl : (s : State) → Untouched stores writes s s
-  Untouched-refl s = record { newest = λ l w h. refl; flushed = λ l w h k. k; steady = λ l w h k. k; bytes = λ n h. refl; settled = λ n h k. k }
+  Untouched-refl s = record { newest = λ l w h. refl; flushed = λ l w h k. k; bytes = λ n h. refl; settled = λ n h k. k }
 
   pub Untouched-trans : (a b c : State) → Untouched stores writes a b → Untouched stores writes b c → Untouched stores writes a c
   Untouched-trans a b c first second = record {
     newest = λ l w h. second.newest l w h ∙ first.newest l w h;
     flushed = λ l w h k. second.flushed l w h (first.flushed l w h k);
-    steady = λ l w h k. second.steady l w h (first.steady l w h k);
     bytes = λ n h. second.bytes n h ∙ first.bytes n h;
     settled = λ n h k. second.settled n h (first.settled n h k);
   }
@@ -29,7 +26,6 @@ module _ (stores : ℕ → ℕ → ℕ → Type 0) (writes : ℕ → Type 0) whe
   same_words s t words blocks = record {
     newest = λ l w h. ap (λ (x : Word). x.newest) (words l w h);
     flushed = λ l w h k. ap (λ (x : Word). x.kept) (words l w h) ∙ k;
-    steady = λ l w h k. subst (λ (x : Word). IsSteadyFenced x) (sym (words l w h)) k;
     bytes = λ n h. ap (λ (x : Block). x.bytes) (blocks n);
     settled = λ n h k. subst (λ (x : Block). IsTrue x.settled) (sym (blocks n)) k;
   }
@@ -58,22 +54,20 @@ module _ (stores : ℕ → ℕ → ℕ → Type 0) (writes : ℕ → Type 0) whe
   call_untouched (flush line) s within = record {
     newest = λ l w h. (flush_word (eqb l line) (s.nvm l w)).0;
     flushed = λ l w h k. (flush_word (eqb l line) (s.nvm l w)).1 k;
-    steady = λ l w h k. flush_steady (eqb l line) (s.nvm l w) k;
     bytes = λ n h. refl;
     settled = λ n h k. k;
   }
-  call_untouched fence s within = record { newest = λ l w h. refl; flushed = λ l w h k. k; steady = λ l w h k. fence_steady (s.nvm l w) k; bytes = λ n h. refl; settled = λ n h k. k }
+  call_untouched fence s within = record { newest = λ l w h. refl; flushed = λ l w h k. k; bytes = λ n h. refl; settled = λ n h k. k }
   call_untouched (write_block block bytes) s within = record {
     newest = λ l w h. refl;
     flushed = λ l w h k. k;
-    steady = λ l w h k. k;
     bytes = λ n h. ap (λ (x : Block). x.bytes) (other n h);
     settled = λ n h k. subst (λ (x : Block). IsTrue x.settled) (sym (other n h)) k;
   }
     where
       other : (n : ℕ) → (writes n → ⊥) → (block_written block bytes s).ssd n ≡ s.ssd n
       other n h = cond-false (eqb n block) _ (s.ssd n) (ne_eqb n block (λ e. h (subst writes (sym e) within)))
-  call_untouched sync s within = record { newest = λ l w h. refl; flushed = λ l w h k. k; steady = λ l w h k. k; bytes = λ n h. refl; settled = λ n h k. refl }
+  call_untouched sync s within = record { newest = λ l w h. refl; flushed = λ l w h k. k; bytes = λ n h. refl; settled = λ n h k. refl }
 
   pub calls_untouched : (calls : List Call) (s : State) → AreWithin stores writes calls → Untouched stores writes s (after_all calls s)
   calls_untouched [] s within = Untouched-refl s

@@ -168,8 +168,8 @@ moved_shows old page is words aim s mid homes same (inr placed) changing facts =
   words = λ p l w word h. placed_gives old page is words aim s mid homes same placed p l w word;
 }
 
-moved_own : {place : Option ℕ} (old new : Option ℕ) (page : ℕ) (calls : List Call) (words : ℕ → ℕ → ℕ) (aim : Aim) (s : State) → Homes aim.sizes old aim s
-    → Places (keeping aim) aim.sizes.frames (entry_of old) (entry_of new) page place words calls s → ((l w : ℕ) → IsWord aim.sizes page l w → words l w ≡ aim.words page l w)
+moved_own : (old new : Option ℕ) (page : ℕ) (calls : List Call) (words : ℕ → ℕ → ℕ) (aim : Aim) (s : State) → Homes aim.sizes old aim s
+    → Places (keeping aim) aim.sizes.frames (entry_of old) (entry_of new) page words calls s → ((l w : ℕ) → IsWord aim.sizes page l w → words l w ≡ aim.words page l w)
     → Steps (KeepsBut no_pairs) (Homes aim.sizes new) calls aim s
 moved_own old new page calls words aim s homes places same = record {
   facts = record {

@@ -18,7 +18,7 @@ use Rattle.store_model.specs.Recovered.{entry_at, any_below, table_check}
 use Rattle.store_model.specs.Checked.{TablePasses}
 use Rattle.home_laws.proofs.TableLaws.{table_passes, table_check-none}
 use Rattle.home_move.proofs.WriteLaws.{at_exit}
-use Rattle.home_move.specs.Table.{AreEntries, AreBelow, HasWord, SeenSo, EntriesSo, LoadsSome, NamesTwice, IsTableEvidence, IsTableStop, TableCause}
+use Rattle.home_move.specs.Table.{AreEntries, AreBelow, HasWord, SeenSo, EntriesSo, NamesTwice, IsTableEvidence, IsTableStop, TableCause}
 
 -- ---- the first check that fails
 
@@ -147,12 +147,12 @@ never_there n m e word has le none = none has.at (let low : has.at < n = has.les
 
 -- ---- the loads
 
-pub entries_none : (words : List ℕ) (a : Standing) → EntriesSo 0 words words a a
-entries_none words a = record { looked = looked_none a; reads = refl; held = λ told. record { each = λ k less. absurd (omega arith) }; rest = λ k above. refl }
+pub entries_none : (words : List ℕ) (a : Standing) → EntriesSo 0 words a a
+entries_none words a = record { looked = looked_none a; reads = refl; held = λ told. record { each = λ k less. absurd (omega arith) } }
 
-pub entries_more : {a b c : Standing} (n : ℕ) (before words : List ℕ) (found : ℕ) → EntriesSo n before words a b → n < length words → Looked {T = ℕ} b c (Ok found) → c.block_reads ≡ b.block_reads
-    → (IsTrue b.told → found ≡ entry_at (current (now b)) n) → EntriesSo (n + 1) before (slice_set words n found) a c
-entries_more {a = a} {b = b} n before words found so less looked reads value = record {
+pub entries_more : {a b c : Standing} (n : ℕ) (words : List ℕ) (found : ℕ) → EntriesSo n words a b → n < length words → Looked {T = ℕ} b c (Ok found) → c.block_reads ≡ b.block_reads
+    → (IsTrue b.told → found ≡ entry_at (current (now b)) n) → EntriesSo (n + 1) (slice_set words n found) a c
+entries_more {a = a} {b = b} n words found so less looked reads value = record {
   looked = looked_then so.looked (looked_ok looked);
   reads = reads ∙ so.reads;
   held = λ told. record {
@@ -162,12 +162,7 @@ entries_more {a = a} {b = b} n before words found so less looked reads value = r
       | inr other ↦ get_or-set_other words n k found 0 other ∙ (so.held told).each k (omega arith)
     ];
   };
-  rest = λ k above. get_or-set_other words n k found 0 (λ same. omega arith) ∙ so.rest k (omega arith);
 }
-
--- so many were loaded, wherever the loads stop
-pub entries_some : {a b : Standing} (n total : ℕ) (before words : List ℕ) → n ≤ total → EntriesSo n before words a b → LoadsSome total before words a
-entries_some n total before words within so = record { count = n; within = within; loaded = so.held; rest = so.rest }
 
 -- ---- why it stops
 

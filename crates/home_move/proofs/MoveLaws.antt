@@ -78,23 +78,16 @@ written {r = r} {a = a} g k page bytes looked reads holds made = record {
 
 pub release_unwritten : {T U V : Type 0} {v : V} {why : Stop} {a b c : Standing} (g : Sizes) (k page block : ℕ) (bytes : List ℕ) (r : Result T Stop) → IsErr r → IsErrAnd r (λ y. y ≡ why)
     → block ≡ page_block g page → Looked {T = V} a b (Ok v) → b.block_reads ≡ a.block_reads → (IsTrue a.told → HoldsFrame g k bytes (now a))
-    → Made {T = U} (write_block block bytes ∷ []) b c (Err why) → Releases g k page true a c r
+    → Made {T = U} (write_block block bytes ∷ sync ∷ []) b c (Err why) → Releases g k page true a c r
 release_unwritten {U = U} {why = why} {b = b} {c = c} g k page block bytes r failed is at looked reads holds made =
     written g k page bytes looked reads holds
-    (made_exit (sync ∷ [] ++ entry_calls k 0) r failed is (subst (λ n. Made {T = U} (write_block n bytes ∷ []) b c (Err why)) at made))
+    (made_exit (entry_calls k 0) r failed is (subst (λ n. Made {T = U} (write_block n bytes ∷ sync ∷ []) b c (Err why)) at made))
 
-pub release_unsettled : {T U V W : Type 0} {v : V} {w : W} {why : Stop} {a b c d : Standing} (g : Sizes) (k page block : ℕ) (bytes : List ℕ) (r : Result T Stop) → IsErr r → IsErrAnd r (λ y. y ≡ why)
+pub release_then : {T U V : Type 0} {v : V} {u : U} {r : Result T Stop} {a b c d : Standing} (g : Sizes) (k page block : ℕ) (bytes : List ℕ)
     → block ≡ page_block g page → Looked {T = V} a b (Ok v) → b.block_reads ≡ a.block_reads → (IsTrue a.told → HoldsFrame g k bytes (now a))
-    → Made {T = W} (write_block block bytes ∷ []) b c (Ok w) → Made {T = U} (sync ∷ []) c d (Err why) → Releases g k page true a d r
-release_unsettled {W = W} {w = w} {b = b} {c = c} g k page block bytes r failed is at looked reads holds made stopped =
-    written g k page bytes looked reads holds
-    (made_exit (entry_calls k 0) r failed is (made_then (subst (λ n. Made {T = W} (write_block n bytes ∷ []) b c (Ok w)) at made) stopped))
-
-pub release_then : {T U V W : Type 0} {v : V} {u : U} {w : W} {r : Result T Stop} {a b c d e : Standing} (g : Sizes) (k page block : ℕ) (bytes : List ℕ)
-    → block ≡ page_block g page → Looked {T = V} a b (Ok v) → b.block_reads ≡ a.block_reads → (IsTrue a.told → HoldsFrame g k bytes (now a))
-    → Made {T = W} (write_block block bytes ∷ []) b c (Ok w) → Made {T = U} (sync ∷ []) c d (Ok u) → Made (entry_calls k 0) d e r → Releases g k page true a e r
-release_then {W = W} {w = w} {b = b} {c = c} g k page block bytes at looked reads holds made settled cleared =
-    written g k page bytes looked reads holds (made_then (made_then (subst (λ n. Made {T = W} (write_block n bytes ∷ []) b c (Ok w)) at made) settled) cleared)
+    → Made {T = U} (write_block block bytes ∷ sync ∷ []) b c (Ok u) → Made (entry_calls k 0) c d r → Releases g k page true a d r
+release_then {U = U} {u = u} {b = b} {c = c} g k page block bytes at looked reads holds made cleared =
+    written g k page bytes looked reads holds (made_then (subst (λ n. Made {T = U} (write_block n bytes ∷ sync ∷ []) b c (Ok u)) at made) cleared)
 
 -- a release without a write
 pub release_clean : {T : Type 0} {r : Result T Stop} {a b : Standing} (g : Sizes) (k page : ℕ) → Made (entry_calls k 0) a b r → Releases g k page false a b r

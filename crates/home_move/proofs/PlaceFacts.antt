@@ -17,10 +17,7 @@ use Rattle.store_model.specs.Install.{entry_calls, install_calls, release_calls,
 use Rattle.store_model.specs.Seen.{CanClear, CanGiveUp, changing_to}
 use Rattle.store_model.specs.Shown.{Placed}
 use Rattle.home_laws.proofs.FactsLaws.{current_leaves, facts_recover}
-use Rattle.home_laws.proofs.SeenLaws.{facts_super, facts_changing, facts_alone}
-use Rattle.home_laws.proofs.InstallLaws.{frame_of-here}
-use Rattle.home_laws.proofs.ReleaseLaws.{frame_of-none}
-use Rattle.std.proofs.lemmas.Bool.{cases_eq}
+use Rattle.home_laws.proofs.SeenLaws.{facts_super, facts_changing}
 use Rattle.home_laws.proofs.InstallFacts.{install_facts, install_done}
 use Rattle.home_laws.proofs.ReleaseFacts.{give_up_facts, give_up_done, release_clean_facts, release_clean_done}
 use Rattle.home_laws.proofs.PlacedFacts.{install_placed, release_placed}
@@ -38,7 +35,7 @@ use Rattle.devices.proofs.DurableLaws.{line_stores}
 use Rattle.nvm_model.specs.Word.{Word, marked}
 use Rattle.home_laws.proofs.ReadyLaws.{give_up_ready, home_framed}
 use Rattle.home_move.specs.Frames.{page_lines, HoldsFrame}
-use Rattle.home_move.specs.Moves.{Releases, release_makes, KeepsPlaced, InstallKeeps, ReleaseKeeps, ClearKeeps, ShowsSame, OthersStay, IsFound, LineStays, LinePlaced, StoreKeeps}
+use Rattle.home_move.specs.Moves.{Releases, release_makes, KeepsPlaced, InstallKeeps, ReleaseKeeps, ClearKeeps, ShowsSame, LineStays, LinePlaced, StoreKeeps}
 use Rattle.home_move.specs.Homes.{AreFlushed}
 use Rattle.home_move.proofs.FlushLaws.{install_flushed, release_flushed, clear_flushed}
 use Rattle.home_move.proofs.ShowLaws.{ReadsOn, amid_on, install_shows, release_shows, clear_shows, shows_itself}
@@ -84,52 +81,28 @@ recovers_still b c s t old still facts same_format same_sizes same before recove
     ∙ sym (facts_recover b s old (current s) (current_leaves s) p l w word) ∙ was
 
 -- What calls that change the place of a page do, for whatever the store keeps.
-pub record Places (b : Bookkeeping) (k was is page : ℕ) (place : Option ℕ) (words : ℕ → ℕ → ℕ) (calls : List Call) (s : State) : Type 0 where
+pub record Places (b : Bookkeeping) (k was is page : ℕ) (words : ℕ → ℕ → ℕ) (calls : List Call) (s : State) : Type 0 where
   pub moments : (mid : State) → Amid s calls mid → StoreFacts (changing_to b (Gate.frame k) was is b.committed) mid
   pub done : StoreFacts b (after_all calls s)
   pub flushed : (known : Pairs) → AreFlushed b.sizes known s → AreFlushed b.sizes known (after_all calls s)
   pub shown : (mid : State) → Amid s calls mid → ShowsSame b.sizes s mid ⊎ Placed b.sizes s mid k is page words
   pub placed : Placed b.sizes s (after_all calls s) k is page words
-  pub found : IsFound b.sizes page place (after_all calls s)
-
--- ---- where the page is found, and what stays
-
-others_stay : (g : Sizes) (s t : State) (k is page : ℕ) (words : ℕ → ℕ → ℕ) → ShowsSame g s t ⊎ Placed g s t k is page words → OthersStay g s t k page
-others_stay g s t k is page words (inl same) = record { super_words = same.super_words; log = same.log; entries = λ n h apart. same.entries n h; homes = λ p l w apart word. same.homes p l w word }
-others_stay g s t k is page words (inr placed) = record { super_words = placed.super_words; log = placed.log; entries = placed.others; homes = placed.other_pages }
-
-others_same : (g : Sizes) (s : State) (k page : ℕ) → OthersStay g s s k page
-others_same g s k page = record { super_words = refl; log = refl; entries = λ n h apart. refl; homes = λ p l w apart word. refl }
-
--- a page that an entry names is found in that frame
-found_in : (b : Bookkeeping) (s : State) → StoreFacts b s → (k page : ℕ) → k ≤ b.sizes.frames → entry_at (current s) k ≡ page + 1 → IsFound b.sizes page (Some k) s
-found_in b s facts k page framed named = frame_of-here (entry_at (current s)) (b.sizes.frames + 1) k page (omega arith) named (λ m less apart. facts_alone b s facts k page framed named m (omega arith) apart)
-
--- and one whose entry was cleared in none
-found_nowhere : (b : Bookkeeping) (s : State) → StoreFacts b s → (t : State) (k page : ℕ) (words : ℕ → ℕ → ℕ) → k ≤ b.sizes.frames → entry_at (current s) k ≡ page + 1 → Placed b.sizes s t k 0 page words
-    → IsFound b.sizes page None t
-found_nowhere b s facts t k page words framed named placed = frame_of-none (entry_at (current t)) (b.sizes.frames + 1) page (λ n less. elim (cases_eq n k) [
-  | inl here ↦ (λ is. let cleared : entry_at (current t) n ≡ 0 = ap (entry_at (current t)) here ∙ placed.here in absurd (omega arith))
-  | inr apart ↦ (λ is. facts_alone b s facts k page framed named n (omega arith) apart (sym (placed.others n (omega arith) apart) ∙ is))
-])
 
 OnOk_map : {T E : Type 0} {P Q : Type 0} (r : Result T E) → (P → Q) → OnOk r P → OnOk r Q
 OnOk_map (Ok v) f p = f p
 OnOk_map (Err e) f p = tt
 
-pub keeps_placed : {T : Type 0} {a d : Standing} {r : Result T Stop} (b : Bookkeeping) (k was is page : ℕ) (place : Option ℕ) (words : ℕ → ℕ → ℕ) (calls : List Call) → MakesAll calls a d r → IsTrue a.told
-    → StoreFacts b (now a) → b.changing ≡ None → Places b k was is page place words calls (now a) → Places (committed_now b (now a)) k was is page place words calls (now a)
-    → KeepsPlaced b k was is page place words a d r
-keeps_placed {a = a} {d = d} {r = r} b k was is page place words calls makes told facts still places recovering = record {
+pub keeps_placed : {T : Type 0} {a d : Standing} {r : Result T Stop} (b : Bookkeeping) (k was is page : ℕ) (words : ℕ → ℕ → ℕ) (calls : List Call) → MakesAll calls a d r → IsTrue a.told
+    → StoreFacts b (now a) → b.changing ≡ None → Places b k was is page words calls (now a) → Places (committed_now b (now a)) k was is page words calls (now a)
+    → KeepsPlaced b k was is page words a d r
+keeps_placed {a = a} {d = d} {r = r} b k was is page words calls makes told facts still places recovering = record {
   moments = Moments-map (λ mid amid. places.moments mid amid) (makes.part told);
   recovers = λ before recovers. Moments-map (λ mid amid.
       recovers_still b (changing_to (committed_now b (now a)) (Gate.frame k) was is (λ n. b.committed (super_of (current (now a))).tail)) (now a) mid facts still (recovering.moments mid amid) refl refl
       (λ n p l w. refl) before recovers) (makes.part told);
-  rest = Moments-map (λ mid amid. others_stay b.sizes (now a) mid k is page words (places.shown mid amid)) (makes.part told);
   shown = Moments-map places.shown (makes.part told);
   facts = OnOk_map r (λ same. subst (λ (s : State). StoreFacts b s) (sym same) places.done) (makes.whole told);
   placed = OnOk_map r (λ same. subst (λ (s : State). Placed b.sizes (now a) s k is page words) (sym same) places.placed) (makes.whole told);
-  found = OnOk_map r (λ same. subst (λ (s : State). IsFound b.sizes page place s) (sym same) places.found) (makes.whole told);
 }
 
 -- the same words
@@ -149,15 +122,13 @@ pub page_words : (bytes : List ℕ) (l w : ℕ) → l < 64 → w < 8 → word_in
 page_words bytes l w hl hw = ap (λ (x : Line). word_in x w) (page_lines-at bytes l zero_line hl) ∙ line_of-word (block_word bytes l) w hw
 
 pub install_places : (b : Bookkeeping) (s : State) → StoreFacts b s → b.changing ≡ None → (k page : ℕ) (bytes : List ℕ) → CanInstall b.format s k page (page_lines bytes)
-    → Places b k 0 (page + 1) page (Some k) (block_word bytes) (install_calls b.sizes k page (page_lines bytes)) s
+    → Places b k 0 (page + 1) page (block_word bytes) (install_calls b.sizes k page (page_lines bytes)) s
 install_places b s facts still k page bytes can = record {
   moments = install_facts b s facts still k page (page_lines bytes) can;
   done = install_done b s facts still k page (page_lines bytes) can;
   flushed = install_flushed b s facts still k page (page_lines bytes) can;
   shown = install_shows b s facts still k page (page_lines bytes) can (block_word bytes) placed;
   placed = placed;
-  found = found_in b (after_all (install_calls b.sizes k page (page_lines bytes)) s) (install_done b s facts still k page (page_lines bytes) can) k page
-      (subst (λ (g : Sizes). k ≤ g.frames) (facts.sizes (current s) (current_leaves s)) can.frame) placed.here;
 }
   where
     placed : Placed b.sizes s (after_all (install_calls b.sizes k page (page_lines bytes)) s) k (page + 1) page (block_word bytes)
@@ -166,7 +137,7 @@ install_places b s facts still k page bytes can = record {
 pub install_keeps : {T : Type 0} {a d : Standing} {r : Result T Stop} (g : Sizes) (k page : ℕ) (bytes : List ℕ) → Made (install_calls g k page (page_lines bytes)) a d r → InstallKeeps g k page bytes a d r
 install_keeps {a = a} {d = d} {r = r} g k page bytes made told b sized facts still can =
     let makes : MakesAll (install_calls b.sizes k page (page_lines bytes)) a d r = subst (λ (x : Sizes). MakesAll (install_calls x k page (page_lines bytes)) a d r) (sym sized) made.makes in
-    keeps_placed b k 0 (page + 1) page (Some k) (block_word bytes) (install_calls b.sizes k page (page_lines bytes)) makes told facts still
+    keeps_placed b k 0 (page + 1) page (block_word bytes) (install_calls b.sizes k page (page_lines bytes)) makes told facts still
     (install_places b (now a) facts still k page bytes can)
     (install_places (committed_now b (now a)) (now a) (committed_facts b (now a) facts still) still k page bytes can)
 
@@ -177,7 +148,7 @@ frame_words : (b : Bookkeeping) (s : State) → StoreFacts b s → (k page : ℕ
 frame_words b s facts k page bytes framed named holds l w hl hw = holds.words l w hl hw ∙ sym (home_framed b s facts k page l w framed named)
 
 pub release_places : (b : Bookkeeping) (s : State) → StoreFacts b s → b.changing ≡ None → (k page : ℕ) (bytes : List ℕ) → k ≤ b.sizes.frames → entry_at (current s) k ≡ page + 1 → HoldsFrame b.sizes k bytes s
-    → Places b k (page + 1) 0 page None (home (current s) page) (release_calls b.sizes k page bytes) s
+    → Places b k (page + 1) 0 page (home (current s) page) (release_calls b.sizes k page bytes) s
 release_places b s facts still k page bytes framed named holds =
     let can : CanGiveUp b s k page bytes = give_up_ready b s facts still k page bytes framed named (λ l w word h. frame_words b s facts k page bytes framed named holds l w word.line word.word) in
     let placed : Placed b.sizes s (after_all (release_calls b.sizes k page bytes) s) k 0 page (home (current s) page) =
@@ -188,7 +159,6 @@ release_places b s facts still k page bytes framed named holds =
       flushed = release_flushed b s facts still k page bytes can;
       shown = release_shows b s facts still k page bytes can (home (current s) page) placed;
       placed = placed;
-      found = found_nowhere b s facts (after_all (release_calls b.sizes k page bytes) s) k page (home (current s) page) framed named placed;
     }
 
 never_ok : {T E : Type 0} (r : Result T E) → OnOk r ⊥ → (P : Type 0) → OnOk r P
@@ -196,17 +166,15 @@ never_ok (Ok v) h P = absurd h
 never_ok (Err e) h P = tt
 
 -- where a frame could not be loaded nothing changed
-unread_keeps : {T : Type 0} {a d : Standing} {r : Result T Stop} (b : Bookkeeping) (k was is page : ℕ) (place : Option ℕ) (words : ℕ → ℕ → ℕ) → MakesAll [] a d r → ((P : Type 0) → OnOk r P) → IsTrue a.told → StoreFacts b (now a) → b.changing ≡ None
-    → k ≤ b.sizes.frames → entry_at (current (now a)) k ≡ was → KeepsPlaced b k was is page place words a d r
-unread_keeps {a = a} {d = d} b k was is page place words makes failed told facts still framed named = record {
+unread_keeps : {T : Type 0} {a d : Standing} {r : Result T Stop} (b : Bookkeeping) (k was is page : ℕ) (words : ℕ → ℕ → ℕ) → MakesAll [] a d r → ((P : Type 0) → OnOk r P) → IsTrue a.told → StoreFacts b (now a) → b.changing ≡ None
+    → k ≤ b.sizes.frames → entry_at (current (now a)) k ≡ was → KeepsPlaced b k was is page words a d r
+unread_keeps {a = a} {d = d} b k was is page words makes failed told facts still framed named = record {
   moments = Moments-map (λ mid same. subst (λ (s : State). StoreFacts (changing_to b (Gate.frame k) was is b.committed) s) (sym same)
       (facts_changing b (now a) facts still (Gate.frame k) framed was is named b.committed (λ p l w. refl))) (makes.part told);
   recovers = λ before recovers. Moments-map (λ mid same. subst (λ (s : State). RecoversTo b.format s before) (sym same) recovers) (makes.part told);
-  rest = Moments-map (λ mid same. subst (λ (s : State). OthersStay b.sizes (now a) s k page) (sym same) (others_same b.sizes (now a) k page)) (makes.part told);
   shown = Moments-map (λ mid same. inl (subst (λ (s : State). ShowsSame b.sizes (now a) s) (sym same) (shows_itself b.sizes (now a)))) (makes.part told);
   facts = failed _;
   placed = failed _;
-  found = failed _;
 }
 
 pub release_keeps : {T : Type 0} {a d : Standing} {r : Result T Stop} (g : Sizes) (k page : ℕ) → k ≤ g.frames → Releases g k page true a d r → ReleaseKeeps g k page a d r
@@ -216,32 +184,31 @@ release_keeps {a = a} {d = d} {r = r} g k page framed releases told b sized fact
     in_frames = subst (λ (x : Sizes). k ≤ x.frames) (sym sized) framed
 
     by_loaded : (loaded : Option (List ℕ)) → Made (release_makes g k page true loaded) a d r → ((bytes : List ℕ) → loaded ≡ Some bytes → HoldsFrame g k bytes (now a)) → OnOk r (IsTrue true → loaded ≢ None)
-        → KeepsPlaced b k (page + 1) 0 page None (home (current (now a)) page) a d r
-    by_loaded None made holds whole = unread_keeps b k (page + 1) 0 page None (home (current (now a)) page) made.makes (never_ok r (OnOk_map r (λ some. some refl refl) whole)) told facts still in_frames named
+        → KeepsPlaced b k (page + 1) 0 page (home (current (now a)) page) a d r
+    by_loaded None made holds whole = unread_keeps b k (page + 1) 0 page (home (current (now a)) page) made.makes (never_ok r (OnOk_map r (λ some. some refl refl) whole)) told facts still in_frames named
     by_loaded (Some bytes) made holds whole =
         let held : HoldsFrame b.sizes k bytes (now a) = subst (λ (x : Sizes). HoldsFrame x k bytes (now a)) (sym sized) (holds bytes refl) in
         let makes : MakesAll (release_calls b.sizes k page bytes) a d r = subst (λ (x : Sizes). MakesAll (release_calls x k page bytes) a d r) (sym sized) made.makes in
-        keeps_placed b k (page + 1) 0 page None (home (current (now a)) page) (release_calls b.sizes k page bytes) makes told facts still
+        keeps_placed b k (page + 1) 0 page (home (current (now a)) page) (release_calls b.sizes k page bytes) makes told facts still
         (release_places b (now a) facts still k page bytes in_frames named held)
         (release_places (committed_now b (now a)) (now a) (committed_facts b (now a) facts still) still k page bytes in_frames named held)
 
 -- ---- a release without a write
 
 clear_places : (b : Bookkeeping) (s : State) → StoreFacts b s → b.changing ≡ None → (k page : ℕ) → CanClear b s k page
-    → Places b k (page + 1) 0 page None (block_word (s.ssd (page_block b.sizes page)).bytes) (entry_calls k 0) s
+    → Places b k (page + 1) 0 page (block_word (s.ssd (page_block b.sizes page)).bytes) (entry_calls k 0) s
 clear_places b s facts still k page can = record {
   moments = release_clean_facts b s facts still k page can;
   done = release_clean_done b s facts still k page can;
   flushed = clear_flushed b s facts still k page can;
   shown = clear_shows b.sizes s k page _ (clear_placed b s facts still k page can);
   placed = clear_placed b s facts still k page can;
-  found = found_nowhere b s facts (after_all (entry_calls k 0) s) k page _ can.frame can.named (clear_placed b s facts still k page can);
 }
 
 pub clear_keeps : {T : Type 0} {a d : Standing} {r : Result T Stop} (g : Sizes) (k page : ℕ) → Made (entry_calls k 0) a d r → ClearKeeps g k page a d r
 clear_keeps {a = a} {d = d} {r = r} g k page made told b sized facts still can =
-    subst (λ (x : Sizes). KeepsPlaced b k (page + 1) 0 page None (block_word ((now a).ssd (page_block x page)).bytes) a d r) sized
-    (keeps_placed b k (page + 1) 0 page None (block_word ((now a).ssd (page_block b.sizes page)).bytes) (entry_calls k 0) made.makes told facts still
+    subst (λ (x : Sizes). KeepsPlaced b k (page + 1) 0 page (block_word ((now a).ssd (page_block x page)).bytes) a d r) sized
+    (keeps_placed b k (page + 1) 0 page (block_word ((now a).ssd (page_block b.sizes page)).bytes) (entry_calls k 0) made.makes told facts still
     (clear_places b (now a) facts still k page can)
     (clear_places (committed_now b (now a)) (now a) (committed_facts b (now a) facts still) still k page
     (record { frame = can.frame; named = can.named; alone = can.alone; settled = can.settled; homes = can.homes })))

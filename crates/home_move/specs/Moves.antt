@@ -6,7 +6,7 @@ use Rattle.devices.specs.World.{Standing, Moments, now}
 use Rattle.line_pages.specs.declared.stop.Stop.{Stop}
 use Rattle.device_calls.specs.Leads.{Made}
 use Rattle.store_model.specs.Layout.{Sizes, page_block}
-use Rattle.store_model.specs.Recovered.{super_of, entry_at, frame_of, home, log_lines, block_word}
+use Rattle.store_model.specs.Recovered.{super_of, entry_at, home, log_lines, block_word}
 use Rattle.store_model.specs.Log.{Words}
 use Rattle.store_model.specs.Format.{word_in}
 use Rattle.store_model.specs.StoreFacts.{Gate, Bookkeeping, IsWord, is_written, StoreFacts}
@@ -36,47 +36,33 @@ pub record ShowsSame (g : Sizes) (old new : State) : Type 0 where
   pub entries : (n : ℕ) → n ≤ g.frames → entry_at (current new) n ≡ entry_at (current old) n
   pub homes : (p l w : ℕ) → IsWord g p l w → home (current new) p l w ≡ home (current old) p l w
 
--- The superblock with its gates, the log, the entries of the other frames and the words of the other pages are as they were.
-pub record OthersStay (g : Sizes) (old new : State) (k page : ℕ) : Type 0 where
-  pub super_words : super_of (current new) ≡ super_of (current old)
-  pub log : log_lines (current new) ≡ log_lines (current old)
-  pub entries : (n : ℕ) → n ≤ g.frames → n ≢ k → entry_at (current new) n ≡ entry_at (current old) n
-  pub homes : (p l w : ℕ) → p ≢ page → IsWord g p l w → home (current new) p l w ≡ home (current old) p l w
-
--- the table has the page in this frame, or in none
-abbrev pub IsFound : Sizes → ℕ → Option ℕ → State → Type 0
-IsFound g page place s = frame_of (entry_at (current s)) (g.frames + 1) page ≡ place
-
 -- At each moment of a call the facts hold with the entry of a frame being changed, and each image recovers to the words that
--- the images before it recover to; whatever it answers the rest of the store stays; all is shown as before, or the frame has the
--- new entry, the page these words, and all else is as it was. Where it answers ok the facts hold with no gate being changed, the
--- latter is so, and the page is found in this frame, or in none.
-pub record KeepsPlaced {T : Type 0} (b : Bookkeeping) (k was is page : ℕ) (place : Option ℕ) (words : ℕ → ℕ → ℕ) (old new : Standing) (result : Result T Stop) : Type 0 where
+-- the images before it recover to; all is shown as before, or the frame has the new entry, the page these words, and all else
+-- is as it was. Where it answers ok the facts hold with no gate being changed, and the latter is so.
+pub record KeepsPlaced {T : Type 0} (b : Bookkeeping) (k was is page : ℕ) (words : ℕ → ℕ → ℕ) (old new : Standing) (result : Result T Stop) : Type 0 where
   pub moments : Moments old new (StoreFacts (changing_to b (Gate.frame k) was is b.committed))
   pub recovers : (before : Words) → RecoversTo b.format (now old) before → Moments old new (λ s. RecoversTo b.format s before)
-  pub rest : Moments old new (λ s. OthersStay b.sizes (now old) s k page)
   pub shown : Moments old new (λ s. ShowsSame b.sizes (now old) s ⊎ Placed b.sizes (now old) s k is page words)
   pub facts : OnOk result (StoreFacts b (now new))
   pub placed : OnOk result (Placed b.sizes (now old) (now new) k is page words)
-  pub found : OnOk result (IsFound b.sizes page place (now new))
 
 -- So an install keeps, whatever the store keeps, where it can be made.
 abbrev pub InstallKeeps : {T : Type 0} → Sizes → ℕ → ℕ → List ℕ → Standing → Standing → Result T Stop → Type 0
 InstallKeeps g k page bytes old new result =
     IsTrue old.told → (b : Bookkeeping) → b.sizes ≡ g → StoreFacts b (now old) → b.changing ≡ None → CanInstall b.format (now old) k page (page_lines bytes)
-    → KeepsPlaced b k 0 (page + 1) page (Some k) (block_word bytes) old new result
+    → KeepsPlaced b k 0 (page + 1) page (block_word bytes) old new result
 
 -- So a release keeps with a write, where the frame has the page: the page has the words that it had.
 abbrev pub ReleaseKeeps : {T : Type 0} → Sizes → ℕ → ℕ → Standing → Standing → Result T Stop → Type 0
 ReleaseKeeps g k page old new result =
     IsTrue old.told → (b : Bookkeeping) → b.sizes ≡ g → StoreFacts b (now old) → b.changing ≡ None → entry_at (current (now old)) k ≡ page + 1
-    → KeepsPlaced b k (page + 1) 0 page None (home (current (now old)) page) old new result
+    → KeepsPlaced b k (page + 1) 0 page (home (current (now old)) page) old new result
 
 -- And without one, where the home block is settled and is the home of the page outside of what the log names.
 abbrev pub ClearKeeps : {T : Type 0} → Sizes → ℕ → ℕ → Standing → Standing → Result T Stop → Type 0
 ClearKeeps g k page old new result =
     IsTrue old.told → (b : Bookkeeping) → b.sizes ≡ g → StoreFacts b (now old) → b.changing ≡ None → CanClear b (now old) k page
-    → KeepsPlaced b k (page + 1) 0 page None (block_word ((now old).ssd (page_block g page)).bytes) old new result
+    → KeepsPlaced b k (page + 1) 0 page (block_word ((now old).ssd (page_block g page)).bytes) old new result
 
 -- The superblock, the log, the frame table and every line but this one are as they were.
 pub record LineStays (g : Sizes) (old new : State) (page line : ℕ) : Type 0 where

@@ -90,16 +90,8 @@ abbrev pub IsFirstAbove : ℕ → ℕ → (ℕ → ℕ) → Option ℕ → Type 
 IsFirstAbove p n entry None = AreBelow p n entry
 IsFirstAbove p n entry (Some k) = (k < n) × (p < entry k)
 
--- So many of the words are entries that were loaded, from the first on, and those behind them are as they were.
-pub record LoadsSome (total : ℕ) (before after : List ℕ) (d : Standing) : Type 0 where
-  pub count : ℕ
-  pub within : count ≤ total
-  pub loaded : IsTrue d.told → AreEntries count after (now d)
-  pub rest : (k : ℕ) → count ≤ k → slice_index after k ≡ slice_index before k
-
 -- What the loads of the first n entries left.
-pub record EntriesSo (n : ℕ) (before words : List ℕ) (old new : Standing) : Type 0 where
+pub record EntriesSo (n : ℕ) (words : List ℕ) (old new : Standing) : Type 0 where
   pub looked : Looked {T = Unit {0}} old new (Ok tt)
   pub reads : new.block_reads ≡ old.block_reads
   pub held : IsTrue old.told → AreEntries n words (now old)
-  pub rest : (k : ℕ) → n ≤ k → slice_index words k ≡ slice_index before k

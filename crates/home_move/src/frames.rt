@@ -50,7 +50,6 @@ pub fn store_line<D: Devices>(
     requires line { line < 64 }
     ensures made { Made (store_calls (sizes_of geometry.now) frame line value.now)
         (D.standing dev.old) (D.standing dev.new) result }
-    ensures stops { StopsWith Nvm result }
     ensures keeps { (page : ℕ) → StoreKeeps (sizes_of geometry.now) frame page line value.now
         (D.standing dev.old) (D.standing dev.new) result }
 {
@@ -106,9 +105,8 @@ pub(crate) fn fill_frame<D: Devices>(
 ) -> Result<(), Stop>
     requires fits { nvm_lines (sizes_of geometry.now) ≤ (D.standing dev.old).lines }
     requires frame { frame ≤ geometry.now.frames }
-    ensures made { Made (frame_calls (sizes_of geometry.now) frame 0 (page_lines lines.now))
+    ensures { Made (frame_calls (sizes_of geometry.now) frame 0 (page_lines lines.now))
         (D.standing dev.old) (D.standing dev.new) result }
-    ensures stops { StopsWith Nvm result }
 {
     for line in 0..64usize {
         store_line(dev, geometry, frame, line, &page_line(lines, line))?;

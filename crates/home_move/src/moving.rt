@@ -1,8 +1,6 @@
 //! A page comes into a frame, and is given up by it.
 ghost use Rattle.std.specs.Prelude.{◌≡◌, ◌<◌, ◌≤◌, ℕ, ◌+◌, true, false};
 ghost use Rattle.device_calls.specs.Leads.{Made};
-ghost use Rattle.device_calls.specs.Stops.{StopsWith};
-ghost use Rattle.line_pages.specs.declared.stop.Stop.TheVariants.{Nvm};
 ghost use Rattle.store_model.specs.Layout.{pages, nvm_lines, ssd_blocks};
 ghost use Rattle.store_model.specs.Install.{entry_calls, install_calls};
 ghost use Rattle.nvm_layout.specs.Sizes.{sizes_of};
@@ -10,7 +8,7 @@ ghost use Rattle.home_move.specs.Frames.{page_lines};
 ghost use Rattle.home_move.specs.Moves.{Releases, InstallKeeps, ReleaseKeeps, ClearKeeps};
 
 use crate::frames::{fill_frame, read_frame};
-use device_calls::{fence, put_word, sync, write_block};
+use device_calls::{fence, put_block, put_word};
 use devices::Devices;
 use line_pages::Stop;
 use nvm_layout::Geometry;
@@ -29,7 +27,6 @@ pub fn install<D: Devices>(
     requires page { page < pages (sizes_of geometry.now) }
     ensures made { Made (install_calls (sizes_of geometry.now) frame page (page_lines lines.now))
         (D.standing dev.old) (D.standing dev.new) result }
-    ensures stops { StopsWith Nvm result }
     ensures keeps { InstallKeeps (sizes_of geometry.now) frame page lines.now
         (D.standing dev.old) (D.standing dev.new) result }
 {
@@ -53,16 +50,16 @@ pub fn release<D: Devices>(
     requires page { page < pages (sizes_of geometry.now) }
     ensures releases { Releases (sizes_of geometry.now) frame page write
         (D.standing dev.old) (D.standing dev.new) result }
-    ensures stops { write ≡ false → StopsWith Nvm result }
     ensures keeps { write ≡ true → ReleaseKeeps (sizes_of geometry.now) frame page
         (D.standing dev.old) (D.standing dev.new) result }
     ensures clears { write ≡ false → ClearKeeps (sizes_of geometry.now) frame page
         (D.standing dev.old) (D.standing dev.new) result }
 {
-    if !write {
-        return put_entry(dev, geometry, frame, 0);
+    if write {
+        release_written(dev, geometry, frame, page)
+    } else {
+        put_entry(dev, geometry, frame, 0)
     }
-    release_written(dev, geometry, frame, page)
 }
 
 /// The same with a write.
@@ -81,8 +78,7 @@ fn release_written<D: Devices>(
 {
     let mut bytes = PageBuf::zero();
     read_frame(dev, geometry, frame, &mut bytes)?;
-    write_block(dev, geometry.page_block(page), &bytes)?;
-    sync(dev)?;
+    put_block(dev, geometry.page_block(page), &bytes)?;
     put_entry(dev, geometry, frame, 0)
 }
 
@@ -95,8 +91,7 @@ fn put_entry<D: Devices>(
 ) -> Result<(), Stop>
     requires fits { nvm_lines (sizes_of geometry.now) ≤ (D.standing dev.old).lines }
     requires frame { frame ≤ geometry.now.frames }
-    ensures made { Made (entry_calls frame entry) (D.standing dev.old) (D.standing dev.new) result }
-    ensures stops { StopsWith Nvm result }
+    ensures { Made (entry_calls frame entry) (D.standing dev.old) (D.standing dev.new) result }
 {
     let (line, word) = geometry.table_word(frame);
     put_word(dev, line, word, entry)

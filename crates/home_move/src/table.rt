@@ -11,7 +11,7 @@ ghost use Rattle.damage.specs.declared.evidence.Evidence.TheVariants as evidence
 ghost use Rattle.store_model.specs.Layout.{pages, nvm_lines};
 ghost use Rattle.store_model.specs.Recovered.{entry_at};
 ghost use Rattle.nvm_layout.specs.Sizes.{sizes_of};
-ghost use Rattle.home_move.specs.Table.{AreEntries, OnLoaded, LoadsSome, NamesTwice, IsJudged, IsTableAnswer, TableCause, AreBelow, HasWord, IsFirstAbove, IsFirstTwice};
+ghost use Rattle.home_move.specs.Table.{AreEntries, OnLoaded, NamesTwice, IsJudged, IsTableAnswer, TableCause, AreBelow, HasWord, IsFirstAbove, IsFirstTwice};
 
 use damage::Evidence;
 use device_calls::load;
@@ -36,8 +36,6 @@ pub fn read_table<D: Devices>(
     // What is read, and what is found of it.
     ensures held { IsTrue (D.standing dev.old).told → OnLoaded result
         (AreEntries (geometry.now.frames + 1) entries.new (now (D.standing dev.old))) }
-    ensures slice { LoadsSome (geometry.now.frames + 1) entries.old entries.new
-        (D.standing dev.old) }
     ensures answer { IsTableAnswer (pages (sizes_of geometry.now)) (geometry.now.frames + 1)
         (slice_index entries.new) result }
 
@@ -70,8 +68,6 @@ fn load_entries<D: Devices>(
     ensures size { length entries.new ≡ length entries.old }
     ensures held { IsTrue (D.standing dev.old).told → OnOk result
         (AreEntries (geometry.now.frames + 1) entries.new (now (D.standing dev.old))) }
-    ensures slice { LoadsSome (geometry.now.frames + 1) entries.old entries.new
-        (D.standing dev.old) }
 {
     for frame in 0..geometry.frames + 1 {
         let entry = load_entry(dev, geometry, frame)?;

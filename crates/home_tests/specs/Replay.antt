@@ -1,8 +1,9 @@
 -- Lines that go to their homes one after the other.
 use Rattle.std.specs.Prelude.{ℕ, ◌<◌, List, [], ◌∷◌, length, slice_index_or, None, IfSome}
+use Rattle.line_pages.specs.Pairs.{Pairs, with_pair}
 use Rattle.store_model.specs.Layout.{Sizes, pages}
+use Rattle.store_model.specs.Log.{Words, Change, redone}
 use Rattle.home_move.specs.Homes.{Aim, CanReplay}
-use Rattle.home_move.specs.Fold.{ReplayStep}
 use Rattle.home_tests.specs.declared.replaying.HomeLine.{HomeLine}
 
 abbrev pub no_line : HomeLine
@@ -24,10 +25,19 @@ pub record AreInStore (g : Sizes) (n : ℕ) (lines : List HomeLine) : Type 0 whe
 pub record CanReplayAll (g : Sizes) (lines : List HomeLine) (aim : Aim) : Type 0 where
   pub each : (k : ℕ) → k < length lines → CanReplay g (nth lines k).page (nth lines k).line (nth lines k).home aim
 
--- as steps of a replay: records of whole lines, of which the after images are written
-abbrev pub as_step : HomeLine → ReplayStep
-as_step x = record { change = record { page = x.page; line = x.line; mask = 255; before = x.value; after = x.value }; value = x.value }
+-- as records of whole lines
+abbrev pub as_change : HomeLine → Change
+as_change x = record { page = x.page; line = x.line; mask = 255; before = x.value; after = x.value }
 
-abbrev pub as_steps : List HomeLine → List ReplayStep
-as_steps [] = []
-as_steps (x ∷ xs) = as_step x ∷ as_steps xs
+abbrev pub as_changes : List HomeLine → List Change
+as_changes [] = []
+as_changes (x ∷ xs) = as_change x ∷ as_changes xs
+
+-- the words behind the writes are those that a replay of these records gives
+abbrev pub rewritten : List HomeLine → Words → Words
+rewritten lines = redone (as_changes lines)
+
+-- and the lines are known to be flushed
+abbrev pub known_with : List HomeLine → Pairs → Pairs
+known_with [] known = known
+known_with (x ∷ xs) known = known_with xs (with_pair x.page x.line known)

@@ -31,13 +31,33 @@ fn stays(
     page: &PageBuf,
 ) -> Result<(), Fail> {
     for at in events.0..=events.1 {
-        for (words, blocks) in CHOICES {
-            let mut after = left(alloc, world, at, words, blocks)?;
-            let third = page_of(&mut after, 3)?;
-            let fourth = page_of(&mut after, 4)?;
-            assert!(rt; same_lines(&third, page), "page 3 at {at}");
-            assert!(rt; same_lines(&fourth, &filled(4)), "page 4 at {at}");
+        for words in [Choice::Oldest, Choice::Newest, Choice::Alternating] {
+            stays_at(rt, alloc, world, at, words, page)?;
         }
+    }
+    Ok(())
+}
+
+fn stays_at(
+    rt: &impl Abort,
+    alloc: Global,
+    world: &MemWorld,
+    at: u64,
+    words: Choice,
+    page: &PageBuf,
+) -> Result<(), Fail> {
+    let choices = [
+        BlockChoice::Settled,
+        BlockChoice::Current,
+        BlockChoice::Alternating,
+        BlockChoice::Fill(0xA5),
+    ];
+    for blocks in choices {
+        let mut after = left(alloc, world, at, words, blocks)?;
+        let third = page_of(&mut after, 3)?;
+        let fourth = page_of(&mut after, 4)?;
+        assert!(rt; same_lines(&third, page), "page 3 at {at}");
+        assert!(rt; same_lines(&fourth, &filled(4)), "page 4 at {at}");
     }
     Ok(())
 }

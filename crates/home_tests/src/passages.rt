@@ -4,7 +4,6 @@ ghost use Rattle.nvm_layout.specs.Sizes.{sizes_of};
 ghost use Rattle.home_tests.specs.Replay.{IsInStore, AreInStore};
 
 use crate::replaying::{HomeLine, write_homes};
-use crate::tables::entries;
 use crate::worlds::{
     AFTER, CHOICES, Ended, entry, filled, fits, left, logged, page_of, put, same_lines, small,
     start,
@@ -211,12 +210,12 @@ fn lines_of_one_page_make_one_write(rt: HostRuntime) -> Result<(), Fail> {
     Ok(())
 }
 
-/// Reads the table, which passes its checks, and ends the passage that was left, by the entry of the last frame.
-fn end_left(rt: &impl Abort, alloc: Global, world: &mut MemWorld) -> Result<(), Fail> {
-    let [first, second, last] = entries(alloc, world)?;
-    let mut passage = Passage::left_by(last);
+/// Ends the passage that an opening finds, by the entry of the last frame.
+fn end_left(rt: &impl Abort, world: &mut MemWorld) -> Result<(), Fail> {
+    let found = entry(world, &small(), 2)?;
+    let mut passage = Passage::left_by(found);
     end(world, &mut passage)?;
-    assert!(rt; entries(alloc, world)? == [first, second, 0]);
+    assert!(rt; entry(world, &small(), 2)? == 0);
     Ok(())
 }
 
@@ -234,7 +233,7 @@ fn reopened(
         same_lines(&page_of(&mut after, 4)?, fourth),
         "page 4 at {at}"
     );
-    end_left(rt, alloc, &mut after)?;
+    end_left(rt, &mut after)?;
     assert!(rt;
         same_lines(&page_of(&mut after, 4)?, fourth),
         "page 4 opened at {at}"

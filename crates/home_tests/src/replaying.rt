@@ -3,10 +3,9 @@ ghost use Rattle.std.specs.Prelude.{◌≡◌, ℕ, length, OnOk};
 ghost use Rattle.devices.specs.State.{State};
 ghost use Rattle.device_calls.specs.Leads.{Leads, Given};
 ghost use Rattle.nvm_layout.specs.Sizes.{sizes_of};
-ghost use Rattle.home_move.specs.Homes.{Aim, Keeps, Homes};
-ghost use Rattle.home_move.specs.Fold.{after_steps};
+ghost use Rattle.home_move.specs.Homes.{Aim, Keeps, Homes, over};
 ghost use Rattle.home_move.specs.Passing.{FitsStore, IsPassing};
-ghost use Rattle.home_tests.specs.Replay.{AreInStore, CanReplayAll, as_steps};
+ghost use Rattle.home_tests.specs.Replay.{AreInStore, CanReplayAll, rewritten, known_with};
 
 use devices::Devices;
 use home_move::{Passage, write_home};
@@ -41,7 +40,7 @@ pub fn write_homes<D: Devices>(
         (Given (CanReplayAll (sizes_of geometry.now) lines.now)
         (Homes (sizes_of geometry.now) passage.old.page))
         (λ (aim : Aim). Homes (sizes_of geometry.now) passage.new.page
-        (after_steps (as_steps lines.now) aim))
+        (over (rewritten lines.now) (known_with lines.now) aim))
         (D.standing dev.old) (D.standing dev.new) result }
     ensures passing { OnOk result (IsPassing (sizes_of geometry.now) passage.new.page) }
 {

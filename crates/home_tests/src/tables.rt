@@ -24,28 +24,13 @@ fn answer(alloc: Global, entries: [u64; 3], fail: &[Fault]) -> Result<Result<(),
 }
 
 fn read<D: Devices>(alloc: Global, dev: &mut D) -> Result<Result<(), Stop>, Fail> {
-    let mut entries = [0; 3];
-    read_into(alloc, dev, &mut entries)
-}
-
-/// The entries of a table that passes its checks.
-pub(crate) fn entries<D: Devices>(alloc: Global, dev: &mut D) -> Result<[u64; 3], Fail> {
-    let mut entries = [0; 3];
-    read_into(alloc, dev, &mut entries)??;
-    Ok(entries)
-}
-
-fn read_into<D: Devices>(
-    alloc: Global,
-    dev: &mut D,
-    entries: &mut [u64; 3],
-) -> Result<Result<(), Stop>, Fail> {
     let geometry = small();
+    let mut entries = [0; 3];
     let mut seen = LineSet::new(alloc, geometry.pages())?;
     if !fits(dev, &geometry) {
         return Err("the store is larger")?;
     }
-    Ok(read_table(dev, &geometry, entries, &mut seen))
+    Ok(read_table(dev, &geometry, &mut entries, &mut seen))
 }
 
 /// Evidence of two entries.

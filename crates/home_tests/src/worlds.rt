@@ -74,20 +74,12 @@ fn write_page<D: Devices>(dev: &mut D, geometry: &Geometry, page: u64) -> Result
     Ok(())
 }
 
-/// Each choice of words with each of blocks.
-pub(crate) const CHOICES: [(Choice, BlockChoice); 12] = [
+/// Each choice of words and each of blocks, in pairs.
+pub(crate) const CHOICES: [(Choice, BlockChoice); 4] = [
     (Choice::Oldest, BlockChoice::Settled),
-    (Choice::Oldest, BlockChoice::Current),
-    (Choice::Oldest, BlockChoice::Alternating),
-    (Choice::Oldest, BlockChoice::Fill(0xA5)),
-    (Choice::Newest, BlockChoice::Settled),
     (Choice::Newest, BlockChoice::Current),
-    (Choice::Newest, BlockChoice::Alternating),
-    (Choice::Newest, BlockChoice::Fill(0xA5)),
-    (Choice::Alternating, BlockChoice::Settled),
-    (Choice::Alternating, BlockChoice::Current),
     (Choice::Alternating, BlockChoice::Alternating),
-    (Choice::Alternating, BlockChoice::Fill(0xA5)),
+    (Choice::Oldest, BlockChoice::Fill(0xA5)),
 ];
 
 /// How the record of a log ended.

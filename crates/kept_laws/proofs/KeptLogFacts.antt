@@ -24,7 +24,7 @@ use Rattle.log_laws.proofs.EndsFacts.{harden_ends, commit_ends, abort_ends}
 use Rattle.kept_laws.proofs.WriteFacts.{write_done, write_stands, write_ends, write_shows}
 use Rattle.home_laws.proofs.ShownLaws.{lengthened_shows}
 use Rattle.log_laws.proofs.LengthenedFacts.{harden_lengthened, end_lengthened}
-use Rattle.kept_laws.proofs.FlushedFacts.{quiet_flushed, fence_flushed, gate_flushed}
+use Rattle.kept_laws.proofs.FlushedFacts.{quiet_flushed, gate_flushed}
 
 -- lines that are stored behind the tail, a fence, and a new tail leave the homes flushed
 pub put_flushed : (b : Bookkeeping) (s : State) (facts : StoreFacts b s) (still : b.changing ≡ None) (xs : List Line) (behind : IsBehind b s xs) (ys : List Line)
@@ -34,6 +34,9 @@ pub put_flushed : (b : Bookkeeping) (s : State) (facts : StoreFacts b s) (still 
 put_flushed b s facts still xs behind ys room are_lines passes = quiet_flushed b s facts (put_stores b.sizes ((super_of (current s)).tail + length xs) (length ys)) no_write
     (put_quiet b s facts still xs behind ys room are_lines passes) (put_calls b.sizes ((super_of (current s)).tail + length xs) ys)
     (lines_within b.sizes ((super_of (current s)).tail + length xs) (length ys) ((super_of (current s)).tail + length xs) ys (omega arith) (omega arith))
+
+pub fence_flushed : (b : Bookkeeping) (s : State) → HomesFlushed b s → HomesFlushed b (fenced s)
+fence_flushed b s flushed = record { frames = flushed.frames; blocks = flushed.blocks }
 
 pub harden_flushed : (b : Bookkeeping) (s : State) (tail : ℕ) → HomesFlushed b s → HomesFlushed b (after_all (harden_calls tail) s)
 harden_flushed b s tail flushed = gate_flushed b (fenced s) Gate.tail tail tt (λ k h. gate_others Gate.tail tail (fenced s) (entry_line k) (entry_word k) (inl (λ at. omega arith))) (fence_flushed b s flushed)

@@ -16,7 +16,7 @@ use Rattle.store_model.specs.InOrder.{HomeStands}
 use Rattle.store_model.specs.Install.{store_calls, CanStore}
 use Rattle.store_model.specs.Pending.{with_records}
 use Rattle.store_model.specs.Seen.{Moved, changing_to}
-use Rattle.store_model.specs.Shown.{IsSteadyFenced, HomesFlushed}
+use Rattle.store_model.specs.Shown.{HomesFlushed}
 use Rattle.store_model.specs.Kept.{KeptShown, KeptAlone}
 use Rattle.devices.proofs.StateLaws.{line_stored_same, flushed_same}
 use Rattle.devices.proofs.GrowthLaws.{Amid_end}
@@ -31,9 +31,9 @@ use Rattle.home_laws.proofs.QuietLaws.{fence_facts}
 use Rattle.home_laws.proofs.GateLaws.{moved_current}
 use Rattle.log_laws.proofs.EndsLaws.{commit_logged}
 use Rattle.log_laws.proofs.HardenLaws.{fence_leaves}
-use Rattle.home_laws.proofs.SteadyLaws.{flushed_steady}
 use Rattle.home_laws.proofs.UntouchedLaws.{calls_untouched}
-use Rattle.kept_laws.proofs.FlushedFacts.{homes_durable, fence_flushed, gate_flushed}
+use Rattle.kept_laws.proofs.FlushedFacts.{homes_durable, gate_flushed}
+use Rattle.kept_laws.proofs.KeptLogFacts.{fence_flushed}
 use Rattle.home_laws.proofs.ShownLaws.{home_kept}
 use Rattle.home_laws.proofs.StoreLaws.{store_facts}
 use Rattle.log_laws.proofs.StartLaws.{start_calls, start_facts, start_done, from_none, moved_start}
@@ -104,24 +104,24 @@ module _ (b : Bookkeeping) (s : State) (facts : StoreFacts b s) (k page l₀ : �
           ap (λ n. home (current stored_state) n l w) e ∙ ap (λ n. home (current stored_state) page n w) f ∙ home_frame w word' ∙ right w word'
           ∙ ap (λ n. words n l₀ w) (sym e) ∙ ap (λ n. words p n w) (sym f)
 
-  -- and a fence goes on to make all homes durable.
+  -- and all homes stay flushed.
   pub stored_flushed : HomesFlushed b s → HomesFlushed b stored_state
   stored_flushed flushed = record {
     frames = λ n l w h named hl hw. all_flushed n l w h named hl hw;
     blocks = λ p hp none. flushed.blocks p hp (λ n h named. none n h (stored_entry n h ∙ named));
   }
     where
-      all_flushed : (n l w : ℕ) → n ≤ b.sizes.frames → entry_at (current stored_state) n ≢ 0 → l < 64 → w < 8 → IsSteadyFenced (stored_state.nvm (frame_line b.sizes n l) w)
+      all_flushed : (n l w : ℕ) → n ≤ b.sizes.frames → entry_at (current stored_state) n ≢ 0 → l < 64 → w < 8 → (stored_state.nvm (frame_line b.sizes n l) w).kept ≡ 0
       all_flushed n l w h named hl hw = elim (cases_eq (frame_line b.sizes n l) (frame_line sup.sizes k l₀)) [
-        | inl here ↦ flushed_steady (stored_state.nvm (frame_line b.sizes n l) w) (ap (λ m. (stored_state.nvm m w).kept) here ∙ ap (λ (x : Word). x.kept) (stored_word w hw))
-        | inr apart ↦ untouched.steady (frame_line b.sizes n l) w (λ v st. apart st.0) (flushed.frames n l w h (λ none. named (stored_entry n h ∙ none)) hl hw)
+        | inl here ↦ ap (λ m. (stored_state.nvm m w).kept) here ∙ ap (λ (x : Word). x.kept) (stored_word w hw)
+        | inr apart ↦ untouched.flushed (frame_line b.sizes n l) w (λ v st. apart st.0) (flushed.frames n l w h (λ none. named (stored_entry n h ∙ none)) hl hw)
       ]
 
   -- the facts, with other current words for what is written
   pub stored_facts : (words : Words) → ((i : Image) → Leaves s i → (p l w : ℕ) → IsWord b.sizes p l w → is_written b i p l w ≡ false → b.current p l w ≡ words p l w) → StoreFacts (record b { current = words }) stored_state
   stored_facts words same = store_facts b s facts k page l₀ line store words same stored_state (Amid_end (store_calls sup.sizes k l₀ line) s)
 
--- Behind a fence the log can be emptied, where nothing is pending, a fence makes every home durable, it is the current and the committed word,
+-- Behind a fence the log can be emptied, where nothing is pending, every home is flushed and is the current and the committed word,
 -- and the copies are current. It doesn't ask what a commit would give, so recovery ends by it too.
 module _ (b : Bookkeeping) (s : State) (facts : StoreFacts b s) (still : b.changing ≡ None) (alone : b.pending ≡ []) (flushed : HomesFlushed b s)
     (settled : (p l w : ℕ) → IsWord b.sizes p l w → b.current p l w ≡ b.committed (super_of (current s)).tail p l w)

@@ -9,6 +9,5 @@ pub mod KeptPlaceFacts
 pub mod KeptRecordFacts
 pub mod ChangeFacts
 pub mod OpenFacts
-pub mod EmptyFacts
 pub mod StepFacts
 pub mod UpdateExample

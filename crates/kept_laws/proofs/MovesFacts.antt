@@ -30,8 +30,7 @@ use Rattle.log_laws.proofs.DrainFacts
 use Rattle.home_laws.proofs.ShownLaws.{name_placed, clear_placed, placed_shows, lengthened_shows}
 use Rattle.home_laws.proofs.PlacedFacts.{install_placed, release_placed}
 use Rattle.log_laws.proofs.LengthenedFacts.{drain_lengthened}
-use Rattle.kept_laws.proofs.FlushedFacts.{quiet_flushed, fence_flushed, gate_flushed, name_flushed, clear_flushed}
-use Rattle.home_laws.proofs.SteadyLaws.{flushed_steady}
+use Rattle.kept_laws.proofs.FlushedFacts.{quiet_flushed, gate_flushed, name_flushed, clear_flushed}
 use Rattle.home_laws.proofs.GateLaws.{gate_others}
 
 -- a step that changes the place of a page
@@ -70,7 +69,7 @@ install_moves b s old k page lines can right =
     placed_moves b s (after_all (install_calls b.sizes k page lines) s) k (page + 1) page (λ l w. word_in (get_or lines l zero_line) w) old
     (install_done b s old.facts old.still k page lines can) (install_placed b s old.facts old.still k page lines can) right
     (subst (λ (t : State). HomesFlushed b t) (sym (installed_is b s old.facts old.still k page lines can))
-    (name_flushed b filled k page named (λ l w hl hw. flushed_steady _ (ap (λ (x : Word). x.kept) (frame_made_now b s old.facts old.still k page lines can l w (word l w hl hw))))
+    (name_flushed b filled k page named (λ l w hl hw. ap (λ (x : Word). x.kept) (frame_made_now b s old.facts old.still k page lines can l w (word l w hl hw)))
     (name_placed b filled (full_facts b s old.facts old.still k page lines can) old.still k page named).others
     (quiet_flushed b s old.facts (frame_stores g k) no_write (frame_quiet b s old.facts old.still k page lines can) (frame_calls g k 0 lines ++ fence ∷ [])
     (frame_within g k 0 lines (frame_fits b.format s k page lines can)) old.flushed)))
@@ -155,7 +154,7 @@ fence_moves b s old = record {
     still = old.still;
     alone = old.alone;
     shows = record { copies = old.shows.copies; homes = old.shows.homes };
-    flushed = fence_flushed b s old.flushed;
+    flushed = record { frames = old.flushed.frames; blocks = old.flushed.blocks };
   };
   log = refl;
 }

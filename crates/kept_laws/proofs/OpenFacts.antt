@@ -13,8 +13,6 @@ use Rattle.std.proofs.lemmas.Bool.{or_parts}
 use Rattle.home_laws.proofs.InstallLaws.{replay_named}
 use Rattle.home_laws.proofs.FactsLaws.{replay_other}
 use Rattle.devices.proofs.FreshLaws.{fresh_only}
-use Rattle.home_laws.proofs.SteadyLaws.{flushed_steady}
-use Rattle.store_model.specs.Layout.{frame_line}
 use Rattle.log_laws.proofs.EndsLaws.{commit_logged}
 
 -- What a store keeps of devices that were made of an image: what recovery gives is the current and the committed words.
@@ -59,7 +57,7 @@ module _ (format : Format) (i : Image) (store : IsStore format i) where
           ∙ sym (replay_other format (log_of format i) (home i) p l w (sym (ap (λ (x : Image). is_logged (log_of format x) p l w) (fresh_only i j left)) ∙ h))
 
   pub fresh_flushed : HomesFlushed (recovering format i) (fresh i)
-  fresh_flushed = record { frames = λ k l w h named hl hw. flushed_steady ((fresh i).nvm (frame_line (super_of i).sizes k l) w) refl; blocks = λ p hp none. refl }
+  fresh_flushed = record { frames = λ k l w h named hl hw. refl; blocks = λ p hp none. refl }
 
   -- Where the log is empty, all holds that a store keeps between its calls.
   pub open_kept : log_of format i ≡ no_log → KeptAlone (recovering format i) (fresh i)

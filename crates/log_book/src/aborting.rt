@@ -55,7 +55,6 @@ impl LogBook {
         ensures leads { ForTiers (book_sizes self.old) HeldGoal
             (λ t. DoneIn t (data_of self.old)) (λ t. AbortedIn t (data_of self.new))
             (D.standing dev.old) (D.standing dev.new) result }
-        ensures reads { (D.standing dev.new).block_reads ≡ (D.standing dev.old).block_reads }
     {
         put_end(&mut self.log, dev, EndKind::Abort)?;
         self.first = self.log.tail();

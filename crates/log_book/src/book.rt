@@ -58,7 +58,6 @@ impl LogBook {
             (data_of self.old))
             (λ t. RecordedIn change.now.page change.now.line change.now.after t (data_of self.new))
             (D.standing dev.old) (D.standing dev.new) result }
-        ensures reads { (D.standing dev.new).block_reads ≡ (D.standing dev.old).block_reads }
     {
         put_record(&mut self.log, dev, change)?;
         self.loose.insert(change.page, change.line as usize);
@@ -85,7 +84,6 @@ impl LogBook {
         ensures range { SameRange self.old.log self.new.log }
         ensures recorded { KeepsRecorded (book_sizes self.old) (data_of self.old) (data_of self.new)
             (D.standing dev.old) (D.standing dev.new) result }
-        ensures reads { (D.standing dev.new).block_reads ≡ (D.standing dev.old).block_reads }
     {
         put_harden(&mut self.log, dev)
     }

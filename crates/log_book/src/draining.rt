@@ -28,7 +28,6 @@ impl LogBook {
         ensures few { OnOk result (self.new.log.tail < self.new.log.drained + 64) }
         ensures open { KeepsOpen (book_sizes self.old) (data_of self.old) (data_of self.new)
             (D.standing dev.old) (D.standing dev.new) result }
-        ensures reads { (D.standing dev.new).block_reads ≡ (D.standing dev.old).block_reads }
     {
         self.harden(dev)?;
         self.drain_hard(dev)
@@ -50,7 +49,6 @@ impl LogBook {
         ensures more { OnOk result (RoomMade (data_of self.old) (data_of self.new)) }
         ensures open { KeepsOpen (book_sizes self.old) (data_of self.old) (data_of self.new)
             (D.standing dev.old) (D.standing dev.new) result }
-        ensures reads { (D.standing dev.new).block_reads ≡ (D.standing dev.old).block_reads }
     {
         if self.log.free_lines() >= lines {
             return Ok(());
@@ -71,7 +69,6 @@ impl LogBook {
         ensures few { OnOk result (self.new.log.tail < self.new.log.drained + 64) }
         ensures open { KeepsOpen (book_sizes self.old) (data_of self.old) (data_of self.new)
             (D.standing dev.old) (D.standing dev.new) result }
-        ensures reads { (D.standing dev.new).block_reads ≡ (D.standing dev.old).block_reads }
     {
         while self.log.tail - self.log.drained >= BLOCK_LINES {
             self.drain_some(dev)?;
@@ -93,7 +90,6 @@ impl LogBook {
         ensures some { OnOk result (self.old.log.drained + 64 ≤ self.new.log.drained) }
         ensures open { KeepsOpen (book_sizes self.old) (data_of self.old) (data_of self.new)
             (D.standing dev.old) (D.standing dev.new) result }
-        ensures reads { (D.standing dev.new).block_reads ≡ (D.standing dev.old).block_reads }
     {
         drain_blocks(&mut self.log, dev, u64::MAX)?;
         Ok(())

@@ -25,7 +25,6 @@ impl LogBook {
         ensures leads { ForTiers (book_sizes self.old) HeldEnd
             (λ t. OpenIn t (data_of self.old)) (λ t. CommittedIn t (data_of self.new))
             (D.standing dev.old) (D.standing dev.new) result }
-        ensures reads { (D.standing dev.new).block_reads ≡ (D.standing dev.old).block_reads }
     {
         put_end(&mut self.log, dev, EndKind::Commit)?;
         self.first = self.log.tail();
@@ -41,7 +40,6 @@ impl LogBook {
         ensures becomes { Becomes (made_empty (data_of self.old)) self.old self.new result }
         ensures leads { Empties (book_sizes self.old) (data_of self.old) (data_of self.new)
             (D.standing dev.old) (D.standing dev.new) result }
-        ensures reads { (D.standing dev.new).block_reads ≡ (D.standing dev.old).block_reads }
     {
         put_start(&mut self.log, dev)?;
         self.loose.clear();

@@ -38,7 +38,6 @@ pub fn drain_block<D: Devices>(log: &mut Log, dev: &mut D) -> Result<(), Stop>
 
     // What stays, however far it gets.
     ensures goes { Goes (D.standing dev.old) (D.standing dev.new) }
-    ensures reads { (D.standing dev.new).block_reads ≡ (D.standing dev.old).block_reads }
     ensures keeps { DrainKeeps log.old 1 log.new (D.standing dev.old) (D.standing dev.new) result }
 {
     drain(log, dev, 1)
@@ -63,7 +62,6 @@ pub fn drain_blocks<D: Devices>(log: &mut Log, dev: &mut D, most: u64) -> Result
 
     // What stays, however far it gets.
     ensures goes { Goes (D.standing dev.old) (D.standing dev.new) }
-    ensures reads { (D.standing dev.new).block_reads ≡ (D.standing dev.old).block_reads }
     ensures keeps { DrainKeeps log.old (drainable most log.old) log.new (D.standing dev.old)
         (D.standing dev.new) result }
 {
@@ -102,7 +100,6 @@ fn settle<D: Devices>(dev: &mut D) -> Result<(), Stop>
 fn raise<D: Devices>(dev: &mut D, drained: u64) -> Result<(), Stop>
     requires { 3 < (D.standing dev.old).lines }
     ensures goes { Goes (D.standing dev.old) (D.standing dev.new) }
-    ensures reads { (D.standing dev.new).block_reads ≡ (D.standing dev.old).block_reads }
     ensures cause { StopCause (D.standing dev.old) (D.standing dev.new) result }
     ensures makes { MakesAll (gate_put 2 drained) (D.standing dev.old) (D.standing dev.new) result }
 {
@@ -127,7 +124,6 @@ fn drain<D: Devices>(log: &mut Log, dev: &mut D, count: u64) -> Result<(), Stop>
     ensures lines { DrainLines log.old log.new (D.standing dev.old) (D.standing dev.new) result }
     ensures cause { StopCause (D.standing dev.old) (D.standing dev.new) result }
     ensures goes { Goes (D.standing dev.old) (D.standing dev.new) }
-    ensures reads { (D.standing dev.new).block_reads ≡ (D.standing dev.old).block_reads }
     ensures keeps { DrainKeeps log.old count log.new (D.standing dev.old)
         (D.standing dev.new) result }
 {

@@ -1,7 +1,6 @@
 -- What loads and reads give after a step, and that they give the current words.
 use Rattle.std.specs.Prelude.{◌≡◌, ◌≢◌, ℕ, ◌+◌, ◌<◌, ◌≤◌, List, ◌++◌, Some, None, IsTrue}
 use Rattle.nvm_model.specs.declared.line.Line.{Line}
-use Rattle.nvm_model.specs.Word.{Word, IsSteady, trimmed}
 use Rattle.devices.specs.State.{State, current}
 use Rattle.store_model.specs.Layout.{Sizes, pages, frame_line, page_block}
 use Rattle.store_model.specs.Format.{word_in}
@@ -30,13 +29,8 @@ pub record ShowsCurrent (b : Bookkeeping) (s : State) : Type 0 where
   pub copies : (p l w : ℕ) (line : Line) → IsWord b.sizes p l w → b.copy p l ≡ Some line → word_in line w ≡ b.current p l w
   pub homes : (p l w : ℕ) → IsWord b.sizes p l w → b.copy p l ≡ None → home (current s) p l w ≡ b.current p l w
 
--- Behind a fence all versions of the word are its newest value: so it is where that value was flushed, or where all
--- versions are equal already, as of a word that nobody has stored since a crash.
-pub record IsSteadyFenced (word : Word) : Type 0 where
-  pub steady : IsSteady (trimmed word)
-
--- A fence leaves each word of a frame that has a page steady, and each home block of a page that has no frame is settled: so
--- a fence makes all homes durable.
+-- Each word of a frame that has a page is flushed, and each home block of a page that has no frame is settled: so a fence
+-- makes all homes durable.
 pub record HomesFlushed (b : Bookkeeping) (s : State) : Type 0 where
-  pub frames : (k l w : ℕ) → k ≤ b.sizes.frames → entry_at (current s) k ≢ 0 → l < 64 → w < 8 → IsSteadyFenced (s.nvm (frame_line b.sizes k l) w)
+  pub frames : (k l w : ℕ) → k ≤ b.sizes.frames → entry_at (current s) k ≢ 0 → l < 64 → w < 8 → (s.nvm (frame_line b.sizes k l) w).kept ≡ 0
   pub blocks : (p : ℕ) → p < pages b.sizes → ((k : ℕ) → k ≤ b.sizes.frames → entry_at (current s) k ≢ p + 1) → IsTrue (s.ssd (page_block b.sizes p)).settled

@@ -24,7 +24,6 @@ use Rattle.home_laws.proofs.ShownLaws.{name_placed}
 use Rattle.home_laws.proofs.UntouchedLaws.{calls_untouched}
 use Rattle.kept_laws.proofs.FlushedFacts.{quiet_flushed, name_flushed}
 use Rattle.tier_map.proofs.PlacementLaws.{changed-same, changed-other}
-use Rattle.home_laws.proofs.SteadyLaws.{flushed_steady}
 use Rattle.device_calls.specs.Leads.{Steps}
 use Rattle.tier_facts.specs.Data.{Data, entry_of, or_home, home_of, current_in, installed}
 use Rattle.tier_facts.specs.Facts.{Aim, Held, Facts, Hard, IsWritten, MayInstall, IsClean, AreCurrent, aim_sizes, keeping, log_in}
@@ -185,7 +184,7 @@ module _ (t : Data) (aim : Aim) (s : State) (it : Facts t aim s) (k page : ℕ) 
   -- all homes are flushed
   flushed_next : HomesFlushed (keeping t aim) next
   flushed_next = subst (λ (x : State). HomesFlushed (keeping t aim) x) (sym (installed_is (keeping t aim) s it.facts refl k page lines can_install))
-      (name_flushed (keeping t aim) full_now k page named (λ l w hl hw. flushed_steady _ (ap (λ (x : Word). x.kept) (frame_made_now (keeping t aim) s it.facts refl k page lines can_install l w (word_of l w hl hw))))
+      (name_flushed (keeping t aim) full_now k page named (λ l w hl hw. ap (λ (x : Word). x.kept) (frame_made_now (keeping t aim) s it.facts refl k page lines can_install l w (word_of l w hl hw)))
       (name_placed (keeping t aim) full_now (full_facts (keeping t aim) s it.facts refl k page lines can_install) refl k page named).others
       (quiet_flushed (keeping t aim) s it.facts (frame_stores g k) no_write (frame_quiet (keeping t aim) s it.facts refl k page lines can_install) (frame_calls g k 0 lines ++ fence ∷ [])
       (frame_within g k 0 lines (frame_fits aim.format s k page lines can_install)) (homes_flushed t aim s it)))

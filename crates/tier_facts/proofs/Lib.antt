@@ -8,4 +8,3 @@ pub mod ShownLaws
 pub mod Example
 pub mod CallLaws
 pub mod CurrentLaws
-pub mod OpenLaws

@@ -244,7 +244,7 @@ settles t clean aim s hard =
         facts = fenced_facts t aim s it;
         homes = λ i left p l w word. (homes_durable (keeping t aim) s it.facts refl (homes_flushed t aim s it) i left p l w word).1 ∙ home_now t aim s it p l w
             ∙ sym (current_clean t aim s it p l w word (clean.lines p l (subst (λ (g : Sizes). p < pages g) (sym it.sizes_same) word.page) word.line)) ∙ it.words p l w word;
-        durable = λ k p l w at hl hw. (it.flushed k p l w at hl hw).steady;
+        durable = λ k p l w at hl hw. rw (it.flushed k p l w at hl hw) refl;
       };
       moments = (fences t aim s it).moments;
     }

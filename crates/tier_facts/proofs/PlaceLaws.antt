@@ -8,7 +8,7 @@ use Rattle.store_model.specs.Log.{Change, Log, no_log, grouped, is_logged, named
 use Rattle.store_model.specs.Format.{entries}
 use Rattle.store_model.specs.Recovered.{Super, super_of, entry_at, frame_of, home, home_in, log_of}
 use Rattle.store_model.specs.StoreFacts.{Bookkeeping, IsWord}
-use Rattle.store_model.specs.Shown.{IsSteadyFenced, HomesFlushed}
+use Rattle.store_model.specs.Shown.{HomesFlushed}
 use Rattle.store_model.specs.Put.{CanPut}
 use Rattle.home_laws.proofs.FactsLaws.{facts_can_put_none, current_leaves}
 use Rattle.home_laws.proofs.InstallLaws.{frame_of-here}
@@ -131,14 +131,14 @@ module _ (t : Data) (aim : Aim) (s : State) (it : Facts t aim s) where
   pub dirty_logged : IsHardened aim → (p l : ℕ) → aim.loose p l ≡ true → (w : ℕ) → IsWord (aim_sizes aim) p l w → is_logged (log_in aim) p l w ≡ true
   dirty_logged hard p l loose w word = hard_logged aim hard p l w (it.recorded p l w word loose)
 
-  -- all homes are steady behind a fence, or settled
+  -- all homes are flushed or settled
   pub homes_flushed : HomesFlushed (keeping t aim) s
   homes_flushed = record {
     frames = λ k l w h named hl hw. of_owner k l w named hl hw h (t.owner k) refl;
     blocks = λ p hp none. of_frame p hp none (t.frame p) refl;
   }
     where
-      of_owner : (k l w : ℕ) → entry_at (current s) k ≢ 0 → l < 64 → w < 8 → k ≤ (aim_sizes aim).frames → (o : Option ℕ) → t.owner k ≡ o → IsSteadyFenced (s.nvm (frame_line (aim_sizes aim) k l) w)
+      of_owner : (k l w : ℕ) → entry_at (current s) k ≢ 0 → l < 64 → w < 8 → k ≤ (aim_sizes aim).frames → (o : Option ℕ) → t.owner k ≡ o → (s.nvm (frame_line (aim_sizes aim) k l) w).kept ≡ 0
       of_owner k l w named hl hw h None at = absurd (named (it.entries_same k h ∙ ap entry_of at))
       of_owner k l w named hl hw h (Some p) at = it.flushed k p l w at hl hw
 
@@ -148,7 +148,7 @@ module _ (t : Data) (aim : Aim) (s : State) (it : Facts t aim s) where
 
 -- and back: of a table that names the pages of the frames
 module _ (t : Data) (b : Bookkeeping) (s : State) (placed : IsPlaced b.sizes t (current s)) (flushed : HomesFlushed b s) where
-  pub frame_flushed : (k p l w : ℕ) → t.owner k ≡ Some p → l < 64 → w < 8 → IsSteadyFenced (s.nvm (frame_line b.sizes k l) w)
+  pub frame_flushed : (k p l w : ℕ) → t.owner k ≡ Some p → l < 64 → w < 8 → (s.nvm (frame_line b.sizes k l) w).kept ≡ 0
   frame_flushed k p l w at hl hw =
       let low : k ≤ b.sizes.frames = placed.framed p k (placed.frame k p at) in
       flushed.frames k l w low (λ none. let named : entry_at (current s) k ≡ p + 1 = placed.entries k low ∙ ap entry_of at in omega arith) hl hw

@@ -3,7 +3,7 @@ use Rattle.std.proofs.Common.{◌≡◌, ℕ, ◌<◌, refl, sym, ap, ◌∙◌,
 use Rattle.std.specs.Prelude.{OnOk}
 use Rattle.devices.specs.State.{State, Image, Leaves, current, fresh}
 use Rattle.devices.specs.World.{Standing, now}
-use Rattle.store_model.specs.Layout.{Sizes, pages, frame_line}
+use Rattle.store_model.specs.Layout.{Sizes, pages}
 use Rattle.store_model.specs.Append.{RecoversTo}
 use Rattle.store_model.specs.Format.{Format}
 use Rattle.store_model.specs.Recovered.{IsStore, lines_of, recovered, super_of}
@@ -14,7 +14,6 @@ use Rattle.devices.proofs.FreshLaws.{fresh_only}
 use Rattle.home_laws.proofs.FactsLaws.{facts_recover, current_leaves}
 use Rattle.home_laws.proofs.RecoveredLaws.{lines_of-same}
 use Rattle.line_pages.specs.declared.stop.Stop.{Stop}
-use Rattle.home_laws.proofs.SteadyLaws.{flushed_steady}
 use Rattle.device_calls.specs.Leads.{Leads, ReadsAs, Looked}
 use Rattle.device_calls.proofs.LeadsLaws.{leads_now, leads_read, leads_moments, leads_read_moments, earlier_told, looked_same}
 use Rattle.device_calls.proofs.ReadLaws.{current_as}
@@ -59,7 +58,7 @@ facts_read t aim s it = record {
   loose = it.loose;
   recorded = it.recorded;
   clean = it.clean;
-  flushed = λ k p l w at hl hw. flushed_steady ((fresh (current s)).nvm (frame_line (aim_sizes aim) k l) w) refl;
+  flushed = λ k p l w at hl hw. refl;
   settled = λ p low none. refl;
   unworn = λ k p at not. record { settled = refl; words = (it.unworn k p at not).words };
   waits = λ n w less hw. record { newest = (it.waits n w less hw).newest; kept = refl };

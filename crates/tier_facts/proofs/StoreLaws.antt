@@ -6,7 +6,6 @@ use Rattle.nvm_model.specs.Word.{Word, stored, marked}
 use Rattle.devices.specs.State.{State, Image, Call, Leaves, Amid, current, after_all, line_stored, fenced}
 use Rattle.devices.specs.State.Call.{fence}
 use Rattle.devices.specs.Growth.{no_store, no_write}
-use Rattle.store_model.specs.Shown.{IsSteadyFenced}
 use Rattle.store_model.specs.Layout.{Sizes, pages, entry_line, entry_word, ring_line, frame_line}
 use Rattle.store_model.specs.Log.{Words, Log, is_logged}
 use Rattle.store_model.specs.Format.{word_in}
@@ -24,7 +23,6 @@ use Rattle.home_laws.proofs.RecoveredLaws.{from-same}
 use Rattle.home_laws.proofs.QuietLaws.{fence_facts, quiet_facts, no_stores_quiet}
 use Rattle.home_laws.proofs.StoreLaws.{store_facts}
 use Rattle.home_laws.proofs.UntouchedLaws.{calls_untouched}
-use Rattle.home_laws.proofs.SteadyLaws.{flushed_steady, fence_steady}
 use Rattle.device_calls.specs.Leads.{Steps, Given}
 use Rattle.tier_facts.specs.Data.{Data, or_home, home_of, current_in, with_mark, line_cleaned}
 use Rattle.tier_facts.specs.Facts.{Aim, Held, Facts, Hard, IsHardened, IsWritten, InFrame, IsLoose, FactsWith, aim_sizes, keeping, log_in}
@@ -51,7 +49,7 @@ fenced_facts t aim s it = record {
   loose = it.loose;
   recorded = it.recorded;
   clean = it.clean;
-  flushed = λ k p l w at hl hw. fence_steady (s.nvm (frame_line (aim_sizes aim) k l) w) (it.flushed k p l w at hl hw);
+  flushed = it.flushed;
   settled = it.settled;
   unworn = λ k p at not. record { settled = (it.unworn k p at not).settled; words = (it.unworn k p at not).words };
   waits = λ n w less hw. record { newest = (it.waits n w less hw).newest; kept = (it.waits n w less hw).kept };
@@ -103,10 +101,10 @@ module _ (t : Data) (aim : Aim) (s : State) (it : Facts t aim s) (hard : IsHarde
   frame_stays : (n l w : ℕ) → l < 64 → ((n ≡ k) × (l ≡ line) → ⊥) → (next.nvm (frame_line (aim_sizes aim) n l) w).newest ≡ (s.nvm (frame_line (aim_sizes aim) n l) w).newest
   frame_stays n l w hl other = other_word (frame_line (aim_sizes aim) n l) w (λ at. other (frame_apart (aim_sizes aim) n k l line hl in_page at))
 
-  flushed_stays : (n l w : ℕ) → w < 8 → IsSteadyFenced (s.nvm (frame_line (aim_sizes aim) n l) w) → IsSteadyFenced (next.nvm (frame_line (aim_sizes aim) n l) w)
+  flushed_stays : (n l w : ℕ) → w < 8 → (s.nvm (frame_line (aim_sizes aim) n l) w).kept ≡ 0 → (next.nvm (frame_line (aim_sizes aim) n l) w).kept ≡ 0
   flushed_stays n l w hw was = elim (cases_eq (frame_line (aim_sizes aim) n l) (frame_line (aim_sizes aim) k line)) [
-    | inl same ↦ flushed_steady (next.nvm (frame_line (aim_sizes aim) n l) w) (ap (λ m. (next.nvm m w).kept) same ∙ ap (λ (x : Word). x.kept) (stored_word w hw))
-    | inr apart ↦ untouched.steady (frame_line (aim_sizes aim) n l) w (λ v st. apart st.0) was
+    | inl same ↦ ap (λ m. (next.nvm m w).kept) same ∙ ap (λ (x : Word). x.kept) (stored_word w hw)
+    | inr apart ↦ untouched.flushed (frame_line (aim_sizes aim) n l) w (λ v st. apart st.0) was
   ]
 
   only_page : (p : ℕ) → t.frame p ≡ Some k → p ≡ page

@@ -1,7 +1,7 @@
 -- What holds of the devices and the tiers between two calls.
 use Rattle.std.specs.Prelude.{◌≡◌, ℕ, ◌+◌, ◌<◌, ◌≤◌, Bool, true, false, IsTrue, List, [], length, slice_index_or, Some, None, ◌||◌}
 use Rattle.nvm_model.specs.declared.line.Line.{Line}
-use Rattle.nvm_model.specs.Word.{IsSteady}
+use Rattle.nvm_model.specs.Word.{IsSingle}
 use Rattle.devices.specs.State.{State, Image, Leaves, current}
 use Rattle.store_model.specs.Layout.{Sizes, pages, ring_line, frame_line, page_block}
 use Rattle.store_model.specs.Log.{Words, Change, Log, no_log, grouped, is_logged, named_in}
@@ -10,7 +10,6 @@ use Rattle.store_model.specs.Recovered.{home, Super, super_of, entry_at, log_lin
 use Rattle.store_model.specs.StoreFacts.{Bookkeeping, IsWord, StoreFacts}
 use Rattle.store_model.specs.Copies.{with_line}
 use Rattle.store_model.specs.Put.{IsFlushed}
-use Rattle.store_model.specs.Shown.{IsSteadyFenced}
 use Rattle.device_calls.specs.Leads.{Given}
 use Rattle.tier_facts.specs.Data.{Data, entry_of, home_of, current_in}
 
@@ -95,8 +94,8 @@ pub record Facts (t : Data) (aim : Aim) (s : State) : Type 0 where
   -- a line of a copy that is not dirty is its home
   pub clean : (p l w : ℕ) (line : Line) → IsWord (aim_sizes aim) p l w → t.copy p l ≡ Some line → t.dirty p l ≡ false
       → word_in line w ≡ home_of (aim_sizes aim) t (current s) p l w
-  -- a fence leaves the lines of frames that have a page steady, and the blocks of pages that stand in no frame are settled
-  pub flushed : (k p l w : ℕ) → t.owner k ≡ Some p → l < 64 → w < 8 → IsSteadyFenced (s.nvm (frame_line (aim_sizes aim) k l) w)
+  -- the lines of frames that have a page are flushed, and the blocks of pages that stand in no frame are settled
+  pub flushed : (k p l w : ℕ) → t.owner k ≡ Some p → l < 64 → w < 8 → (s.nvm (frame_line (aim_sizes aim) k l) w).kept ≡ 0
   pub settled : (p : ℕ) → p < pages (aim_sizes aim) → t.frame p ≡ None → IsTrue (s.ssd (page_block (aim_sizes aim) p)).settled
   -- a frame that is not worn is as its block
   pub unworn : (k p : ℕ) → t.owner k ≡ Some p → t.worn k ≡ false → IsWritten (aim_sizes aim) p k s
@@ -157,4 +156,4 @@ pub record Settled (t : Data) (aim : Aim) (s : State) : Type 0 where
   pub hard : IsHardened aim
   pub facts : Facts t aim s
   pub homes : (i : Image) → Leaves s i → (p l w : ℕ) → IsWord (aim_sizes aim) p l w → home i p l w ≡ aim.words p l w
-  pub durable : (k p l w : ℕ) → t.owner k ≡ Some p → l < 64 → w < 8 → IsSteady (s.nvm (frame_line (aim_sizes aim) k l) w)
+  pub durable : (k p l w : ℕ) → t.owner k ≡ Some p → l < 64 → w < 8 → IsSingle (s.nvm (frame_line (aim_sizes aim) k l) w)

@@ -2,4 +2,3 @@ pub mod Data
 pub mod Facts
 pub mod Shown
 pub mod Reads
-pub mod Opening

@@ -32,13 +32,6 @@ pub through_data : (none said : Bool) (g h : Sizes) (old after : Parts) → thro
 through_data none said g h old after is same =
     ap (λ (x : Sizes). data_of_parts x after) same ∙ sym (ap (λ (a : PartsAnswer). data_of_parts g a.parts) is) ∙ through_same none g old
 
-through_same_fetches : (none : Bool) (old : Parts) → (through_by none old).parts.tally.fetches ≡ old.tally.fetches
-through_same_fetches true old = refl
-through_same_fetches false old = refl
-
-pub through_fetches : (none said : Bool) (old after : Parts) → through_by none old ≡ record { yes = said; parts = after } → after.tally.fetches ≡ old.tally.fetches
-through_fetches none said old after is = sym (ap (λ (a : PartsAnswer). a.parts.tally.fetches) is) ∙ through_same_fetches none old
-
 -- ---- the open access works where the page lies
 
 pub works_there : (o : Option Access) (page count : ℕ) (spot : Spot) (m : Placement) → IfSome o (λ (a : Access). a.page ≡ page) → IfSome o (λ (a : Access). a.spot ≡ spot)

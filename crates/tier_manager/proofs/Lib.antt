@@ -14,7 +14,3 @@ mod KeptMini
 mod ReadyLaws
 mod TouchedLaws
 mod WroteLaws
-mod TellingLaws
-mod RuleLaws
-mod ReadsLaws
-mod TouchCalls

@@ -1,7 +1,6 @@
 -- No access is open when the tiers are made.
 use Rattle.std.proofs.Common.{◌≡◌, ℕ, zero, suc, refl, sym, ap, ◌∙◌, List}
 use Rattle.std.specs.Prelude.{Option, Some, None, IfSome, slice_index}
-use Rattle.page_frame.specs.LineSets.{no_lines}
 use Rattle.tier_rules.specs.Plans.{Plan}
 use Rattle.tier_rules.specs.Opening.{named_page}
 use Rattle.tier_rules.specs.Parts.{Parts}
@@ -10,7 +9,6 @@ use Rattle.tier_pool.specs.declared.pool.TierPool.{TierPool}
 use Rattle.tier_pool.specs.Fields.{parts_of, access_of}
 use Rattle.tier_pool.specs.Opening.{empty_parts, entry_placed, entries_placed}
 use Rattle.tier_pool.proofs.SteadyHolds.{none_some}
-use Rattle.tier_manager.specs.Telling.{told_by}
 
 entry_access : (o : Option ℕ) (k : ℕ) (parts : Parts) → (entry_placed o k parts).access ≡ parts.access
 entry_access None k parts = refl
@@ -27,11 +25,3 @@ no_access (Some a) P e = none_some (sym e)
 
 pub made_rests : (made : TierPool) (plan : Plan) (n k : ℕ) (words : List ℕ) (P : Access → Type 0) → parts_of made ≡ entries_placed k words (empty_parts plan n) → IfSome made.access P
 made_rests made plan n k words P is = no_access made.access P (ap (λ (p : Parts). p.access) is ∙ entries_access words (empty_parts plan n) k)
-
-no_told : (o : Option Access) → access_of o ≡ None → told_by o ≡ no_lines
-no_told None e = refl
-no_told (Some access) e = none_some (sym e)
-
--- and so nothing is told of one
-pub made_told : (made : TierPool) (plan : Plan) (n k : ℕ) (words : List ℕ) → parts_of made ≡ entries_placed k words (empty_parts plan n) → told_by made.access ≡ no_lines
-made_told made plan n k words is = no_told made.access (ap (λ (p : Parts). p.access) is ∙ entries_access words (empty_parts plan n) k)

@@ -10,7 +10,7 @@ use Rattle.tier_map.specs.declared.place.Place.{Place}
 use Rattle.tier_map.specs.declared.place.Place.TheVariants.{Absent, Full, Mini}
 use Rattle.page_frame.specs.Frames.{line_at}
 use Rattle.tier_rules.specs.Parts.{Parts, copy_at, copy_line}
-use Rattle.device_calls.specs.Leads.{Leads, Looked, Given}
+use Rattle.device_calls.specs.Leads.{Leads, Given}
 use Rattle.device_calls.proofs.LeadsLaws.{leads_then, leads_ok, leads_map, leads_given}
 use Rattle.tier_facts.specs.Data.{Data}
 use Rattle.tier_facts.specs.Facts.{Aim, Held, Facts, Hard, IsHardened}
@@ -87,6 +87,3 @@ copied_there page line spot parts x lies found = ap (λ (p : Place). line_at (co
 
 pub leads_by : {T : Type 0} {A B : Aim → State → Type 0} {a b c : Standing} {r : Result T Stop} → c ≡ b → Leads Held A B a b r → Leads Held A B a c r
 leads_by {A = A} {B = B} {a = a} {r = r} same call = subst (λ (d : Standing). Leads Held A B a d r) (sym same) call
-
-pub looked_by : {T : Type 0} {a b c : Standing} {r : Result T Stop} → c ≡ b → Looked a b r → Looked a c r
-looked_by {a = a} {r = r} same looked = subst (λ (d : Standing). Looked a d r) (sym same) looked

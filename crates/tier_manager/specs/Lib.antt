@@ -6,5 +6,3 @@ pub mod Quiet
 pub mod Cleaning
 pub mod Entering
 pub mod Touching
-pub mod Rules
-pub mod Calls

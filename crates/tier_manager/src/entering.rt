@@ -1,18 +1,19 @@
 //! The beginning of an access.
 ghost use Rattle.std.specs.Prelude.{◌≡◌, ◌≢◌, ◌<◌, ◌≤◌, IfOk, OnOk, IfSome, Some, None, not, true};
 ghost use Rattle.std.specs.Option.{is_some};
-ghost use Rattle.device_calls.specs.Leads.{Looked};
+ghost use Rattle.store_model.specs.Layout.{pages};
+ghost use Rattle.nvm_layout.specs.Sizes.{sizes_of};
 ghost use Rattle.tier_rules.specs.Plans.{dram_question};
 ghost use Rattle.tier_rules.specs.Entering.{begins};
-ghost use Rattle.tier_pool.specs.Calls.{Calls};
+ghost use Rattle.tier_pool.specs.Calls.{Fits, Calls};
 ghost use Rattle.tier_pool.specs.FullRoom.{drawn};
 ghost use Rattle.tier_pool.specs.Hits.{frame_hit};
 ghost use Rattle.tier_pool.specs.Standing.{IsSteady as AreSteady};
-ghost use Rattle.tier_manager.specs.Calls.{Fits, LeadsHard, LeadsFacts};
+ghost use Rattle.tier_pool.specs.Storing.{LeadsHard, LeadsFacts};
 ghost use Rattle.tier_manager.specs.Entering.{through_nvm, BroughtIf, BroughtBy, ThroughIf, ThroughBy, ReadInBy, EnteredBelow, Entered, Begun, Opened};
-ghost use Rattle.tier_manager.specs.Fields.{parts_of, geometry_of, page_count, access_of, CountsFetches, SameSizes};
+ghost use Rattle.tier_manager.specs.Fields.{parts_of, SameSizes};
 ghost use Rattle.tier_manager.specs.Steady.{IsSteady, LiesAt};
-ghost use Rattle.tier_manager.specs.Telling.{told_of, telling_of, access_told};
+ghost use Rattle.tier_manager.specs.Telling.{told_of};
 
 use crate::tiers::Tiers;
 use devices::Devices;
@@ -58,23 +59,16 @@ impl Tiers {
         page: u64,
         writes: bool,
     ) -> Result<Spot, Stop>
-        requires fits { Fits self.old (D.standing dev.old) }
-        requires page { page < page_count self.old }
+        requires fits { Fits self.old.pool.geometry (D.standing dev.old) }
+        requires page { page < pages (sizes_of self.old.pool.geometry) }
         requires steady { IsSteady self.old }
         ensures call { Calls (D.standing dev.old) (D.standing dev.new) result }
-        ensures reads { OnOk result (
-            CountsFetches self.old self.new (D.standing dev.old) (D.standing dev.new)) }
-        ensures looked { (parts_of self.old).map.place page ≢ Place.Absent
-            → Looked (D.standing dev.old) (D.standing dev.new) result }
-        ensures leads { LeadsHard self.old self.new
-            (D.standing dev.old) (D.standing dev.new) result }
+        ensures leads { LeadsHard self.old.pool self.new.pool (D.standing dev.old) (D.standing dev.new) result }
         ensures quiet { (parts_of self.old).map.place page ≢ Place.Absent
-            → LeadsFacts self.old self.new (D.standing dev.old) (D.standing dev.new) result }
+            → LeadsFacts self.old.pool self.new.pool (D.standing dev.old) (D.standing dev.new) result }
         ensures opened { OnOk result (Opened page writes (parts_of self.old) (parts_of self.new)) }
         ensures lies { IfOk result (λ spot. LiesAt page spot (parts_of self.new).map) }
         ensures told { told_of self.new ≡ told_of self.old }
-        ensures telling { OnOk result (let begun = begins (parts_of self.old).access page writes in
-            telling_of self.new ≡ access_told begun (telling_of self.old)) }
         ensures keeps { OnOk result (IsSteady self.new) }
         ensures same { SameSizes self.old self.new }
     {
@@ -91,23 +85,16 @@ impl Tiers {
         page: u64,
         writes: bool,
     ) -> Result<Spot, Stop>
-        requires fits { Fits self.old (D.standing dev.old) }
-        requires page { page < page_count self.old }
+        requires fits { Fits self.old.pool.geometry (D.standing dev.old) }
+        requires page { page < pages (sizes_of self.old.pool.geometry) }
         requires steady { AreSteady (parts_of self.old) }
         ensures call { Calls (D.standing dev.old) (D.standing dev.new) result }
-        ensures reads { OnOk result (
-            CountsFetches self.old self.new (D.standing dev.old) (D.standing dev.new)) }
-        ensures looked { (parts_of self.old).map.place page ≢ Place.Absent
-            → Looked (D.standing dev.old) (D.standing dev.new) result }
-        ensures leads { LeadsHard self.old self.new
-            (D.standing dev.old) (D.standing dev.new) result }
+        ensures leads { LeadsHard self.old.pool self.new.pool (D.standing dev.old) (D.standing dev.new) result }
         ensures quiet { (parts_of self.old).map.place page ≢ Place.Absent
-            → LeadsFacts self.old self.new (D.standing dev.old) (D.standing dev.new) result }
+            → LeadsFacts self.old.pool self.new.pool (D.standing dev.old) (D.standing dev.new) result }
         ensures begun { OnOk result (Begun page writes (parts_of self.old) (parts_of self.new)) }
         ensures lies { IfOk result (λ spot. LiesAt page spot (parts_of self.new).map) }
         ensures told { told_of self.new ≡ told_of self.old }
-        ensures telling { OnOk result (telling_of self.new
-            ≡ access_told true (telling_of self.old)) }
         ensures keeps { OnOk result (IsSteady self.new) }
         ensures same { SameSizes self.old self.new }
     {
@@ -117,7 +104,7 @@ impl Tiers {
 
     /// Where a page lies: in its copy, or else in its frame.
     pub(crate) fn spot(&self, page: u64) -> Spot
-        requires page { page < page_count self.now }
+        requires page { page < pages (sizes_of self.now.pool.geometry) }
         ensures place { result.place ≡ (parts_of self.now).map.place page }
         ensures frame { result.frame ≡ (parts_of self.now).map.nvm page }
     {
@@ -129,14 +116,13 @@ impl Tiers {
 
     /// The open access is one of this page and kind, works where the page lies, and told of nothing.
     fn work_at(&mut self, page: u64, writes: bool) -> Spot
-        requires page { page < page_count self.old }
-        ensures parts { parts_of self.new
-            ≡ record (parts_of self.old) { access = Some (page, writes) } }
-        ensures of { IfSome (access_of self.new) (λ access. access.page ≡ page) }
-        ensures there { IfSome (access_of self.new) (λ access. access.spot ≡ result) }
+        requires page { page < pages (sizes_of self.old.pool.geometry) }
+        ensures parts { parts_of self.new ≡ record (parts_of self.old) { access = Some (page, writes) } }
+        ensures of { IfSome self.new.pool.access (λ access. access.page ≡ page) }
+        ensures there { IfSome self.new.pool.access (λ access. access.spot ≡ result) }
         ensures place { result.place ≡ (parts_of self.old).map.place page }
         ensures frame { result.frame ≡ (parts_of self.old).map.nvm page }
-        ensures told { telling_of self.new ≡ access_told true (telling_of self.old) }
+        ensures told { told_of self.new ≡ told_of self.old }
         ensures same { SameSizes self.old self.new }
     {
         let spot = self.spot(page);
@@ -151,20 +137,14 @@ impl Tiers {
 
     /// Entering: the page's copy is touched, or else it may come to a higher tier.
     fn enter<D: Devices>(&mut self, dev: &mut D, page: u64, writes: bool) -> Result<(), Stop>
-        requires fits { Fits self.old (D.standing dev.old) }
-        requires page { page < page_count self.old }
+        requires fits { Fits self.old.pool.geometry (D.standing dev.old) }
+        requires page { page < pages (sizes_of self.old.pool.geometry) }
         requires steady { AreSteady (parts_of self.old) }
         ensures call { Calls (D.standing dev.old) (D.standing dev.new) result }
-        ensures reads { OnOk result (
-            CountsFetches self.old self.new (D.standing dev.old) (D.standing dev.new)) }
-        ensures looked { (parts_of self.old).map.place page ≢ Place.Absent
-            → Looked (D.standing dev.old) (D.standing dev.new) result }
-        ensures leads { LeadsHard self.old self.new
-            (D.standing dev.old) (D.standing dev.new) result }
+        ensures leads { LeadsHard self.old.pool self.new.pool (D.standing dev.old) (D.standing dev.new) result }
         ensures quiet { (parts_of self.old).map.place page ≢ Place.Absent
-            → LeadsFacts self.old self.new (D.standing dev.old) (D.standing dev.new) result }
-        ensures entered { OnOk result (
-            Entered page writes (parts_of self.old) (parts_of self.new)) }
+            → LeadsFacts self.old.pool self.new.pool (D.standing dev.old) (D.standing dev.new) result }
+        ensures entered { OnOk result (Entered page writes (parts_of self.old) (parts_of self.new)) }
         ensures told { told_of self.new ≡ told_of self.old }
         ensures keeps { OnOk result (AreSteady (parts_of self.new)) }
         ensures same { SameSizes self.old self.new }
@@ -179,15 +159,12 @@ impl Tiers {
 
     /// Entering a page that has no copy.
     fn enter_below<D: Devices>(&mut self, dev: &mut D, page: u64, writes: bool) -> Result<(), Stop>
-        requires fits { Fits self.old (D.standing dev.old) }
-        requires page { page < page_count self.old }
+        requires fits { Fits self.old.pool.geometry (D.standing dev.old) }
+        requires page { page < pages (sizes_of self.old.pool.geometry) }
         requires steady { AreSteady (parts_of self.old) }
         requires absent { (parts_of self.old).map.place page ≡ Place.Absent }
         ensures call { Calls (D.standing dev.old) (D.standing dev.new) result }
-        ensures reads { OnOk result (
-            CountsFetches self.old self.new (D.standing dev.old) (D.standing dev.new)) }
-        ensures leads { LeadsHard self.old self.new
-            (D.standing dev.old) (D.standing dev.new) result }
+        ensures leads { LeadsHard self.old.pool self.new.pool (D.standing dev.old) (D.standing dev.new) result }
         ensures entered { OnOk result (let parts = parts_of self.old in
             EnteredBelow (parts.map.nvm page) page writes parts (parts_of self.new)) }
         ensures told { told_of self.new ≡ told_of self.old }
@@ -208,18 +185,14 @@ impl Tiers {
         frame: u32,
         writes: bool,
     ) -> Result<(), Stop>
-        requires fits { Fits self.old (D.standing dev.old) }
-        requires page { page < page_count self.old }
-        requires frame { frame < (geometry_of self.old).frames }
+        requires fits { Fits self.old.pool.geometry (D.standing dev.old) }
+        requires page { page < pages (sizes_of self.old.pool.geometry) }
+        requires frame { frame < self.old.pool.geometry.frames }
         requires steady { AreSteady (parts_of self.old) }
         requires absent { (parts_of self.old).map.place page ≡ Place.Absent }
         ensures call { Calls (D.standing dev.old) (D.standing dev.new) result }
-        ensures reads { OnOk result (
-            CountsFetches self.old self.new (D.standing dev.old) (D.standing dev.new)) }
-        ensures leads { LeadsHard self.old self.new
-            (D.standing dev.old) (D.standing dev.new) result }
-        ensures entered { OnOk result (
-            let answer = drawn (dram_question writes) (frame_hit frame (parts_of self.old)) in
+        ensures leads { LeadsHard self.old.pool self.new.pool (D.standing dev.old) (D.standing dev.new) result }
+        ensures entered { OnOk result (let answer = drawn (dram_question writes) (frame_hit frame (parts_of self.old)) in
             BroughtBy answer page (parts_of self.new)) }
         ensures told { told_of self.new ≡ told_of self.old }
         ensures keeps { OnOk result (AreSteady (parts_of self.new)) }
@@ -232,17 +205,13 @@ impl Tiers {
 
     /// A page in NVM comes to DRAM, or the access works in its frame.
     fn bring_if<D: Devices>(&mut self, dev: &mut D, page: u64, brings: bool) -> Result<(), Stop>
-        requires fits { Fits self.old (D.standing dev.old) }
-        requires page { page < page_count self.old }
+        requires fits { Fits self.old.pool.geometry (D.standing dev.old) }
+        requires page { page < pages (sizes_of self.old.pool.geometry) }
         requires steady { AreSteady (parts_of self.old) }
         requires absent { (parts_of self.old).map.place page ≡ Place.Absent }
         ensures call { Calls (D.standing dev.old) (D.standing dev.new) result }
-        ensures reads { OnOk result (
-            CountsFetches self.old self.new (D.standing dev.old) (D.standing dev.new)) }
-        ensures leads { LeadsHard self.old self.new
-            (D.standing dev.old) (D.standing dev.new) result }
-        ensures brought { OnOk result (
-            BroughtIf brings page (parts_of self.old) (parts_of self.new)) }
+        ensures leads { LeadsHard self.old.pool self.new.pool (D.standing dev.old) (D.standing dev.new) result }
+        ensures brought { OnOk result (BroughtIf brings page (parts_of self.old) (parts_of self.new)) }
         ensures told { told_of self.new ≡ told_of self.old }
         ensures keeps { OnOk result (AreSteady (parts_of self.new)) }
         ensures same { SameSizes self.old self.new }
@@ -255,18 +224,14 @@ impl Tiers {
 
     /// Entering a page that is on the SSD alone.
     fn enter_homed<D: Devices>(&mut self, dev: &mut D, page: u64, writes: bool) -> Result<(), Stop>
-        requires fits { Fits self.old (D.standing dev.old) }
-        requires page { page < page_count self.old }
+        requires fits { Fits self.old.pool.geometry (D.standing dev.old) }
+        requires page { page < pages (sizes_of self.old.pool.geometry) }
         requires steady { AreSteady (parts_of self.old) }
         requires absent { (parts_of self.old).map.place page ≡ Place.Absent }
         requires homeless { (parts_of self.old).map.nvm page ≡ None }
         ensures call { Calls (D.standing dev.old) (D.standing dev.new) result }
-        ensures reads { OnOk result (
-            CountsFetches self.old self.new (D.standing dev.old) (D.standing dev.new)) }
-        ensures leads { LeadsHard self.old self.new
-            (D.standing dev.old) (D.standing dev.new) result }
-        ensures entered { OnOk result (
-            ReadInBy (through_nvm (parts_of self.old)) page writes (parts_of self.new)) }
+        ensures leads { LeadsHard self.old.pool self.new.pool (D.standing dev.old) (D.standing dev.new) result }
+        ensures entered { OnOk result (ReadInBy (through_nvm (parts_of self.old)) page writes (parts_of self.new)) }
         ensures told { told_of self.new ≡ told_of self.old }
         ensures keeps { OnOk result (AreSteady (parts_of self.new)) }
         ensures same { SameSizes self.old self.new }
@@ -281,19 +246,15 @@ impl Tiers {
 
     /// A page on the SSD is read into NVM, and may come on to DRAM.
     fn read_in<D: Devices>(&mut self, dev: &mut D, page: u64, writes: bool) -> Result<(), Stop>
-        requires fits { Fits self.old (D.standing dev.old) }
-        requires page { page < page_count self.old }
-        requires some { 1 ≤ (geometry_of self.old).frames }
+        requires fits { Fits self.old.pool.geometry (D.standing dev.old) }
+        requires page { page < pages (sizes_of self.old.pool.geometry) }
+        requires some { 1 ≤ self.old.pool.geometry.frames }
         requires steady { AreSteady (parts_of self.old) }
         requires absent { (parts_of self.old).map.place page ≡ Place.Absent }
         requires homeless { (parts_of self.old).map.nvm page ≡ None }
         ensures call { Calls (D.standing dev.old) (D.standing dev.new) result }
-        ensures reads { OnOk result (
-            CountsFetches self.old self.new (D.standing dev.old) (D.standing dev.new)) }
-        ensures leads { LeadsHard self.old self.new
-            (D.standing dev.old) (D.standing dev.new) result }
-        ensures entered { OnOk result (
-            let answer = drawn (dram_question writes) (parts_of self.old) in
+        ensures leads { LeadsHard self.old.pool self.new.pool (D.standing dev.old) (D.standing dev.new) result }
+        ensures entered { OnOk result (let answer = drawn (dram_question writes) (parts_of self.old) in
             ThroughBy answer page (parts_of self.new)) }
         ensures told { told_of self.new ≡ told_of self.old }
         ensures keeps { OnOk result (AreSteady (parts_of self.new)) }
@@ -310,19 +271,15 @@ impl Tiers {
         page: u64,
         brings: bool,
     ) -> Result<(), Stop>
-        requires fits { Fits self.old (D.standing dev.old) }
-        requires page { page < page_count self.old }
-        requires some { 1 ≤ (geometry_of self.old).frames }
+        requires fits { Fits self.old.pool.geometry (D.standing dev.old) }
+        requires page { page < pages (sizes_of self.old.pool.geometry) }
+        requires some { 1 ≤ self.old.pool.geometry.frames }
         requires steady { AreSteady (parts_of self.old) }
         requires absent { (parts_of self.old).map.place page ≡ Place.Absent }
         requires homeless { (parts_of self.old).map.nvm page ≡ None }
         ensures call { Calls (D.standing dev.old) (D.standing dev.new) result }
-        ensures reads { OnOk result (
-            CountsFetches self.old self.new (D.standing dev.old) (D.standing dev.new)) }
-        ensures leads { LeadsHard self.old self.new
-            (D.standing dev.old) (D.standing dev.new) result }
-        ensures through { OnOk result (
-            ThroughIf brings page (parts_of self.old) (parts_of self.new)) }
+        ensures leads { LeadsHard self.old.pool self.new.pool (D.standing dev.old) (D.standing dev.new) result }
+        ensures through { OnOk result (ThroughIf brings page (parts_of self.old) (parts_of self.new)) }
         ensures told { told_of self.new ≡ told_of self.old }
         ensures keeps { OnOk result (AreSteady (parts_of self.new)) }
         ensures same { SameSizes self.old self.new }
@@ -336,10 +293,9 @@ impl Tiers {
 
     /// Whether a page on the SSD goes through NVM, where there is any.
     fn goes_through_nvm(&mut self) -> bool
-        ensures answer { through_nvm (parts_of self.old)
-            ≡ record { yes = result; parts = parts_of self.new } }
+        ensures answer { through_nvm (parts_of self.old) ≡ record { yes = result; parts = parts_of self.new } }
         ensures map { (parts_of self.new).map ≡ (parts_of self.old).map }
-        ensures some { result ≡ true → 1 ≤ (geometry_of self.new).frames }
+        ensures some { result ≡ true → 1 ≤ self.new.pool.geometry.frames }
         ensures told { told_of self.new ≡ told_of self.old }
         ensures same { SameSizes self.old self.new }
     {

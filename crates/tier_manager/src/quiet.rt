@@ -1,7 +1,8 @@
 //! Whether a touch would change no placement and store nothing to NVM.
 ghost use Rattle.std.specs.Prelude.{◌≡◌, ◌<◌, ◌||◌, nat_lt};
 ghost use Rattle.page_frame.specs.LineSets.{has_line, line_count};
-ghost use Rattle.tier_manager.specs.Fields.{page_count};
+ghost use Rattle.store_model.specs.Layout.{pages};
+ghost use Rattle.nvm_layout.specs.Sizes.{sizes_of};
 ghost use Rattle.tier_manager.specs.Quiet.{is_quiet};
 
 use crate::tiers::Tiers;
@@ -30,7 +31,7 @@ fn has_or_fits(lines: u64, line: usize) -> bool
 impl Tiers {
     /// Whether a touch of the line would change no placement and store nothing to NVM.
     pub fn quiet(&self, page: u64, line: usize) -> bool
-        requires page { page < page_count self.now }
+        requires page { page < pages (sizes_of self.now.pool.geometry) }
         requires line { line < 64 }
         ensures { result ≡ is_quiet self.now page line }
     {

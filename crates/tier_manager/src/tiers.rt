@@ -1,16 +1,12 @@
 //! The tiers: a pool and what is told of it.
-ghost use Rattle.std.specs.Prelude.{◌≡◌, ◌+◌, ◌<◌, IfOk, IfSome, None, length};
+ghost use Rattle.std.specs.Prelude.{◌≡◌, ◌+◌, IfOk, None, length};
 ghost use Rattle.store_model.specs.Layout.{pages};
 ghost use Rattle.nvm_layout.specs.Sizes.{sizes_of};
 ghost use Rattle.tier_rules.specs.Plans.{plan_of};
-ghost use Rattle.page_frame.specs.LineSets.{no_lines};
-ghost use Rattle.tier_rules.specs.Opening.{IsTable, opened};
-ghost use Rattle.tier_rules.specs.Entering.{rested};
-ghost use Rattle.tier_rules.specs.State.{counting};
+ghost use Rattle.tier_rules.specs.Opening.{IsTable};
 ghost use Rattle.tier_rules.specs.Tallies.{log_lines_read};
-ghost use Rattle.tier_pool.specs.Opening.{NamesWithin, empty_parts, entries_placed};
+ghost use Rattle.tier_pool.specs.Opening.{NamesWithin, IsMadeFor, empty_parts, entries_placed};
 ghost use Rattle.tier_manager.specs.Sizes.{trace_room};
-ghost use Rattle.pool_laws.specs.States.{IsState};
 
 use crate::trace::Trace;
 use migration_policy::Policy;
@@ -28,10 +24,9 @@ pub struct Tiers {
 }
 
 impl Tiers {
-    ghost use Rattle.tier_manager.specs.Fields.{parts_of, data_of, AreFor, SameSizes};
+    ghost use Rattle.tier_manager.specs.Fields.{parts_of, SameSizes};
     ghost use Rattle.tier_manager.specs.Steady.{IsSteady};
-    ghost use Rattle.tier_manager.specs.Rules.{FollowsRule};
-    ghost use Rattle.tier_manager.specs.Telling.{told_of, telling_of, nothing_told, log_reads_told};
+    ghost use Rattle.tier_manager.specs.Telling.{told_of, nothing_told, told_with, log_reads_told};
 
     /// The tiers as the words of the frame table say: each frame's entry is 0, or the number of its page plus 1. The last word is
     /// that of the frame through which pages pass. DRAM is empty.
@@ -49,25 +44,13 @@ impl Tiers {
             let n = geometry.now.frames in
             parts_of made ≡ entries_placed n words.now (empty_parts (plan_of policy.now) n)) }
         ensures keeps { IfOk result IsSteady }
-        ensures told { IfOk result (λ made. let room = trace_room geometry.now trace in
-            telling_of made ≡ record { told = nothing_told room; lines = no_lines }) }
-        ensures rule { IfOk result (λ made.
-            IsState (parts_of made) (opened (plan_of policy.now) words.now)) }
-        ensures of { IfOk result (λ made. AreFor geometry.now policy.now made) }
+        ensures told { IfOk result (λ made. told_of made ≡ nothing_told (trace_room geometry.now trace)) }
+        ensures of { IfOk result (λ made. IsMadeFor geometry.now policy.now made.pool) }
     {
         Ok(Tiers {
             pool: TierPool::new(alloc, geometry, policy, words)?,
             trace: Trace::new(alloc, geometry, trace)?,
         })
-    }
-
-    /// The frame of the NVM in which a page is, if it is in one.
-    pub fn frame(&self, page: u64) -> Option<u32>
-        requires { page < pages (data_of self.now).sizes }
-        ensures frame { result ≡ (data_of self.now).frame page }
-        ensures within { IfSome result (λ frame. frame < (data_of self.now).sizes.frames) }
-    {
-        self.pool.frame(page)
     }
 
     /// What was counted since the tiers were made.
@@ -86,11 +69,8 @@ impl Tiers {
 
     /// Nothing is told.
     pub fn clear_trace(&mut self)
-        ensures told { let told = nothing_told (told_of self.old).room in
-            telling_of self.new ≡ record (telling_of self.old) { told = told } }
-        ensures parts { parts_of self.new ≡ parts_of self.old }
-        ensures keeps { IsSteady self.old → IsSteady self.new }
-        ensures same { SameSizes self.old self.new }
+        ensures told { told_of self.new ≡ nothing_told (told_of self.old).room }
+        ensures pool { self.new.pool ≡ self.old.pool }
     {
         self.trace.clear();
     }
@@ -99,9 +79,7 @@ impl Tiers {
     pub fn count_log_reads(&mut self, count: u64)
         ensures parts { let tally = log_lines_read count (parts_of self.old).tally in
             parts_of self.new ≡ record (parts_of self.old) { tally = tally } }
-        ensures told { let told = log_reads_told count (told_of self.old) in
-            telling_of self.new ≡ record (telling_of self.old) { told = told } }
-        ensures rule { FollowsRule (counting (log_lines_read count)) self.old self.new }
+        ensures told { told_of self.new ≡ log_reads_told count (told_of self.old) }
         ensures keeps { IsSteady self.old → IsSteady self.new }
         ensures same { SameSizes self.old self.new }
     {
@@ -114,8 +92,7 @@ impl Tiers {
     /// No access is open.
     pub fn rest(&mut self)
         ensures parts { parts_of self.new ≡ record (parts_of self.old) { access = None } }
-        ensures told { telling_of self.new ≡ record (telling_of self.old) { lines = no_lines } }
-        ensures rule { FollowsRule rested self.old self.new }
+        ensures told { told_of self.new ≡ told_of self.old }
         ensures keeps { IsSteady self.old → IsSteady self.new }
         ensures same { SameSizes self.old self.new }
     {

@@ -1,21 +1,21 @@
 //! The touch of a line: it is read, made ready to be written, or written.
 ghost use Rattle.std.specs.Prelude.{◌≡◌, ℕ, ◌<◌, ◌≤◌, IfOk, OnOk, IfSome, IsSome, None, true, false};
 ghost use Rattle.line_pages.specs.Lines.{IsLine};
-ghost use Rattle.device_calls.specs.Leads.{Leads, Looked, Given};
+ghost use Rattle.device_calls.specs.Leads.{Leads, Given};
+ghost use Rattle.store_model.specs.Layout.{pages};
+ghost use Rattle.nvm_layout.specs.Sizes.{sizes_of};
 ghost use Rattle.tier_facts.specs.Facts.{Held, Facts, Hard, IsLoose, FactsWith};
 ghost use Rattle.tier_facts.specs.Reads.{IsCurrentLine};
 ghost use Rattle.tier_rules.specs.Parts.{copy_line};
-ghost use Rattle.tier_rules.specs.Runs.{read_of, write_of};
-ghost use Rattle.tier_rules.specs.Step.{ready_step, tier_step};
-ghost use Rattle.tier_pool.specs.Calls.{Calls};
+ghost use Rattle.tier_pool.specs.Calls.{Fits, Calls};
 ghost use Rattle.tier_pool.specs.Bringing.{FetchedInto};
 ghost use Rattle.tier_pool.specs.Standing.{IsSteady as AreSteady};
+ghost use Rattle.tier_pool.specs.Storing.{LeadsHard, LeadsFacts, LeadsToLine, LeadsWritten};
 ghost use Rattle.tier_pool.specs.Touching.{LoadedToFull, promoted};
-ghost use Rattle.tier_manager.specs.Calls.{Fits, LeadsHard, LeadsFacts, MayTouch, IsTouch};
-ghost use Rattle.tier_manager.specs.Fields.{parts_of, data_of, page_count, policy_of, access_of, CountsFetches, SameSizes};
+ghost use Rattle.tier_manager.specs.Fields.{parts_of, data_of, SameSizes};
 ghost use Rattle.tier_manager.specs.Quiet.{is_quiet};
 ghost use Rattle.tier_manager.specs.Steady.{IsSteady, LiesAt};
-ghost use Rattle.tier_manager.specs.Telling.{telling_of, line_of, touch_of, touch_told, Tells};
+ghost use Rattle.tier_manager.specs.Telling.{told_of};
 ghost use Rattle.tier_manager.specs.Touching.{IsThere, IsCopy, Outgrown, PromotedTo, Readied, Touched, Wrote, line_written};
 
 use crate::quiet::has_room;
@@ -30,7 +30,6 @@ use tier_rules::TraceLine;
 /// What is told of a touch.
 fn touch_told(page: u64, line: usize, writes: bool) -> TraceLine
     requires { line < 64 }
-    ensures { result ≡ line_of (touch_of page line writes) }
 {
     if writes {
         TraceLine::Write(page, line as u8)
@@ -47,9 +46,11 @@ impl Tiers {
         page: u64,
         line: usize,
     ) -> Result<Line, Stop>
-        requires { MayTouch (read_of page line) self.old (D.standing dev.old) }
-        ensures touch { IsTouch tier_step (read_of page line) self.old self.new
-            (D.standing dev.old) (D.standing dev.new) result }
+        requires fits { Fits self.old.pool.geometry (D.standing dev.old) }
+        requires page { page < pages (sizes_of self.old.pool.geometry) }
+        requires line { line < 64 }
+        requires steady { IsSteady self.old }
+        ensures call { Calls (D.standing dev.old) (D.standing dev.new) result }
         ensures leads { Leads Held (Hard (data_of self.old))
             (Given (IsCurrentLine page line result) (Hard (data_of self.new)))
             (D.standing dev.old) (D.standing dev.new) result }
@@ -57,8 +58,9 @@ impl Tiers {
             (Given (IsCurrentLine page line result) (Facts (data_of self.new)))
             (D.standing dev.old) (D.standing dev.new) result }
         ensures is_line { IfOk result IsLine }
-        ensures touched { OnOk result (
-            Touched page line false (parts_of self.old) (parts_of self.new)) }
+        ensures touched { OnOk result (Touched page line false (parts_of self.old) (parts_of self.new)) }
+        ensures keeps { OnOk result (IsSteady self.new) }
+        ensures same { SameSizes self.old self.new }
     {
         self.current_line(dev, page, line, false)
     }
@@ -70,9 +72,11 @@ impl Tiers {
         page: u64,
         line: usize,
     ) -> Result<Line, Stop>
-        requires { MayTouch (write_of page line) self.old (D.standing dev.old) }
-        ensures touch { IsTouch ready_step (write_of page line) self.old self.new
-            (D.standing dev.old) (D.standing dev.new) result }
+        requires fits { Fits self.old.pool.geometry (D.standing dev.old) }
+        requires page { page < pages (sizes_of self.old.pool.geometry) }
+        requires line { line < 64 }
+        requires steady { IsSteady self.old }
+        ensures call { Calls (D.standing dev.old) (D.standing dev.new) result }
         ensures leads { Leads Held (Hard (data_of self.old))
             (Given (IsCurrentLine page line result) (Hard (data_of self.new)))
             (D.standing dev.old) (D.standing dev.new) result }
@@ -80,8 +84,9 @@ impl Tiers {
             (Given (IsCurrentLine page line result) (Facts (data_of self.new)))
             (D.standing dev.old) (D.standing dev.new) result }
         ensures is_line { IfOk result IsLine }
-        ensures touched { OnOk result (
-            Touched page line true (parts_of self.old) (parts_of self.new)) }
+        ensures touched { OnOk result (Touched page line true (parts_of self.old) (parts_of self.new)) }
+        ensures keeps { OnOk result (IsSteady self.new) }
+        ensures same { SameSizes self.old self.new }
     {
         self.current_line(dev, page, line, true)
     }
@@ -94,18 +99,19 @@ impl Tiers {
         line: usize,
         value: &Line,
     ) -> Result<(), Stop>
-        requires { MayTouch (write_of page line) self.old (D.standing dev.old) }
-        ensures touch { IsTouch tier_step (write_of page line) self.old self.new
-            (D.standing dev.old) (D.standing dev.new) result }
+        requires fits { Fits self.old.pool.geometry (D.standing dev.old) }
+        requires page { page < pages (sizes_of self.old.pool.geometry) }
+        requires line { line < 64 }
+        requires steady { IsSteady self.old }
+        ensures call { Calls (D.standing dev.old) (D.standing dev.new) result }
         ensures leads { Leads Held (Given (IsLoose page line) (Hard (data_of self.old)))
-            (FactsWith page line value.now (data_of self.new))
-            (D.standing dev.old) (D.standing dev.new) result }
+            (FactsWith page line value.now (data_of self.new)) (D.standing dev.old) (D.standing dev.new) result }
         ensures quiet { is_quiet self.old page line ≡ true
             → Leads Held (Given (IsLoose page line) (Facts (data_of self.old)))
-            (FactsWith page line value.now (data_of self.new))
-            (D.standing dev.old) (D.standing dev.new) result }
-        ensures written { OnOk result (
-            Wrote page line value.now (parts_of self.old) (parts_of self.new)) }
+            (FactsWith page line value.now (data_of self.new)) (D.standing dev.old) (D.standing dev.new) result }
+        ensures written { OnOk result (Wrote page line value.now (parts_of self.old) (parts_of self.new)) }
+        ensures keeps { OnOk result (IsSteady self.new) }
+        ensures same { SameSizes self.old self.new }
     {
         let spot = self.touch(dev, page, line, true)?;
         match spot.place {
@@ -126,15 +132,11 @@ impl Tiers {
         line: usize,
         writes: bool,
     ) -> Result<Line, Stop>
-        requires fits { Fits self.old (D.standing dev.old) }
-        requires page { page < page_count self.old }
+        requires fits { Fits self.old.pool.geometry (D.standing dev.old) }
+        requires page { page < pages (sizes_of self.old.pool.geometry) }
         requires line { line < 64 }
         requires steady { IsSteady self.old }
         ensures call { Calls (D.standing dev.old) (D.standing dev.new) result }
-        ensures reads { OnOk result (
-            CountsFetches self.old self.new (D.standing dev.old) (D.standing dev.new)) }
-        ensures looked { is_quiet self.old page line ≡ true
-            → Looked (D.standing dev.old) (D.standing dev.new) result }
         ensures leads { Leads Held (Hard (data_of self.old))
             (Given (IsCurrentLine page line result) (Hard (data_of self.new)))
             (D.standing dev.old) (D.standing dev.new) result }
@@ -142,9 +144,7 @@ impl Tiers {
             (Given (IsCurrentLine page line result) (Facts (data_of self.new)))
             (D.standing dev.old) (D.standing dev.new) result }
         ensures is_line { IfOk result IsLine }
-        ensures touched { OnOk result (
-            Touched page line writes (parts_of self.old) (parts_of self.new)) }
-        ensures told { Tells (touch_of page line writes) self.old self.new result }
+        ensures touched { OnOk result (Touched page line writes (parts_of self.old) (parts_of self.new)) }
         ensures keeps { OnOk result (IsSteady self.new) }
         ensures same { SameSizes self.old self.new }
     {
@@ -164,24 +164,16 @@ impl Tiers {
         line: usize,
         writes: bool,
     ) -> Result<Spot, Stop>
-        requires fits { Fits self.old (D.standing dev.old) }
-        requires page { page < page_count self.old }
+        requires fits { Fits self.old.pool.geometry (D.standing dev.old) }
+        requires page { page < pages (sizes_of self.old.pool.geometry) }
         requires line { line < 64 }
         requires steady { IsSteady self.old }
         ensures call { Calls (D.standing dev.old) (D.standing dev.new) result }
-        ensures reads { OnOk result (
-            CountsFetches self.old self.new (D.standing dev.old) (D.standing dev.new)) }
-        ensures looked { is_quiet self.old page line ≡ true
-            → Looked (D.standing dev.old) (D.standing dev.new) result }
-        ensures leads { LeadsHard self.old self.new
-            (D.standing dev.old) (D.standing dev.new) result }
+        ensures leads { LeadsHard self.old.pool self.new.pool (D.standing dev.old) (D.standing dev.new) result }
         ensures quiet { is_quiet self.old page line ≡ true
-            → LeadsFacts self.old self.new (D.standing dev.old) (D.standing dev.new) result }
-        ensures copied { is_quiet self.old page line ≡ true
-            → IfOk result (λ spot. IsCopy spot.place) }
-        ensures touched { OnOk result (
-            Touched page line writes (parts_of self.old) (parts_of self.new)) }
-        ensures told { Tells (touch_of page line writes) self.old self.new result }
+            → LeadsFacts self.old.pool self.new.pool (D.standing dev.old) (D.standing dev.new) result }
+        ensures copied { is_quiet self.old page line ≡ true → IfOk result (λ spot. IsCopy spot.place) }
+        ensures touched { OnOk result (Touched page line writes (parts_of self.old) (parts_of self.new)) }
         ensures lies { IfOk result (λ spot. LiesAt page spot (parts_of self.new).map) }
         ensures there { IfOk result (λ spot. IsThere spot.place line (parts_of self.new)) }
         ensures keeps { OnOk result (IsSteady self.new) }
@@ -196,10 +188,7 @@ impl Tiers {
     fn tell_touch(&mut self, page: u64, line: usize, writes: bool)
         requires line { line < 64 }
         requires steady { IsSteady self.old }
-        requires open { IsSome (access_of self.old) }
         ensures parts { parts_of self.new ≡ parts_of self.old }
-        ensures told { telling_of self.new
-            ≡ touch_told (touch_of page line writes) (telling_of self.old) }
         ensures keeps { IsSteady self.new }
         ensures same { SameSizes self.old self.new }
     {
@@ -222,27 +211,21 @@ impl Tiers {
         line: usize,
         spot: Spot,
     ) -> Result<Spot, Stop>
-        requires fits { Fits self.old (D.standing dev.old) }
-        requires page { page < page_count self.old }
+        requires fits { Fits self.old.pool.geometry (D.standing dev.old) }
+        requires page { page < pages (sizes_of self.old.pool.geometry) }
         requires line { line < 64 }
         requires steady { IsSteady self.old }
         requires opened { IfSome (parts_of self.old).access (λ access. access.0 ≡ page) }
         requires lies { LiesAt page spot (parts_of self.old).map }
         ensures call { Calls (D.standing dev.old) (D.standing dev.new) result }
-        ensures reads { OnOk result (
-            CountsFetches self.old self.new (D.standing dev.old) (D.standing dev.new)) }
-        ensures looked { is_quiet self.old page line ≡ true
-            → Looked (D.standing dev.old) (D.standing dev.new) result }
-        ensures leads { LeadsHard self.old self.new
-            (D.standing dev.old) (D.standing dev.new) result }
+        ensures leads { LeadsHard self.old.pool self.new.pool (D.standing dev.old) (D.standing dev.new) result }
         ensures quiet { is_quiet self.old page line ≡ true
-            → LeadsFacts self.old self.new (D.standing dev.old) (D.standing dev.new) result }
-        ensures copied { is_quiet self.old page line ≡ true
-            → IfOk result (λ spot. IsCopy spot.place) }
+            → LeadsFacts self.old.pool self.new.pool (D.standing dev.old) (D.standing dev.new) result }
+        ensures copied { is_quiet self.old page line ≡ true → IfOk result (λ spot. IsCopy spot.place) }
         ensures readied { OnOk result (Readied page line (parts_of self.old) (parts_of self.new)) }
         ensures lies { IfOk result (λ spot. LiesAt page spot (parts_of self.new).map) }
         ensures there { IfOk result (λ spot. IsThere spot.place line (parts_of self.new)) }
-        ensures told { telling_of self.new ≡ telling_of self.old }
+        ensures told { told_of self.new ≡ told_of self.old }
         ensures keeps { OnOk result (IsSteady self.new) }
         ensures same { SameSizes self.old self.new }
     {
@@ -267,28 +250,22 @@ impl Tiers {
         spot: Spot,
         mini: u32,
     ) -> Result<Spot, Stop>
-        requires fits { Fits self.old (D.standing dev.old) }
-        requires page { page < page_count self.old }
+        requires fits { Fits self.old.pool.geometry (D.standing dev.old) }
+        requires page { page < pages (sizes_of self.old.pool.geometry) }
         requires line { line < 64 }
         requires steady { IsSteady self.old }
         requires opened { IfSome (parts_of self.old).access (λ access. access.0 ≡ page) }
         requires lies { LiesAt page spot (parts_of self.old).map }
         requires mini { spot.place ≡ Place.Mini mini }
         ensures call { Calls (D.standing dev.old) (D.standing dev.new) result }
-        ensures reads { OnOk result (
-            CountsFetches self.old self.new (D.standing dev.old) (D.standing dev.new)) }
-        ensures looked { is_quiet self.old page line ≡ true
-            → Looked (D.standing dev.old) (D.standing dev.new) result }
-        ensures leads { LeadsHard self.old self.new
-            (D.standing dev.old) (D.standing dev.new) result }
+        ensures leads { LeadsHard self.old.pool self.new.pool (D.standing dev.old) (D.standing dev.new) result }
         ensures quiet { is_quiet self.old page line ≡ true
-            → LeadsFacts self.old self.new (D.standing dev.old) (D.standing dev.new) result }
-        ensures copied { is_quiet self.old page line ≡ true
-            → IfOk result (λ spot. IsCopy spot.place) }
+            → LeadsFacts self.old.pool self.new.pool (D.standing dev.old) (D.standing dev.new) result }
+        ensures copied { is_quiet self.old page line ≡ true → IfOk result (λ spot. IsCopy spot.place) }
         ensures readied { OnOk result (Readied page line (parts_of self.old) (parts_of self.new)) }
         ensures lies { IfOk result (λ spot. LiesAt page spot (parts_of self.new).map) }
         ensures there { IfOk result (λ spot. IsThere spot.place line (parts_of self.new)) }
-        ensures told { telling_of self.new ≡ telling_of self.old }
+        ensures told { told_of self.new ≡ told_of self.old }
         ensures keeps { OnOk result (IsSteady self.new) }
         ensures same { SameSizes self.old self.new }
     {
@@ -306,23 +283,19 @@ impl Tiers {
     /// Promotion: a mini copy that has no room for a further line becomes a full one with that line. The answer is where the access
     /// works then.
     fn outgrow<D: Devices>(&mut self, dev: &mut D, page: u64, line: usize) -> Result<Spot, Stop>
-        requires fits { Fits self.old (D.standing dev.old) }
-        requires page { page < page_count self.old }
+        requires fits { Fits self.old.pool.geometry (D.standing dev.old) }
+        requires page { page < pages (sizes_of self.old.pool.geometry) }
         requires line { line < 64 }
         requires steady { IsSteady self.old }
         requires opened { IfSome (parts_of self.old).access (λ access. access.0 ≡ page) }
         requires copied { IsCopy ((parts_of self.old).map.place page) }
         requires quiet { is_quiet self.old page line ≡ false }
         ensures call { Calls (D.standing dev.old) (D.standing dev.new) result }
-        ensures reads { OnOk result (
-            CountsFetches self.old self.new (D.standing dev.old) (D.standing dev.new)) }
-        ensures leads { LeadsHard self.old self.new
-            (D.standing dev.old) (D.standing dev.new) result }
-        ensures outgrown { OnOk result (
-            Outgrown page line (parts_of self.old) (parts_of self.new)) }
+        ensures leads { LeadsHard self.old.pool self.new.pool (D.standing dev.old) (D.standing dev.new) result }
+        ensures outgrown { OnOk result (Outgrown page line (parts_of self.old) (parts_of self.new)) }
         ensures lies { IfOk result (λ spot. LiesAt page spot (parts_of self.new).map) }
         ensures there { IfOk result (λ spot. IsThere spot.place line (parts_of self.new)) }
-        ensures told { telling_of self.new ≡ telling_of self.old }
+        ensures told { told_of self.new ≡ told_of self.old }
         ensures keeps { OnOk result (IsSteady self.new) }
         ensures same { SameSizes self.old self.new }
     {
@@ -333,12 +306,12 @@ impl Tiers {
 
     /// The open access, which is one of this page, works where the page lies now.
     fn move_access(&mut self, page: u64) -> Spot
-        requires page { page < page_count self.old }
+        requires page { page < pages (sizes_of self.old.pool.geometry) }
         ensures parts { parts_of self.new ≡ parts_of self.old }
-        ensures access { IfSome (access_of self.new) (λ access. access.spot ≡ result) }
+        ensures access { IfSome self.new.pool.access (λ access. access.spot ≡ result) }
         ensures place { result.place ≡ (parts_of self.old).map.place page }
         ensures frame { result.frame ≡ (parts_of self.old).map.nvm page }
-        ensures told { telling_of self.new ≡ telling_of self.old }
+        ensures told { told_of self.new ≡ told_of self.old }
         ensures same { SameSizes self.old self.new }
     {
         let spot = self.spot(page);
@@ -357,23 +330,20 @@ impl Tiers {
         line: usize,
         full: u32,
     ) -> Result<(), Stop>
-        requires fits { Fits self.old (D.standing dev.old) }
-        requires page { page < page_count self.old }
+        requires fits { Fits self.old.pool.geometry (D.standing dev.old) }
+        requires page { page < pages (sizes_of self.old.pool.geometry) }
         requires line { line < 64 }
-        requires full { full < (policy_of self.old).dram_frames }
+        requires full { full < self.old.pool.policy.dram_frames }
         requires steady { AreSteady (parts_of self.old) }
         requires free { (parts_of self.old).map.full_page full ≡ None }
         requires homeless { let parts = parts_of self.old in
             parts.map.place page ≡ Place.Absent → parts.map.nvm page ≡ None }
         requires uncopied { copy_line (parts_of self.old) page line ≡ None }
         ensures call { Calls (D.standing dev.old) (D.standing dev.new) result }
-        ensures reads { OnOk result (
-            CountsFetches self.old self.new (D.standing dev.old) (D.standing dev.new)) }
-        ensures leads { LeadsHard self.old self.new
-            (D.standing dev.old) (D.standing dev.new) result }
+        ensures leads { LeadsHard self.old.pool self.new.pool (D.standing dev.old) (D.standing dev.new) result }
         ensures promoted { OnOk result (let parts = parts_of self.old in
             PromotedTo (parts.map.place page) page line full parts (parts_of self.new)) }
-        ensures told { telling_of self.new ≡ telling_of self.old }
+        ensures told { told_of self.new ≡ told_of self.old }
         ensures keeps { OnOk result (AreSteady (parts_of self.new)) }
         ensures same { SameSizes self.old self.new }
     {
@@ -393,22 +363,19 @@ impl Tiers {
         mini: u32,
         full: u32,
     ) -> Result<(), Stop>
-        requires fits { Fits self.old (D.standing dev.old) }
-        requires page { page < page_count self.old }
+        requires fits { Fits self.old.pool.geometry (D.standing dev.old) }
+        requires page { page < pages (sizes_of self.old.pool.geometry) }
         requires line { line < 64 }
-        requires full { full < (policy_of self.old).dram_frames }
+        requires full { full < self.old.pool.policy.dram_frames }
         requires steady { AreSteady (parts_of self.old) }
         requires here { (parts_of self.old).map.place page ≡ Place.Mini mini }
         requires free { (parts_of self.old).map.full_page full ≡ None }
         requires uncopied { copy_line (parts_of self.old) page line ≡ None }
         ensures call { Calls (D.standing dev.old) (D.standing dev.new) result }
-        ensures reads { OnOk result (
-            CountsFetches self.old self.new (D.standing dev.old) (D.standing dev.new)) }
-        ensures leads { LeadsHard self.old self.new
-            (D.standing dev.old) (D.standing dev.new) result }
+        ensures leads { LeadsHard self.old.pool self.new.pool (D.standing dev.old) (D.standing dev.new) result }
         ensures loaded { OnOk result (let parts = parts_of self.old in
             LoadedToFull full line (promoted page mini full parts) (parts_of self.new)) }
-        ensures told { telling_of self.new ≡ telling_of self.old }
+        ensures told { told_of self.new ≡ told_of self.old }
         ensures keeps { OnOk result (AreSteady (parts_of self.new)) }
         ensures same { SameSizes self.old self.new }
     {

@@ -37,8 +37,7 @@ impl Trace {
 
     /// A trace with room for what a transaction tells, or, where none is wanted, with no room.
     pub(crate) fn new(alloc: Global, geometry: &Geometry, trace: bool) -> Result<Trace, NoMemory>
-        ensures { IfOk result (λ made. told_in made
-            ≡ nothing_told (trace_room geometry.now trace)) }
+        ensures { IfOk result (λ made. told_in made ≡ nothing_told (trace_room geometry.now trace)) }
     {
         let room = room_of(geometry, trace);
         Ok(Trace {

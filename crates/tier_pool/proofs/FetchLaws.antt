@@ -25,7 +25,7 @@ fetches_behind r c it same reads = record { count = it.count; reads = reads ∙ 
 
 -- ---- copies and frames that are given up
 
-pub cleaned_tally : (place : Place) (parts : Parts) → (copy_cleaned place parts).tally ≡ parts.tally
+cleaned_tally : (place : Place) (parts : Parts) → (copy_cleaned place parts).tally ≡ parts.tally
 cleaned_tally Absent parts = refl
 cleaned_tally (Full i) parts = refl
 cleaned_tally (Mini j) parts = refl
@@ -34,7 +34,7 @@ unless_tally : (clean : Bool) (place : Place) (k : ℕ) (parts : Parts) → (sto
 unless_tally true place k parts = refl
 unless_tally false place k parts = cleaned_tally place (frame_marked k parts)
 
-pub stored_tally : (place : Place) (k : ℕ) (parts : Parts) → (copy_stored place k parts).tally ≡ parts.tally
+stored_tally : (place : Place) (k : ℕ) (parts : Parts) → (copy_stored place k parts).tally ≡ parts.tally
 stored_tally place k parts = unless_tally (dirty_at place parts.full_dirty parts.minis == no_lines) place k parts
 
 emptied_tally : (place : Place) (parts : Parts) → (place_emptied place parts).tally ≡ parts.tally
@@ -42,7 +42,7 @@ emptied_tally Absent parts = refl
 emptied_tally (Full i) parts = refl
 emptied_tally (Mini j) parts = refl
 
-pub dropped_tally : (page : ℕ) (parts : Parts) → (copy_dropped page parts).tally ≡ parts.tally
+dropped_tally : (page : ℕ) (parts : Parts) → (copy_dropped page parts).tally ≡ parts.tally
 dropped_tally page parts = emptied_tally (parts.map.place page) parts
 
 given_tally : (page k : ℕ) (parts : Parts) → (copy_given_up page k parts).tally ≡ parts.tally

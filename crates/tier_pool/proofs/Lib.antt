@@ -1,6 +1,6 @@
 mod CopyLaws
 pub mod RangeLaws
-pub mod CallLaws
+mod CallLaws
 mod ClockLaws
 pub mod NvmRoomLaws
 pub mod FullRoomLaws

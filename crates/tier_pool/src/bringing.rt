@@ -36,8 +36,7 @@ impl TierPool {
         ensures leads { (parts_of self.old).map.nvm page ≡ None
             → IsBare (parts_of self.old) (Place.Full full)
             → LeadsFacts self.old self.new (D.standing dev.old) (D.standing dev.new) result }
-        ensures parts { OnOk result (
-            FetchedInto page full (parts_of self.old) (parts_of self.new)) }
+        ensures parts { OnOk result (FetchedInto page full (parts_of self.old) (parts_of self.new)) }
         ensures reads { OnOk result (let parts = parts_of self.old in
             FetchesCounted parts (parts_of self.new) (D.standing dev.old) (D.standing dev.new)) }
         ensures same { SameSizes self.old self.new }
@@ -54,8 +53,7 @@ impl TierPool {
         requires full { full < self.old.policy.dram_frames }
         requires absent { (parts_of self.old).map.place page ≡ Place.Absent }
         requires free { (parts_of self.old).map.full_page full ≡ None }
-        ensures parts { parts_of self.new
-            ≡ full_placed page full (place_filled full lines.now (parts_of self.old)) }
+        ensures parts { parts_of self.new ≡ full_placed page full (place_filled full lines.now (parts_of self.old)) }
         ensures same { SameSizes self.old self.new }
     {
         self.arena.fill(full, lines);
@@ -93,8 +91,7 @@ impl TierPool {
         requires fits { Fits self.old.geometry (D.standing dev.old) }
         requires some { 1 ≤ self.old.policy.minis }
         ensures call { Stores (D.standing dev.old) (D.standing dev.new) result }
-        ensures leads { LeadsHard self.old self.new
-            (D.standing dev.old) (D.standing dev.new) result }
+        ensures leads { LeadsHard self.old self.new (D.standing dev.old) (D.standing dev.new) result }
         ensures room { IfOk result (λ j.
             mini_room (parts_of self.old) ≡ record { place = j; parts = parts_of self.new }) }
         ensures within { IfOk result (λ j. j < self.new.policy.minis) }
@@ -112,11 +109,9 @@ impl TierPool {
         requires some { 1 ≤ self.old.policy.minis }
         requires all_stand { lowest_empty self.old.mini_clock ≡ None }
         ensures call { Stores (D.standing dev.old) (D.standing dev.new) result }
-        ensures leads { LeadsHard self.old self.new
-            (D.standing dev.old) (D.standing dev.new) result }
+        ensures leads { LeadsHard self.old self.new (D.standing dev.old) (D.standing dev.new) result }
         ensures room { IfOk result (λ j. let parts = parts_of self.old in
-            mini_swept_left (mini_swept (victim parts.mini_clock) parts)
-            ≡ record { place = j; parts = parts_of self.new }) }
+            mini_swept_left (mini_swept (victim parts.mini_clock) parts) ≡ record { place = j; parts = parts_of self.new }) }
         ensures within { IfOk result (λ j. j < self.new.policy.minis) }
         ensures same { SameSizes self.old self.new }
     {
@@ -130,8 +125,7 @@ impl TierPool {
         requires some { 1 ≤ self.old.policy.minis }
         requires all_stand { lowest_empty self.old.mini_clock ≡ None }
         ensures swept { let parts = parts_of self.old in
-            mini_swept (victim parts.mini_clock) parts
-            ≡ record { place = result; parts = parts_of self.new } }
+            mini_swept (victim parts.mini_clock) parts ≡ record { place = result; parts = parts_of self.new } }
         ensures within { result < self.new.policy.minis }
         ensures same { SameSizes self.old self.new }
     {
@@ -145,8 +139,7 @@ impl TierPool {
         requires fits { Fits self.old.geometry (D.standing dev.old) }
         requires mini { mini < self.old.policy.minis }
         ensures call { Stores (D.standing dev.old) (D.standing dev.new) result }
-        ensures leads { LeadsHard self.old self.new
-            (D.standing dev.old) (D.standing dev.new) result }
+        ensures leads { LeadsHard self.old self.new (D.standing dev.old) (D.standing dev.new) result }
         ensures parts { OnOk result (let parts = parts_of self.old in
             parts_of self.new ≡ mini_left (parts.map.mini_owner mini) parts) }
         ensures same { SameSizes self.old self.new }
@@ -162,8 +155,7 @@ impl TierPool {
         requires fits { Fits self.old.geometry (D.standing dev.old) }
         requires page { page < pages (sizes_of self.old.geometry) }
         ensures call { Stores (D.standing dev.old) (D.standing dev.new) result }
-        ensures leads { LeadsHard self.old self.new
-            (D.standing dev.old) (D.standing dev.new) result }
+        ensures leads { LeadsHard self.old self.new (D.standing dev.old) (D.standing dev.new) result }
         ensures parts { OnOk result (let parts = parts_of self.old in
             parts_of self.new ≡ mini_given_up (parts.map.nvm page) page parts) }
         ensures same { SameSizes self.old self.new }
@@ -223,8 +215,7 @@ impl TierPool {
         ensures call { Calls (D.standing dev.old) (D.standing dev.new) result }
         ensures leads { (parts_of self.old).map.place page ≡ Place.Absent
             → LeadsFacts self.old self.new (D.standing dev.old) (D.standing dev.new) result }
-        ensures parts { OnOk result (parts_of self.new
-            ≡ fetched_to_frame page frame (parts_of self.old)) }
+        ensures parts { OnOk result (parts_of self.new ≡ fetched_to_frame page frame (parts_of self.old)) }
         ensures reads { OnOk result (let parts = parts_of self.old in
             FetchesCounted parts (parts_of self.new) (D.standing dev.old) (D.standing dev.new)) }
         ensures same { SameSizes self.old self.new }
@@ -244,8 +235,7 @@ impl TierPool {
         ensures call { Calls (D.standing dev.old) (D.standing dev.new) result }
         ensures leads { IsSteady (parts_of self.old) → (parts_of self.old).map.nvm page ≡ None
             → LeadsHard self.old self.new (D.standing dev.old) (D.standing dev.new) result }
-        ensures place { IfOk result (λ place. place
-            ≡ Place.Full (full_room (parts_of self.old)).place) }
+        ensures place { IfOk result (λ place. place ≡ Place.Full (full_room (parts_of self.old)).place) }
         ensures parts { OnOk result (let room = full_room (parts_of self.old) in
             FetchedInto page room.place room.parts (parts_of self.new)) }
         ensures reads { OnOk result (let parts = parts_of self.old in
@@ -365,8 +355,7 @@ impl TierPool {
         ensures call { Calls (D.standing dev.old) (D.standing dev.new) result }
         ensures leads { (parts_of self.old).map.nvm page ≡ None → IsBare (parts_of self.old) place
             → LeadsFacts self.old self.new (D.standing dev.old) (D.standing dev.new) result }
-        ensures parts { OnOk result (
-            BroughtTo None page place (parts_of self.old) (parts_of self.new)) }
+        ensures parts { OnOk result (BroughtTo None page place (parts_of self.old) (parts_of self.new)) }
         ensures reads { OnOk result (let parts = parts_of self.old in
             FetchesCounted parts (parts_of self.new) (D.standing dev.old) (D.standing dev.new)) }
         ensures same { SameSizes self.old self.new }

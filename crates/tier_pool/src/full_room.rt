@@ -49,8 +49,7 @@ impl TierPool {
         ensures leads { AreWhole (parts_of self.old)
             → LeadsHard self.old self.new (D.standing dev.old) (D.standing dev.new) result }
         ensures room { IfOk result (λ i. let parts = parts_of self.old in
-            full_swept_left (full_swept (victim parts.full_clock) parts)
-            ≡ record { place = i; parts = parts_of self.new }) }
+            full_swept_left (full_swept (victim parts.full_clock) parts) ≡ record { place = i; parts = parts_of self.new }) }
         ensures within { IfOk result (λ i. i < self.new.policy.dram_frames) }
         ensures same { SameSizes self.old self.new }
     {
@@ -63,8 +62,7 @@ impl TierPool {
     fn sweep_full(&mut self) -> u32
         requires all_stand { lowest_empty self.old.full_clock ≡ None }
         ensures swept { let parts = parts_of self.old in
-            full_swept (victim parts.full_clock) parts
-            ≡ record { place = result; parts = parts_of self.new } }
+            full_swept (victim parts.full_clock) parts ≡ record { place = result; parts = parts_of self.new } }
         ensures within { result < self.new.policy.dram_frames }
         ensures frames { self.new.nvm_clock ≡ self.old.nvm_clock }
         ensures map { (parts_of self.new).map ≡ (parts_of self.old).map }
@@ -106,8 +104,7 @@ impl TierPool {
         ensures call { Stores (D.standing dev.old) (D.standing dev.new) result }
         ensures leads { StandsAt page (Place.Full full) (parts_of self.old)
             → LeadsHard self.old self.new (D.standing dev.old) (D.standing dev.new) result }
-        ensures parts { OnOk result (parts_of self.new
-            ≡ handed_down page full (parts_of self.old)) }
+        ensures parts { OnOk result (parts_of self.new ≡ handed_down page full (parts_of self.old)) }
         ensures same { SameSizes self.old self.new }
     {
         match self.frame(page) {
@@ -126,8 +123,7 @@ impl TierPool {
         ensures call { Stores (D.standing dev.old) (D.standing dev.new) result }
         ensures leads { StandsWhole page (Place.Full full) (parts_of self.old)
             → LeadsHard self.old self.new (D.standing dev.old) (D.standing dev.new) result }
-        ensures parts { OnOk result (let parts = parts_of self.old in
-            let dirty = full_dirty_at full parts in
+        ensures parts { OnOk result (let parts = parts_of self.old in let dirty = full_dirty_at full parts in
             parts_of self.new ≡ moved_by (admitted dirty page parts) dirty page full) }
         ensures same { SameSizes self.old self.new }
     {
@@ -152,8 +148,7 @@ impl TierPool {
 
     /// Whether a page that has no frame is admitted to NVM, by whether its copy is dirty.
     fn admits(&mut self, page: u64, dirty: bool) -> bool
-        ensures answer { admitted dirty page (parts_of self.old)
-            ≡ record { yes = result; parts = parts_of self.new } }
+        ensures answer { admitted dirty page (parts_of self.old) ≡ record { yes = result; parts = parts_of self.new } }
         ensures some { result ≡ true → 1 ≤ self.new.geometry.frames }
         ensures map { (parts_of self.new).map ≡ (parts_of self.old).map }
         ensures frames { self.new.nvm_clock ≡ self.old.nvm_clock }
@@ -170,8 +165,7 @@ impl TierPool {
 
     /// One draw for a dirty copy; a clean one is not admitted.
     fn draws_for(&mut self, dirty: bool) -> bool
-        ensures answer { drawn_if dirty (parts_of self.old)
-            ≡ record { yes = result; parts = parts_of self.new } }
+        ensures answer { drawn_if dirty (parts_of self.old) ≡ record { yes = result; parts = parts_of self.new } }
         ensures map { (parts_of self.new).map ≡ (parts_of self.old).map }
         ensures frames { self.new.nvm_clock ≡ self.old.nvm_clock }
         ensures same { SameSizes self.old self.new }
@@ -185,8 +179,7 @@ impl TierPool {
 
     /// One draw with the probability that decides the question.
     pub fn decides(&mut self, question: Question) -> bool
-        ensures answer { drawn question (parts_of self.old)
-            ≡ record { yes = result; parts = parts_of self.new } }
+        ensures answer { drawn question (parts_of self.old) ≡ record { yes = result; parts = parts_of self.new } }
         ensures map { (parts_of self.new).map ≡ (parts_of self.old).map }
         ensures frames { self.new.nvm_clock ≡ self.old.nvm_clock }
         ensures same { SameSizes self.old self.new }
@@ -212,8 +205,7 @@ impl TierPool {
         ensures leads { StandsWhole page (Place.Full full) (parts_of self.old)
             → dirty ≡ full_dirty_at full (parts_of self.old)
             → LeadsHard self.old self.new (D.standing dev.old) (D.standing dev.new) result }
-        ensures parts { OnOk result (parts_of self.new
-            ≡ moved_down dirty page full (parts_of self.old)) }
+        ensures parts { OnOk result (parts_of self.new ≡ moved_down dirty page full (parts_of self.old)) }
         ensures same { SameSizes self.old self.new }
     {
         let frame = self.room_in_nvm(dev)?;
@@ -240,8 +232,7 @@ impl TierPool {
             → dirty ≡ full_dirty_at full (parts_of self.old)
             → LeadsHard self.old self.new (D.standing dev.old) (D.standing dev.new) result }
         ensures parts { OnOk result (
-            parts_of self.new ≡ copy_cleaned (Place.Full full)
-            (page_installed page frame dirty (parts_of self.old))) }
+            parts_of self.new ≡ copy_cleaned (Place.Full full) (page_installed page frame dirty (parts_of self.old))) }
         ensures same { SameSizes self.old self.new }
     {
         let mut lines = PageBuf::zero();

@@ -56,9 +56,7 @@ impl TierPool {
             → LiesInFrame (sizes_of self.old.geometry) page line spot.frame (parts_of self.old)
             → (parts_of self.old).map.place page ≡ Place.Full full → AreThere (parts_of self.old)
             → LeadsFacts self.old self.new (D.standing dev.old) (D.standing dev.new) result }
-        ensures looked { Looked (D.standing dev.old) (D.standing dev.new) result }
-        ensures parts { OnOk result (
-            LoadedToFull full line (parts_of self.old) (parts_of self.new)) }
+        ensures parts { OnOk result (LoadedToFull full line (parts_of self.old) (parts_of self.new)) }
         ensures same { SameSizes self.old self.new }
     {
         let value = self.load_line(dev, spot, line)?;

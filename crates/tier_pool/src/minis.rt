@@ -1,6 +1,5 @@
 //! A mini copy: a line is loaded to it or written in it, and its lines move to a full place.
 ghost use Rattle.std.specs.Prelude.{◌≡◌, ℕ, ◌<◌, OnOk, None, IsTrue, false};
-ghost use Rattle.device_calls.specs.Leads.{Looked};
 ghost use Rattle.page_frame.specs.LineSets.{no_lines};
 ghost use Rattle.page_frame.specs.Frames.{is_resident, resident_lines};
 ghost use Rattle.mini_page.specs.MiniPages.{mini_at, is_full};
@@ -40,9 +39,7 @@ impl TierPool {
             → LiesInFrame (sizes_of self.old.geometry) page line spot.frame (parts_of self.old)
             → (parts_of self.old).map.place page ≡ Place.Mini mini → AreThere (parts_of self.old)
             → LeadsFacts self.old self.new (D.standing dev.old) (D.standing dev.new) result }
-        ensures looked { Looked (D.standing dev.old) (D.standing dev.new) result }
-        ensures parts { OnOk result (
-            LoadedToMini mini line (parts_of self.old) (parts_of self.new)) }
+        ensures parts { OnOk result (LoadedToMini mini line (parts_of self.old) (parts_of self.new)) }
         ensures same { SameSizes self.old self.new }
     {
         let value = self.load_line(dev, spot, line)?;
@@ -55,8 +52,7 @@ impl TierPool {
     pub fn write_mini(&mut self, mini: u32, line: usize, value: &Line)
         requires mini { mini < self.old.policy.minis }
         requires line { line < 64 }
-        requires resident { let mini_page = mini_at (parts_of self.old).minis mini in
-            IsTrue (is_resident mini_page.places line) }
+        requires resident { IsTrue (is_resident (mini_at (parts_of self.old).minis mini).places line) }
         ensures parts { parts_of self.new ≡ mini_written mini line value.now (parts_of self.old) }
         ensures same { SameSizes self.old self.new }
     {

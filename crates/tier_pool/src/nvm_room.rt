@@ -24,8 +24,7 @@ impl TierPool {
         requires fits { Fits self.old.geometry (D.standing dev.old) }
         requires some { 1 ≤ self.old.geometry.frames }
         ensures call { Stores (D.standing dev.old) (D.standing dev.new) result }
-        ensures leads { LeadsHard self.old self.new
-            (D.standing dev.old) (D.standing dev.new) result }
+        ensures leads { LeadsHard self.old self.new (D.standing dev.old) (D.standing dev.new) result }
         ensures room { IfOk result (λ k.
             frame_room (parts_of self.old) ≡ record { place = k; parts = parts_of self.new }) }
         ensures within { IfOk result (λ k. k < self.new.geometry.frames) }
@@ -43,11 +42,9 @@ impl TierPool {
         requires some { 1 ≤ self.old.geometry.frames }
         requires all_stand { lowest_empty self.old.nvm_clock ≡ None }
         ensures call { Stores (D.standing dev.old) (D.standing dev.new) result }
-        ensures leads { LeadsHard self.old self.new
-            (D.standing dev.old) (D.standing dev.new) result }
+        ensures leads { LeadsHard self.old self.new (D.standing dev.old) (D.standing dev.new) result }
         ensures room { IfOk result (λ k. let parts = parts_of self.old in
-            swept_left (frame_swept (victim parts.nvm_clock) parts)
-            ≡ record { place = k; parts = parts_of self.new }) }
+            swept_left (frame_swept (victim parts.nvm_clock) parts) ≡ record { place = k; parts = parts_of self.new }) }
         ensures within { IfOk result (λ k. k < self.new.geometry.frames) }
         ensures same { SameSizes self.old self.new }
     {
@@ -61,8 +58,7 @@ impl TierPool {
         requires some { 1 ≤ self.old.geometry.frames }
         requires all_stand { lowest_empty self.old.nvm_clock ≡ None }
         ensures swept { let parts = parts_of self.old in
-            frame_swept (victim parts.nvm_clock) parts
-            ≡ record { place = result; parts = parts_of self.new } }
+            frame_swept (victim parts.nvm_clock) parts ≡ record { place = result; parts = parts_of self.new } }
         ensures within { result < self.new.geometry.frames }
         ensures same { SameSizes self.old self.new }
     {
@@ -76,8 +72,7 @@ impl TierPool {
         requires fits { Fits self.old.geometry (D.standing dev.old) }
         requires frame { frame < self.old.geometry.frames }
         ensures call { Stores (D.standing dev.old) (D.standing dev.new) result }
-        ensures leads { LeadsHard self.old self.new
-            (D.standing dev.old) (D.standing dev.new) result }
+        ensures leads { LeadsHard self.old self.new (D.standing dev.old) (D.standing dev.new) result }
         ensures parts { OnOk result (let parts = parts_of self.old in
             parts_of self.new ≡ victim_left (parts.map.frame_page frame) frame parts) }
         ensures same { SameSizes self.old self.new }
@@ -95,11 +90,9 @@ impl TierPool {
         requires page { page < pages (sizes_of self.old.geometry) }
         requires placed { (parts_of self.old).map.nvm page ≡ Some frame }
         ensures call { Stores (D.standing dev.old) (D.standing dev.new) result }
-        ensures leads { LeadsHard self.old self.new
-            (D.standing dev.old) (D.standing dev.new) result }
+        ensures leads { LeadsHard self.old self.new (D.standing dev.old) (D.standing dev.new) result }
         ensures parts { OnOk result (
-            parts_of self.new
-            ≡ frame_left page frame (copy_given_up page frame (parts_of self.old))) }
+            parts_of self.new ≡ frame_left page frame (copy_given_up page frame (parts_of self.old))) }
         ensures same { SameSizes self.old self.new }
     {
         self.give_up_copy(dev, page, frame)?;
@@ -118,10 +111,8 @@ impl TierPool {
         requires page { page < pages (sizes_of self.old.geometry) }
         requires placed { (parts_of self.old).map.nvm page ≡ Some frame }
         ensures call { Stores (D.standing dev.old) (D.standing dev.new) result }
-        ensures leads { LeadsHard self.old self.new
-            (D.standing dev.old) (D.standing dev.new) result }
-        ensures parts { OnOk result (parts_of self.new
-            ≡ copy_given_up page frame (parts_of self.old)) }
+        ensures leads { LeadsHard self.old self.new (D.standing dev.old) (D.standing dev.new) result }
+        ensures parts { OnOk result (parts_of self.new ≡ copy_given_up page frame (parts_of self.old)) }
         ensures same { SameSizes self.old self.new }
     {
         let place = self.place(page);
@@ -137,10 +128,8 @@ impl TierPool {
         requires page { page < pages (sizes_of self.old.geometry) }
         requires placed { (parts_of self.old).map.nvm page ≡ Some frame }
         ensures call { Stores (D.standing dev.old) (D.standing dev.new) result }
-        ensures leads { LeadsHard self.old self.new
-            (D.standing dev.old) (D.standing dev.new) result }
-        ensures parts { OnOk result (parts_of self.new
-            ≡ frame_left page frame (parts_of self.old)) }
+        ensures leads { LeadsHard self.old self.new (D.standing dev.old) (D.standing dev.new) result }
+        ensures parts { OnOk result (parts_of self.new ≡ frame_left page frame (parts_of self.old)) }
         ensures same { SameSizes self.old self.new }
     {
         let write = self.frame_dirty[frame as usize];
@@ -182,8 +171,7 @@ impl TierPool {
         ensures call { Stores (D.standing dev.old) (D.standing dev.new) result }
         ensures installs { InstallsPage (sizes_of self.old.geometry) page frame dirty lines.now
             (parts_of self.old) (D.standing dev.old) (D.standing dev.new) result }
-        ensures parts { OnOk result (parts_of self.new
-            ≡ page_installed page frame dirty (parts_of self.old)) }
+        ensures parts { OnOk result (parts_of self.new ≡ page_installed page frame dirty (parts_of self.old)) }
         ensures same { SameSizes self.old self.new }
     {
         install(dev, &self.geometry, frame, page, lines)?;

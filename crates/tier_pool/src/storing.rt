@@ -78,8 +78,7 @@ impl TierPool {
         ensures call { Stores (D.standing dev.old) (D.standing dev.new) result }
         ensures back { StoresBack (sizes_of self.old.geometry) place frame (parts_of self.old)
             (parts_of self.new) (D.standing dev.old) (D.standing dev.new) result }
-        ensures parts { OnOk result (parts_of self.new
-            ≡ copy_stored place frame (parts_of self.old)) }
+        ensures parts { OnOk result (parts_of self.new ≡ copy_stored place frame (parts_of self.old)) }
         ensures same { SameSizes self.old self.new }
     {
         if self.dirty_lines(place) == 0 {
@@ -152,8 +151,7 @@ impl TierPool {
         ensures call { Stores (D.standing dev.old) (D.standing dev.new) result }
         ensures leads { StandsAt page place (parts_of self.old)
             → LeadsHard self.old self.new (D.standing dev.old) (D.standing dev.new) result }
-        ensures parts { OnOk result (parts_of self.new
-            ≡ copy_written page place (parts_of self.old)) }
+        ensures parts { OnOk result (parts_of self.new ≡ copy_written page place (parts_of self.old)) }
         ensures same { SameSizes self.old self.new }
     {
         self.store_or_pass(dev, page, place)?;

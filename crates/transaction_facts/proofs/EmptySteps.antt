@@ -9,6 +9,7 @@ use Rattle.store_model.specs.Recovered.{Super, super_of, log_lines, log_line, en
 use Rattle.store_model.specs.InOrder.{HomeStands}
 use Rattle.store_model.specs.Seen.{Moved}
 use Rattle.store_model.specs.StoreFacts.{Gate, IsWord, StoreFacts}
+use Rattle.nvm_model.proofs.WordLaws.{single_version}
 use Rattle.home_laws.proofs.GateLaws.{moved_current}
 use Rattle.log_laws.proofs.StartLaws.{start_calls, start_facts, start_done, moved_start, from_none}
 use Rattle.device_calls.specs.Leads.{Steps}
@@ -48,9 +49,9 @@ module _ (t : Data) (clean : AreClean t) (aim : Aim) (s : State) (settled : Sett
       → HomeStands (aim_sizes aim) (frame_of (entry_at j) ((aim_sizes aim).frames + 1) p) s p l w × (home j p l w ≡ aim.words p l w) × (home j p l w ≡ aim.kept p l w)
   stand j left p l w word logged = (
     record {
-      in_frame = λ k found.
+      in_frame = λ k found v version.
           let at : t.frame p ≡ Some k = sym (placed_in t aim s it j left p) ∙ found in
-          settled.durable k p l w (it.owner p k at) word.line word.word;
+          single_version (s.nvm (frame_line (aim_sizes aim) k l) w) v (settled.durable k p l w (it.owner p k at) word.line word.word) version;
       in_block = λ at. it.settled p word.page (sym (placed_in t aim s it j left p) ∙ at);
     },
     settled.homes j left p l w word,

@@ -8,5 +8,3 @@ pub mod ShowingLaws
 pub mod AsPagesLaws
 pub mod BackLaws
 pub mod WholeLaws
-pub mod ImageLaws
-pub mod OrderLaws

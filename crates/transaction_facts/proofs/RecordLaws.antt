@@ -133,7 +133,7 @@ module _ (t : Data) (aim : Aim) (s : State) (it : Facts t aim s) (calls : List C
     loose = it.loose;
     recorded = recorded_still;
     clean = λ p l w x word at not. it.clean p l w x word at not ∙ sym (home_stays p l w);
-    flushed = λ k p l w at hl hw. untouched.steady (frame_line (aim_sizes aim) k l) w (λ v st. omega arith) (it.flushed k p l w at hl hw);
+    flushed = λ k p l w at hl hw. untouched.flushed (frame_line (aim_sizes aim) k l) w (λ v st. omega arith) (it.flushed k p l w at hl hw);
     settled = λ p hp none. untouched.settled (page_block (aim_sizes aim) p) (above p) (it.settled p hp none);
     unworn = λ k p at not. record {
       settled = untouched.settled (page_block (aim_sizes aim) p) (above p) (it.unworn k p at not).settled;

@@ -3,4 +3,3 @@ pub mod Books
 pub mod Showing
 pub mod AsPages
 pub mod Aborts
-pub mod Order

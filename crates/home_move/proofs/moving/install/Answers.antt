@@ -5,13 +5,13 @@ use Rattle.home_move.proofs.PlaceFacts.{install_keeps}
 use Rattle.home_move.proofs.moving.install.Goals as goal
 
 pub returns-in_err-fill_frame-clause-made : goal.returns-in_err-fill_frame-clause-made
-returns-in_err-fill_frame-clause-made g c = install_unfilled (sizes_of c.args.geometry.now) c.args.frame c.args.page c.args.lines.now c.from_residual.result c.from_residual.ensures.0 c.from_residual.ensures.1 c.in_err-fill_frame.ensures.made
+returns-in_err-fill_frame-clause-made g c = install_unfilled (sizes_of c.args.geometry.now) c.args.frame c.args.page c.args.lines.now c.from_residual.result c.from_residual.ensures.0 c.from_residual.ensures.1 c.in_err-fill_frame.ensures
 
 pub returns-in_err-fence-clause-made : goal.returns-in_err-fence-clause-made
-returns-in_err-fence-clause-made g c = install_unfenced (sizes_of c.args.geometry.now) c.args.frame c.args.page c.args.lines.now c.from_residual-in_err-fence.result c.from_residual-in_err-fence.ensures.0 c.from_residual-in_err-fence.ensures.1 c.in_ok-fill_frame.ensures.made c.in_err-fence.ensures.made
+returns-in_err-fence-clause-made g c = install_unfenced (sizes_of c.args.geometry.now) c.args.frame c.args.page c.args.lines.now c.from_residual-in_err-fence.result c.from_residual-in_err-fence.ensures.0 c.from_residual-in_err-fence.ensures.1 c.in_ok-fill_frame.ensures c.in_err-fence.ensures
 
 pub returns-clause-made : goal.returns-clause-made
-returns-clause-made g c = install_then (sizes_of c.args.geometry.now) c.args.frame c.args.page c.args.lines.now c.in_ok-fill_frame.ensures.made c.in_ok-fence.ensures.made c.put_entry.ensures.made
+returns-clause-made g c = install_then (sizes_of c.args.geometry.now) c.args.frame c.args.page c.args.lines.now c.in_ok-fill_frame.ensures c.in_ok-fence.ensures c.put_entry.ensures
 
 pub returns-in_err-fill_frame-clause-keeps : goal.returns-in_err-fill_frame-clause-keeps
 returns-in_err-fill_frame-clause-keeps g c = install_keeps (sizes_of c.args.geometry.now) c.args.frame c.args.page c.args.lines.now (returns-in_err-fill_frame-clause-made g c)

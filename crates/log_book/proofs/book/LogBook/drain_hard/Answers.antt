@@ -11,7 +11,6 @@ loop-self-init g c = record {
   range = record { start = refl; written = refl };
   more = record { start = refl; tail = refl; written = refl; drained = omega arith; loose = refl; first = refl };
   open_ = for_none (λ t. open_held t (data_of c.args.self.now));
-  reads = refl;
 }
 
 pub loop-self-preserved : goal.loop-self-preserved
@@ -30,7 +29,6 @@ loop-self-preserved g c =
         first = next.more.first ∙ was.more.first;
       };
       open_ = for_then was.open_ (for_sizes was.same.geometry next.open);
-      reads = next.reads ∙ was.reads;
     }
 
 pub returns-in_err-drain_some-clause-open : goal.returns-in_err-drain_some-clause-open

@@ -1,9 +1,9 @@
-use Rattle.std.proofs.Common.{ℕ, ◌<◌, sym, ap, ◌∙◌, subst, refl}
+use Rattle.std.proofs.Common.{ℕ, ◌<◌, sym, ap, ◌∙◌, subst}
 use Rattle.std.specs.Prelude.{Option, IsSome}
 use Rattle.store_model.specs.Layout.{pages}
 use Rattle.nvm_layout.specs.declared.geometry.Geometry.{Geometry}
 use Rattle.nvm_layout.specs.Sizes.{sizes_of}
-use Rattle.device_calls.proofs.LeadsLaws.{leads_ok, leads_data, looked_ok}
+use Rattle.device_calls.proofs.LeadsLaws.{leads_ok, leads_data}
 use Rattle.tier_facts.specs.Facts.{Facts}
 use Rattle.tier_rules.specs.Parts.{Parts}
 use Rattle.tier_pool.specs.Standing.{IsSteady}
@@ -12,7 +12,6 @@ use Rattle.tier_pool.proofs.SteadyLaws.{steady_access}
 use Rattle.tier_manager.specs.Fields.{parts_of}
 use Rattle.tier_manager.proofs.EnterLaws.{entered_lies}
 use Rattle.tier_manager.proofs.BegunLaws.{works_there}
-use Rattle.tier_pool.proofs.FetchLaws.{fetches_behind}
 use Rattle.tier_manager.proofs.tiers.Tiers.begin_access.Goals as goal
 
 pub returns-clause-leads : goal.returns-clause-leads
@@ -39,9 +38,3 @@ returns-clause-keeps g c = record {
       (subst (λ (x : Geometry). c.args.page < pages (sizes_of x)) (sym (c.work_at.ensures.same.geometry ∙ c.in_ok-enter.ensures.same.geometry)) c.requires.page)
       (returns-clause-lies g c);
 }
-
-pub returns-clause-reads : goal.returns-clause-reads
-returns-clause-reads g c = fetches_behind _ _ c.in_ok-enter.ensures.reads (ap (λ (p : Parts). p.tally.fetches) c.work_at.ensures.parts) refl
-
-pub returns-clause-looked : goal.returns-clause-looked
-returns-clause-looked g c = λ copied. looked_ok (c.in_ok-enter.ensures.looked copied)

@@ -3,8 +3,6 @@ use Rattle.tier_facts.proofs.CallLaws.{hard_held}
 use Rattle.tier_pool.specs.Fields.{parts_of}
 use Rattle.tier_pool.proofs.SteadyLaws.{steady_brought}
 use Rattle.tier_manager.specs.Fields.{data_of}
-use Rattle.std.proofs.Common.{refl}
-use Rattle.tier_manager.proofs.ReadsLaws.{fetches_none}
 use Rattle.tier_manager.proofs.tiers.Tiers.bring_if.Goals as goal
 
 pub returns-in_ok-bring-clause-keeps : goal.returns-in_ok-bring-clause-keeps
@@ -13,6 +11,3 @@ returns-in_ok-bring-clause-keeps g c =
 
 pub returns-else-brings-clause-leads : goal.returns-else-brings-clause-leads
 returns-else-brings-clause-leads g c = leads_none (hard_held (data_of c.args.self.now)) (λ aim s it. it)
-
-pub returns-else-brings-clause-reads : goal.returns-else-brings-clause-reads
-returns-else-brings-clause-reads g c = fetches_none _ _ _ _ refl refl

@@ -4,7 +4,6 @@ use Rattle.tier_pool.specs.Standing.{IsSteady}
 use Rattle.tier_pool.proofs.SteadyLaws.{steady_counted}
 use Rattle.tier_manager.specs.Fields.{parts_of}
 use Rattle.tier_manager.proofs.KeptLaws.{still_there}
-use Rattle.tier_manager.proofs.RuleLaws.{counted_rule}
 use Rattle.tier_manager.proofs.tiers.Tiers.count_log_reads.Goals as goal
 
 pub returns-then-count-gt0-clause-keeps : goal.returns-then-count-gt0-clause-keeps
@@ -18,9 +17,3 @@ returns-else-count-gt0-clause-keeps c = λ steady. record {
   fields = subst IsSteady (sym c.count_log_reads.ensures.parts) (steady_counted (parts_of c.args.self.now) steady.fields _);
   access = still_there c.args.self.now (record { pool = c.count_log_reads.new.self; trace = c.args.self.now.trace }) (ap (λ (p : Parts). p.map) c.count_log_reads.ensures.parts) c.count_log_reads.ensures.same steady;
 }
-
-pub returns-then-count-gt0-clause-rule : goal.returns-then-count-gt0-clause-rule
-returns-then-count-gt0-clause-rule c = counted_rule c.args.count c.args.self.now _ c.count_log_reads.ensures.parts
-
-pub returns-else-count-gt0-clause-rule : goal.returns-else-count-gt0-clause-rule
-returns-else-count-gt0-clause-rule c = counted_rule c.args.count c.args.self.now _ c.count_log_reads.ensures.parts

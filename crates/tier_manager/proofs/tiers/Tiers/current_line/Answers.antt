@@ -1,16 +1,14 @@
-use Rattle.std.proofs.Common.{◌<◌, sym, ap, ◌∙◌, subst, refl}
+use Rattle.std.proofs.Common.{◌<◌, sym, ap, ◌∙◌, subst}
 use Rattle.store_model.specs.Layout.{pages}
 use Rattle.nvm_layout.specs.declared.geometry.Geometry.{Geometry}
 use Rattle.nvm_layout.specs.Sizes.{sizes_of}
-use Rattle.device_calls.proofs.LeadsLaws.{leads_then, leads_exit, leads_given, looked_ok, looked_then, looked_exit}
+use Rattle.device_calls.proofs.LeadsLaws.{leads_then, leads_exit, leads_given}
 use Rattle.tier_map.specs.declared.place.Place.{Place}
 use Rattle.tier_facts.specs.Facts.{IsHardened}
 use Rattle.tier_pool.specs.Places.{IsPlace}
 use Rattle.tier_pool.proofs.RangeLaws.{place_in}
 use Rattle.tier_manager.specs.Fields.{parts_of, data_of}
-use Rattle.tier_manager.proofs.TouchedLaws.{has_frame, lies_in_frame, then_current, then_current_hard, then_loaded, then_loaded_hard, copied_there, leads_by, looked_by}
-use Rattle.tier_pool.proofs.FetchLaws.{fetches_behind}
-use Rattle.tier_manager.proofs.ReadsLaws.{fetches_by}
+use Rattle.tier_manager.proofs.TouchedLaws.{has_frame, lies_in_frame, then_current, then_current_hard, then_loaded, then_loaded_hard, copied_there, leads_by}
 use Rattle.tier_manager.proofs.tiers.Tiers.current_line.Goals.{in-Some, in-None+in_ok-value-in-None}
 use Rattle.tier_manager.proofs.tiers.Tiers.current_line.Goals as goal
 
@@ -72,23 +70,4 @@ returns-clause-quiet g c = λ quiet.
           (c.in_ok-spot.ensures.quiet quiet)
           (w.in_ok-value-in-None.ensures.leads c.args.page
           (lies_in_frame (sizes_of t.pool.geometry) c.args.page c.args.line c.in_ok-spot.spot (parts_of t) low c.in_ok-spot.ensures.lies (sym c.copy_line.ensures ∙ w.in-None.is))))
-    ]
-
-pub returns-in_err-value-in-None-clause-looked : goal.returns-in_err-value-in-None-clause-looked
-returns-in_err-value-in-None-clause-looked g c = λ quiet.
-    looked_exit c.from_residual-in_err-value-in-None.result c.from_residual-in_err-value-in-None.ensures.1
-    (looked_then (c.in_ok-spot.ensures.looked quiet) c.in_err-value-in-None.ensures.looked)
-
-pub returns-clause-looked : goal.returns-clause-looked
-returns-clause-looked g c = λ quiet.
-    elim c.match-copy_line.branch [
-      | in-Some w ↦ looked_by (ap g.D.Devices.standing w.dev-is) (looked_ok (c.in_ok-spot.ensures.looked quiet))
-      | in-None+in_ok-value-in-None w ↦ looked_by (ap g.D.Devices.standing w.dev-is) (looked_ok (looked_then (c.in_ok-spot.ensures.looked quiet) w.in_ok-value-in-None.ensures.looked))
-    ]
-
-pub returns-clause-reads : goal.returns-clause-reads
-returns-clause-reads g c =
-    elim c.match-copy_line.branch [
-      | in-Some w ↦ fetches_by (ap g.D.Devices.standing w.dev-is) c.in_ok-spot.ensures.reads
-      | in-None+in_ok-value-in-None w ↦ fetches_by (ap g.D.Devices.standing w.dev-is) (fetches_behind _ _ c.in_ok-spot.ensures.reads refl w.in_ok-value-in-None.ensures.call.reads)
     ]

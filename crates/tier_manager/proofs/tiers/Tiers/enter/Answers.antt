@@ -1,6 +1,6 @@
-use Rattle.std.proofs.Common.{sym, ap, subst, refl}
+use Rattle.std.proofs.Common.{sym, ap, subst}
 use Rattle.nvm_layout.specs.Sizes.{sizes_of}
-use Rattle.device_calls.proofs.LeadsLaws.{leads_none, leads_data, looked_none}
+use Rattle.device_calls.proofs.LeadsLaws.{leads_none, leads_data}
 use Rattle.tier_facts.specs.Facts.{Facts}
 use Rattle.tier_facts.proofs.CallLaws.{hard_held}
 use Rattle.tier_facts.proofs.PlaceLaws.{facts_held}
@@ -8,8 +8,6 @@ use Rattle.tier_pool.specs.Standing.{IsSteady}
 use Rattle.tier_pool.proofs.RoomLaws.{at_data, leads_to}
 use Rattle.tier_pool.proofs.SteadyLaws.{steady_full_hit, steady_mini_hit}
 use Rattle.tier_manager.specs.Fields.{parts_of, data_of}
-use Rattle.tier_rules.specs.Parts.{Parts}
-use Rattle.tier_manager.proofs.ReadsLaws.{fetches_none}
 use Rattle.tier_manager.proofs.tiers.Tiers.enter.Goals as goal
 
 pub returns-in-Full-clause-leads : goal.returns-in-Full-clause-leads
@@ -33,15 +31,3 @@ returns-in-Mini-clause-quiet g c = λ copied.
 
 pub returns-in-Mini-clause-keeps : goal.returns-in-Mini-clause-keeps
 returns-in-Mini-clause-keeps g c = subst IsSteady (sym c.hit_mini.ensures.parts) (steady_mini_hit (parts_of c.args.self.now) c.requires.steady _)
-
-pub returns-in-Full-clause-reads : goal.returns-in-Full-clause-reads
-returns-in-Full-clause-reads g c = fetches_none _ _ _ _ (ap (λ (p : Parts). p.tally.fetches) c.hit_full.ensures.parts) refl
-
-pub returns-in-Mini-clause-reads : goal.returns-in-Mini-clause-reads
-returns-in-Mini-clause-reads g c = fetches_none _ _ _ _ (ap (λ (p : Parts). p.tally.fetches) c.hit_mini.ensures.parts) refl
-
-pub returns-in-Full-clause-looked : goal.returns-in-Full-clause-looked
-returns-in-Full-clause-looked g c = λ copied. looked_none _
-
-pub returns-in-Mini-clause-looked : goal.returns-in-Mini-clause-looked
-returns-in-Mini-clause-looked g c = λ copied. looked_none _

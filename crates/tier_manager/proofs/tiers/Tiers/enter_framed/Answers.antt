@@ -1,4 +1,4 @@
-use Rattle.std.proofs.Common.{sym, ap, ◌∙◌, subst, refl}
+use Rattle.std.proofs.Common.{sym, ap, ◌∙◌, subst}
 use Rattle.nvm_layout.specs.Sizes.{sizes_of}
 use Rattle.tier_map.specs.Placement.{Placement}
 use Rattle.tier_rules.specs.Parts.{Parts}
@@ -7,9 +7,6 @@ use Rattle.tier_pool.specs.FullRoom.{PartsAnswer}
 use Rattle.tier_pool.specs.Standing.{IsSteady}
 use Rattle.tier_pool.proofs.RoomLaws.{at_data, leads_at}
 use Rattle.tier_pool.proofs.SteadyLaws.{steady_drawn, steady_frame_hit}
-use Rattle.tier_pool.proofs.FetchLaws.{fetches_before}
-use Rattle.tier_manager.specs.Fields.{CountsFetches}
-use Rattle.tier_manager.proofs.BegunLaws.{on_ok}
 use Rattle.tier_manager.proofs.tiers.Tiers.enter_framed.Goals as goal
 
 pub bring_if-requires-clause-steady : goal.bring_if-requires-clause-steady
@@ -27,11 +24,3 @@ returns-clause-leads g c =
     (at_data (ap sizes_of c.decides-brings.ensures.same.geometry) (sym (ap (λ (a : PartsAnswer). a.parts) c.decides-brings.ensures.answer))
     ∙ at_data (ap sizes_of c.hit_frame.ensures.same.geometry) c.hit_frame.ensures.parts)
     c.bring_if.ensures.leads
-
-pub returns-clause-reads : goal.returns-clause-reads
-returns-clause-reads g c =
-    on_ok c.bring_if.result
-    (λ (it : CountsFetches (record { pool = c.decides-brings.new.self; trace = c.args.self.now.trace }) c.bring_if.new.self (g.D.Devices.standing c.args.dev.now) (g.D.Devices.standing c.bring_if.new.dev)).
-    fetches_before _ _ _ _ _ _
-    (sym (ap (λ (a : PartsAnswer). a.parts.tally.fetches) c.decides-brings.ensures.answer) ∙ ap (λ (p : Parts). p.tally.fetches) c.hit_frame.ensures.parts) refl it)
-    c.bring_if.ensures.reads

@@ -1,13 +1,12 @@
-use Rattle.std.proofs.Common.{ap, ◌∙◌, refl}
+use Rattle.std.proofs.Common.{ap, ◌∙◌}
 use Rattle.std.specs.Prelude.{◌==◌}
 use Rattle.nvm_layout.specs.Sizes.{sizes_of}
 use Rattle.device_calls.proofs.LeadsLaws.{leads_exit, leads_ok}
 use Rattle.tier_map.specs.Placement.{Placement}
 use Rattle.tier_pool.proofs.RoomLaws.{leads_at}
 use Rattle.tier_pool.proofs.SteadyLaws.{steady_brought_past}
-use Rattle.tier_manager.specs.Fields.{parts_of, CountsFetches}
-use Rattle.tier_manager.proofs.BegunLaws.{steady_through, through_data, on_ok, through_fetches}
-use Rattle.tier_pool.proofs.FetchLaws.{fetches_before}
+use Rattle.tier_manager.specs.Fields.{parts_of}
+use Rattle.tier_manager.proofs.BegunLaws.{steady_through, through_data}
 use Rattle.tier_manager.proofs.tiers.Tiers.enter_homed.Goals as goal
 
 pub read_in-requires-clause-steady : goal.read_in-requires-clause-steady
@@ -63,19 +62,3 @@ returns-clause-keeps g c =
     steady_brought_past c.args.page asked _ c.in_ok-bring_past.ensures.parts
     (ap (λ (m : Placement). m.place c.args.page) c.goes_through_nvm-through.ensures.map ∙ c.requires.absent)
     (steady_through (old.frames == 0) c.goes_through_nvm-through.result old asked c.goes_through_nvm-through.ensures.answer c.requires.steady)
-
-pub returns-then-through-clause-reads : goal.returns-then-through-clause-reads
-returns-then-through-clause-reads g c =
-    let old = parts_of c.args.self.now in
-    on_ok c.read_in.result
-    (λ (it : CountsFetches c.goes_through_nvm-through.new.self c.read_in.new.self (g.D.Devices.standing c.args.dev.now) (g.D.Devices.standing c.read_in.new.dev)).
-    fetches_before _ _ _ _ _ _
-    (through_fetches (old.frames == 0) c.goes_through_nvm-through.result old (parts_of c.goes_through_nvm-through.new.self) c.goes_through_nvm-through.ensures.answer) refl it)
-    c.read_in.ensures.reads
-
-pub returns-clause-reads : goal.returns-clause-reads
-returns-clause-reads g c =
-    let old = parts_of c.args.self.now in
-    fetches_before _ _ _ _ _ _
-    (through_fetches (old.frames == 0) c.goes_through_nvm-through.result old (parts_of c.goes_through_nvm-through.new.self) c.goes_through_nvm-through.ensures.answer) refl
-    c.in_ok-bring_past.ensures.reads

@@ -1,6 +1,6 @@
-use Rattle.std.proofs.Common.{◌≡◌, ℕ, ◌<◌, sym, ◌∙◌, subst, false, refl}
+use Rattle.std.proofs.Common.{◌≡◌, ℕ, ◌<◌, sym, ◌∙◌, subst, false}
 use Rattle.nvm_layout.specs.Sizes.{sizes_of}
-use Rattle.device_calls.proofs.LeadsLaws.{leads_none, leads_given, leads_ok, leads_exit, looked_none, looked_ok, looked_exit}
+use Rattle.device_calls.proofs.LeadsLaws.{leads_none, leads_given, leads_ok, leads_exit}
 use Rattle.tier_map.specs.declared.place.Place.{Place}
 use Rattle.tier_map.specs.declared.place.Place.TheVariants.{Full}
 use Rattle.page_frame.specs.LineSets.{has_line}
@@ -14,7 +14,6 @@ use Rattle.tier_pool.proofs.RangeLaws.{place_in}
 use Rattle.tier_pool.proofs.SteadyLaws.{full_low, steady_full_load}
 use Rattle.tier_manager.specs.Fields.{parts_of, data_of}
 use Rattle.tier_manager.proofs.ReadyLaws.{full_frame, lies_there, full_loaded_there, full_load_map, there_in, steady_with}
-use Rattle.tier_manager.proofs.ReadsLaws.{fetches_none, loaded_full_fetches}
 use Rattle.tier_manager.proofs.tiers.Tiers.make_ready.Goals as goal
 
 pub resident_lines-requires : goal.resident_lines-requires
@@ -93,23 +92,3 @@ returns-else-not-has_line-clause-leads g c = leads_none (hard_held (data_of c.ar
 
 pub returns-else-not-has_line-clause-quiet : goal.returns-else-not-has_line-clause-quiet
 returns-else-not-has_line-clause-quiet g c = λ quiet. leads_none (facts_held (data_of c.args.self.now)) (λ aim s it. it)
-
-pub returns-in-Absent-clause-reads : goal.returns-in-Absent-clause-reads
-returns-in-Absent-clause-reads g c = fetches_none _ _ _ _ refl refl
-
-pub returns-in_err-load_to_full-in-Full-clause-looked : goal.returns-in_err-load_to_full-in-Full-clause-looked
-returns-in_err-load_to_full-in-Full-clause-looked g c = λ quiet. looked_exit c.from_residual.result c.from_residual.ensures.1 c.in_err-load_to_full-in-Full.ensures.looked
-
-pub returns-in_ok-load_to_full-in-Full-clause-reads : goal.returns-in_ok-load_to_full-in-Full-clause-reads
-returns-in_ok-load_to_full-in-Full-clause-reads g c =
-    fetches_none _ _ _ _ (loaded_full_fetches c.in-Full.full c.args.line (parts_of c.args.self.now) (pool_parts c.load_to_full.new.self) c.in_ok-load_to_full-in-Full.ensures.parts)
-    c.in_ok-load_to_full-in-Full.ensures.call.reads
-
-pub returns-in_ok-load_to_full-in-Full-clause-looked : goal.returns-in_ok-load_to_full-in-Full-clause-looked
-returns-in_ok-load_to_full-in-Full-clause-looked g c = λ quiet. looked_ok c.in_ok-load_to_full-in-Full.ensures.looked
-
-pub returns-else-not-has_line-clause-reads : goal.returns-else-not-has_line-clause-reads
-returns-else-not-has_line-clause-reads g c = fetches_none _ _ _ _ refl refl
-
-pub returns-else-not-has_line-clause-looked : goal.returns-else-not-has_line-clause-looked
-returns-else-not-has_line-clause-looked g c = λ quiet. looked_none _

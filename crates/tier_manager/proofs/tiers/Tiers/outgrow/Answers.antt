@@ -1,4 +1,4 @@
-use Rattle.std.proofs.Common.{◌<◌, sym, ap, ◌∙◌, subst, refl}
+use Rattle.std.proofs.Common.{◌<◌, sym, ap, ◌∙◌, subst}
 use Rattle.nvm_layout.specs.Sizes.{sizes_of}
 use Rattle.nvm_layout.specs.declared.geometry.Geometry.{Geometry}
 use Rattle.store_model.specs.Layout.{pages}
@@ -12,7 +12,6 @@ use Rattle.tier_pool.proofs.FullRoomLaws.{full_room_free}
 use Rattle.tier_pool.proofs.RoomLaws.{at_data}
 use Rattle.tier_manager.specs.Fields.{parts_of}
 use Rattle.tier_manager.proofs.ReadyLaws.{outgrows, room_is, room_steady, kept_homeless, kept_uncopied, promoted_ready, ReadyIn, there_in, works_there, opened_kept}
-use Rattle.tier_pool.proofs.FetchLaws.{fetches_before, fetches_behind, full_room_fetches}
 use Rattle.tier_manager.proofs.tiers.Tiers.outgrow.Given as given
 use Rattle.tier_manager.proofs.tiers.Tiers.outgrow.Goals.{After-move_access}
 use Rattle.tier_manager.proofs.tiers.Tiers.outgrow.Goals as goal
@@ -85,10 +84,3 @@ returns-clause-keeps g c = record {
       (subst (λ (x : Geometry). c.args.page < pages (sizes_of x)) (sym (c.move_access.ensures.same.geometry ∙ c.promote_to.ensures.same.geometry ∙ c.room_in_full.ensures.same.geometry)) c.requires.page)
       (returns-clause-lies g c);
 }
-
-pub returns-clause-reads : goal.returns-clause-reads
-returns-clause-reads g c =
-    fetches_behind _ _
-    (fetches_before _ _ _ _ _ _ (full_room_fetches (parts_of c.args.self.now) (pool_parts c.room_in_full.new.self) c.in_ok-full.full c.in_ok-full.ensures.room)
-    c.in_ok-full.ensures.call.reads c.in_ok-promote_to.ensures.reads)
-    (ap (λ (p : Parts). p.tally.fetches) c.move_access.ensures.parts) refl

@@ -10,12 +10,8 @@ use Rattle.tier_pool.specs.Fields.{parts_of as pool_parts}
 use Rattle.tier_pool.specs.Standing.{IsSteady}
 use Rattle.tier_pool.proofs.SteadyLaws.{full_low, mini_low, steady_promoted, steady_full_load}
 use Rattle.tier_pool.proofs.WritingLaws.{facts_promoted}
-use Rattle.tier_rules.specs.declared.tally.Tally.{Tally}
-use Rattle.tier_pool.specs.Touching.{lines_moved}
-use Rattle.tier_pool.proofs.FetchLaws.{dropped_tally}
 use Rattle.tier_manager.specs.Fields.{parts_of}
 use Rattle.tier_manager.proofs.ReadyLaws.{on_ok, promoted_place, promoted_line, has_frame, none_resident}
-use Rattle.tier_manager.proofs.ReadsLaws.{fetches_none, loaded_full_fetches}
 use Rattle.tier_manager.proofs.tiers.Tiers.promote_and_load.Goals as goal
 
 pub promote-requires-clause-mini : goal.promote-requires-clause-mini
@@ -55,13 +51,4 @@ returns-clause-keeps g c =
     on_ok c.load_to_full.result
     (λ loaded. steady_full_load c.args.full c.args.line c.args.page (pool_parts c.promote.new.self) (pool_parts c.load_to_full.new.self) loaded at
     (full_low c.args.page c.args.full (pool_parts c.promote.new.self) at after) after)
-    c.load_to_full.ensures.parts
-
-pub returns-clause-reads : goal.returns-clause-reads
-returns-clause-reads g c =
-    on_ok c.load_to_full.result
-    (λ loaded. fetches_none _ _ _ _
-    (loaded_full_fetches c.args.full c.args.line (pool_parts c.promote.new.self) (pool_parts c.load_to_full.new.self) loaded
-    ∙ ap (λ (p : Parts). p.tally.fetches) c.promote.ensures.parts ∙ ap (λ (t : Tally). t.fetches) (dropped_tally c.args.page (lines_moved c.args.mini c.args.full (parts_of c.args.self.now))))
-    c.load_to_full.ensures.call.reads)
     c.load_to_full.ensures.parts

@@ -1,4 +1,4 @@
-use Rattle.std.proofs.Common.{◌≡◌, rules, refl}
+use Rattle.std.proofs.Common.{◌≡◌, rules}
 use Rattle.device_calls.proofs.LeadsLaws.{leads_none, leads_given}
 use Rattle.tier_map.specs.declared.place.Place.TheVariants.{Absent, Full}
 use Rattle.tier_facts.specs.Facts.{IsHardened}
@@ -7,7 +7,6 @@ use Rattle.tier_pool.specs.Fields.{parts_of as pool_parts}
 use Rattle.tier_pool.proofs.SteadyLaws.{steady_fetched_into}
 use Rattle.tier_manager.specs.Fields.{parts_of, data_of}
 use Rattle.tier_manager.proofs.ReadyLaws.{on_ok}
-use Rattle.tier_manager.proofs.ReadsLaws.{fetches_none}
 use Rattle.tier_manager.proofs.tiers.Tiers.promote_to.Goals as goal
 
 pub returns-in-Full-clause-leads : goal.returns-in-Full-clause-leads
@@ -24,6 +23,3 @@ returns-in-Absent-clause-keeps g c =
     on_ok c.fetch_into.result
     (λ fetched. steady_fetched_into c.args.page c.args.full (parts_of c.args.self.now) (pool_parts c.fetch_into.new.self) fetched absent c.requires.free c.requires.full c.requires.steady)
     c.fetch_into.ensures.parts
-
-pub returns-in-Full-clause-reads : goal.returns-in-Full-clause-reads
-returns-in-Full-clause-reads g c = fetches_none _ _ _ _ refl refl

@@ -1,13 +1,10 @@
-use Rattle.std.proofs.Common.{sym, ap, ◌∙◌, refl}
+use Rattle.std.proofs.Common.{sym, ap, ◌∙◌}
 use Rattle.nvm_layout.specs.Sizes.{sizes_of}
 use Rattle.tier_map.specs.Placement.{Placement}
 use Rattle.tier_pool.specs.Fields.{parts_of}
 use Rattle.tier_pool.specs.FullRoom.{PartsAnswer}
 use Rattle.tier_pool.proofs.RoomLaws.{at_data, leads_at}
 use Rattle.tier_pool.proofs.SteadyLaws.{steady_drawn}
-use Rattle.tier_pool.proofs.FetchLaws.{fetches_before}
-use Rattle.tier_manager.specs.Fields.{CountsFetches}
-use Rattle.tier_manager.proofs.BegunLaws.{on_ok}
 use Rattle.tier_manager.proofs.tiers.Tiers.read_in.Goals as goal
 
 pub bring_through_if-requires-clause-steady : goal.bring_through_if-requires-clause-steady
@@ -23,10 +20,3 @@ bring_through_if-requires-clause-homeless g c = ap (λ (m : Placement). m.nvm c.
 pub returns-clause-leads : goal.returns-clause-leads
 returns-clause-leads g c =
     leads_at (at_data (ap sizes_of c.decides-brings.ensures.same.geometry) (sym (ap (λ (a : PartsAnswer). a.parts) c.decides-brings.ensures.answer))) c.bring_through_if.ensures.leads
-
-pub returns-clause-reads : goal.returns-clause-reads
-returns-clause-reads g c =
-    on_ok c.bring_through_if.result
-    (λ (it : CountsFetches (record { pool = c.decides-brings.new.self; trace = c.args.self.now.trace }) c.bring_through_if.new.self (g.D.Devices.standing c.args.dev.now) (g.D.Devices.standing c.bring_through_if.new.dev)).
-    fetches_before _ _ _ _ _ _ (sym (ap (λ (a : PartsAnswer). a.parts.tally.fetches) c.decides-brings.ensures.answer)) refl it)
-    c.bring_through_if.ensures.reads

@@ -1,6 +1,6 @@
-use Rattle.std.proofs.Common.{◌≡◌, ℕ, ◌<◌, sym, ◌∙◌, subst, rules, false, refl}
+use Rattle.std.proofs.Common.{◌≡◌, ℕ, ◌<◌, sym, ◌∙◌, subst, rules, false}
 use Rattle.nvm_layout.specs.Sizes.{sizes_of}
-use Rattle.device_calls.proofs.LeadsLaws.{leads_none, leads_given, leads_ok, leads_exit, looked_none, looked_ok, looked_exit}
+use Rattle.device_calls.proofs.LeadsLaws.{leads_none, leads_given, leads_ok, leads_exit}
 use Rattle.tier_map.specs.declared.place.Place.{Place}
 use Rattle.tier_map.specs.declared.place.Place.TheVariants.{Mini}
 use Rattle.page_frame.specs.LineSets.{has_line}
@@ -14,7 +14,6 @@ use Rattle.tier_pool.proofs.RangeLaws.{place_in}
 use Rattle.tier_pool.proofs.SteadyLaws.{mini_low, steady_mini_load}
 use Rattle.tier_manager.specs.Fields.{parts_of, data_of}
 use Rattle.tier_manager.proofs.ReadyLaws.{has_frame, lies_there, mini_loaded_there, mini_load_map, there_in, steady_with}
-use Rattle.tier_manager.proofs.ReadsLaws.{fetches_none, loaded_mini_fetches}
 use Rattle.tier_manager.proofs.tiers.Tiers.ready_mini.Goals as goal
 
 pub resident_lines-lines-requires : goal.resident_lines-lines-requires
@@ -82,19 +81,3 @@ returns-clause-keeps g c =
     steady_with c.args.self.now (record { pool = c.load_to_mini.new.self; trace = c.args.self.now.trace }) c.requires.steady
     (steady_mini_load c.args.mini c.args.line c.args.page parts new loaded here c.requires.steady.fields)
     (mini_load_map c.args.mini c.args.line parts new loaded) c.load_to_mini.ensures.same.access c.load_to_mini.ensures.same.geometry
-
-pub returns-then-has_line-clause-reads : goal.returns-then-has_line-clause-reads
-returns-then-has_line-clause-reads g c = fetches_none _ _ _ _ refl refl
-
-pub returns-then-has_line-clause-looked : goal.returns-then-has_line-clause-looked
-returns-then-has_line-clause-looked g c = λ quiet. looked_none _
-
-pub returns-in_err-load_to_mini-clause-looked : goal.returns-in_err-load_to_mini-clause-looked
-returns-in_err-load_to_mini-clause-looked g c = λ quiet. looked_exit c.from_residual.result c.from_residual.ensures.1 c.in_err-load_to_mini.ensures.looked
-
-pub returns-clause-reads : goal.returns-clause-reads
-returns-clause-reads g c =
-    fetches_none _ _ _ _ (loaded_mini_fetches c.args.mini c.args.line (parts_of c.args.self.now) (pool_parts c.load_to_mini.new.self) c.in_ok-load_to_mini.ensures.parts) c.load_to_mini.ensures.call.reads
-
-pub returns-clause-looked : goal.returns-clause-looked
-returns-clause-looked g c = λ quiet. looked_ok c.in_ok-load_to_mini.ensures.looked

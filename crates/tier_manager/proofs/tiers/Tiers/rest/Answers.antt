@@ -1,12 +1,7 @@
-use Rattle.std.proofs.Common.{refl}
 use Rattle.std.specs.Prelude.{None}
 use Rattle.tier_pool.proofs.SteadyLaws.{steady_access}
 use Rattle.tier_manager.specs.Fields.{parts_of}
-use Rattle.tier_manager.proofs.RuleLaws.{rested_rule}
 use Rattle.tier_manager.proofs.tiers.Tiers.rest.Goals as goal
 
 pub returns-clause-keeps : goal.returns-clause-keeps
 returns-clause-keeps c = λ steady. record { fields = steady_access (parts_of c.args.self.now) steady.fields None; access = tt }
-
-pub returns-clause-rule : goal.returns-clause-rule
-returns-clause-rule c = rested_rule c.args.self.now _ refl

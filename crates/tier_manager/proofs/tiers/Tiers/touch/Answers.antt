@@ -1,18 +1,14 @@
-use Rattle.std.proofs.Common.{ap, ◌∙◌, subst, refl}
+use Rattle.std.proofs.Common.{ap, ◌∙◌, subst}
 use Rattle.nvm_layout.specs.Sizes.{sizes_of}
-use Rattle.device_calls.proofs.LeadsLaws.{leads_then, leads_data, looked_then}
+use Rattle.device_calls.proofs.LeadsLaws.{leads_then, leads_data}
 use Rattle.tier_facts.specs.Facts.{Facts}
 use Rattle.tier_rules.specs.Parts.{Parts}
 use Rattle.tier_pool.proofs.RoomLaws.{at_data, leads_to}
-use Rattle.tier_manager.specs.Fields.{parts_of, CountsFetches}
+use Rattle.tier_manager.specs.Fields.{parts_of}
 use Rattle.tier_manager.specs.Quiet.{quiet_in}
-use Rattle.tier_manager.specs.Telling.{touch_of, touch_told}
 use Rattle.tier_manager.specs.Touching.{Readied}
 use Rattle.tier_manager.proofs.EnterLaws.{opened_quiet, quiet_copied}
 use Rattle.tier_manager.proofs.BegunLaws.{on_ok}
-use Rattle.tier_manager.proofs.TellingLaws.{tells_touch}
-use Rattle.tier_pool.proofs.FetchLaws.{fetches_behind}
-use Rattle.tier_manager.proofs.ReadsLaws.{fetches_then, parts_fetches}
 use Rattle.tier_manager.proofs.tiers.Tiers.touch.Goals as goal
 
 pub returns-clause-leads : goal.returns-clause-leads
@@ -40,22 +36,3 @@ returns-clause-touched g c =
       readied = subst (λ (p : Parts). Readied c.args.page c.args.line p (parts_of c.make_ready.new.self)) c.tell_touch.ensures.parts readied;
     })
     c.make_ready.ensures.readied
-
-pub returns-clause-told : goal.returns-clause-told
-returns-clause-told g c =
-    let touch = touch_of c.args.page c.args.line c.args.writes in
-    tells_touch c.make_ready.result touch c.args.self.now c.make_ready.new.self
-    (c.make_ready.ensures.told ∙ c.tell_touch.ensures.told ∙ ap (touch_told touch) c.in_ok-spot.ensures.telling)
-
-pub returns-clause-reads : goal.returns-clause-reads
-returns-clause-reads g c =
-    let opened = fetches_behind (parts_of c.tell_touch.new.self) _ c.in_ok-spot.ensures.reads (parts_fetches c.tell_touch.ensures.parts) refl in
-    on_ok c.make_ready.result
-    (λ (it : CountsFetches c.tell_touch.new.self c.make_ready.new.self (g.D.Devices.standing c.open_access.new.dev) (g.D.Devices.standing c.make_ready.new.dev)). fetches_then opened it)
-    c.make_ready.ensures.reads
-
-pub returns-clause-looked : goal.returns-clause-looked
-returns-clause-looked g c = λ quiet.
-    looked_then (c.in_ok-spot.ensures.looked (quiet_copied c.args.page c.args.line (parts_of c.args.self.now) quiet))
-    (c.make_ready.ensures.looked (ap (λ (p : Parts). quiet_in p c.args.page c.args.line) c.tell_touch.ensures.parts
-    ∙ opened_quiet c.args.page c.args.line c.args.writes (parts_of c.args.self.now) (parts_of c.open_access.new.self) c.in_ok-spot.ensures.opened quiet))

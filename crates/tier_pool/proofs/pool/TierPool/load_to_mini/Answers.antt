@@ -1,5 +1,5 @@
 use Rattle.std.proofs.Common.{ℕ, ◌<◌, refl, sym, subst, rules}
-use Rattle.device_calls.proofs.LeadsLaws.{leads_data, looked_ok}
+use Rattle.device_calls.proofs.LeadsLaws.{leads_data}
 use Rattle.devices.specs.World.{now}
 use Rattle.nvm_layout.specs.Sizes.{sizes_of}
 use Rattle.tier_facts.specs.Facts.{Facts}
@@ -24,6 +24,3 @@ returns-clause-leads g c = λ page lies here there.
     (λ k found read. loaded_mini sizes parts page c.args.mini c.args.line c.in_ok-value.value c.args.self.now.map.agrees here
     (subst (λ (n : ℕ). c.args.mini < n) (sym c.args.self.now.minis_fit) c.requires.mini) (mini_long c.args.self.now c.args.mini c.requires.mini) c.requires.line k (now (g.D.Devices.standing c.args.dev.now)) there found read)
     c.in_ok-value.ensures.looked c.in_ok-value.ensures.value)
-
-pub returns-clause-looked : goal.returns-clause-looked
-returns-clause-looked g c = looked_ok c.in_ok-value.ensures.looked

@@ -16,4 +16,4 @@ pub returns-clause-leads : goal.returns-clause-leads
 returns-clause-leads g c = λ page lies.
     leads_data (FactsWith page c.args.line c.args.value.now) (at_data (ap sizes_of c.mark_frame.ensures.same.geometry) c.mark_frame.ensures.parts)
     (placed_line (parts_of c.args.self.now) page c.args.frame c.args.line c.args.value.now (ap sizes_of c.mark_frame.ensures.same.geometry) lies
-    (subst (λ (n : ℕ). c.args.frame < n) (sym c.args.self.now.frame_marks_fit) c.requires.frame) c.requires.line c.in_ok-store_line.ensures.made c.fence.ensures.made)
+    (subst (λ (n : ℕ). c.args.frame < n) (sym c.args.self.now.frame_marks_fit) c.requires.frame) c.requires.line c.in_ok-store_line.ensures.made c.fence.ensures)

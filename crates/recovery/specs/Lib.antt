@@ -1,9 +1,0 @@
-pub mod Calls
-pub mod Empty
-pub mod Causes
-pub mod Errors
-pub mod Lines
-pub mod Reading
-pub mod Entries
-pub mod Heads
-pub mod Replaying

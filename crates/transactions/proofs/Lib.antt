@@ -1,9 +1,0 @@
-pub mod BookLaws
-pub mod AbortLaws
-pub mod PagesLaws
-pub mod FieldSteps
-pub mod StoreLaws
-pub mod CallLaws
-pub mod RestLaws
-pub mod OpenStoreLaws
-pub mod NewLaws
